@@ -1,0 +1,252 @@
+-- The nodes of a reading.
+use Prim.Native.Nat.{ℕ, zero, suc, _+_, _-_, _≤_, _<_, min}
+use native.Mathlib.Nat.{not-suc-le-zero}
+use native.Mathlib.Omega.{arith}
+use mathlib.Core.Path.{_≡_, refl, sym, ap, ap₂, _∙_, subst}
+use mathlib.Core.Logic.{_⊎_, inl, inr}
+use mathlib.Core.Bool.{Bool, true, false, _&&_, _||_, not}
+use mathlib.Core.List.{List, [], _∷_, _++_, map, append-nil}
+use lib.ListN.{drop, length, length-drop, drop-of-length-le}
+use lib.Dec.{eqb, ltb}
+use borrow.Author.Tests.{eqb-true, eqb-false, ltb-true, ltb-false, ne-eqb, lt-ltb}
+use Rattle.syntax.specs.Marks.{Mark, plain, placed, kindOf, moveUp, node, textNode}
+use Rattle.syntax.specs.declared.errors.ParserError.{ParserError}
+use Rattle.syntax.specs.Reader.{Out, ok, bad, deep, repeat}
+use Rattle.syntax.specs.Helper.{skipBlankBlock}
+use Rattle.syntax.specs.Comment.{levelOf, getComment, commentTurn}
+use Rattle.syntax.specs.Pattern.{Inside, usedBy}
+use Rattle.syntax.specs.Core.{Entry, comment, message, term, getEntry, junkEnd, Error, upError, Reading, read, refused, following, isNamed, kindOfEntry, entries}
+use Rattle.syntax.specs.Serializer.{Node, nodes, nodesFrom}
+use Rattle.laws.specs.Words.{Whole, whole-drop, Fresh, byCase, clash}
+use Rattle.laws.specs.Law.{Holds, sure-ok}
+use Rattle.laws.specs.LawHelper.{block-sure}
+use Rattle.laws.specs.LawPattern.{InsideLaw}
+use Rattle.laws.specs.LawJoin.{Levelled, levelled, levels}
+use Rattle.laws.specs.LawEntries.{following-read, entries-with, not-deep, Step, step-of, entry-comment, nil-named}
+use Rattle.laws.specs.LawCut.{asComment-ok, named-entry, and-false, gap-within, Way, kept, ended, way}
+use Rattle.laws.specs.LawMarks.{Levels, Good, good-nil, good-more, good-append, good-node, Marked}
+use Rattle.laws.specs.LawMarked.{InsideMarked, entry-marked}
+use Rattle.laws.specs.LawNodes.{nodeOf, nodes-node, nodes-text, upNode, nodes-up}
+use Rattle.laws.specs.LawText.{Ends, Opening, opensNodes, isFree}
+use Rattle.laws.specs.Cut.{opensFree}
+
+-- the level of a comment is one to three
+abbrev Small : Entry → Type 0
+Small (comment l) = (0 < l) × (l ≤ 3)
+Small message = Unit {0}
+Small term = Unit {0}
+
+kind-le : (e : Entry) (v : Bool) → Small e → kindOfEntry e v ≤ 6
+unfolding kindOfEntry
+kind-le message v s = omega arith
+kind-le term v s = omega arith
+kind-le (comment l) v s = byCase (eqb l 1 && v) (λ q. rw (q, kindOfEntry) (omega arith)) (λ q. rw (q, kindOfEntry) (omega (arith, s .1)))
+
+kind-low : (e : Entry) (v : Bool) → Small e → v ≡ false → kindOfEntry e v ≤ 5
+unfolding kindOfEntry
+kind-low message v s q = omega arith
+kind-low term v s q = omega arith
+kind-low (comment l) v s q = rw (q, kindOfEntry) (rw (and-false (eqb l 1)) (omega (arith, s .1)))
+
+not-six : (k : ℕ) → k ≤ 5 → eqb k 6 ≡ false
+not-six k h = ne-eqb k 6 (λ e. omega arith)
+
+module _ (sub : Inside) where
+  small-of : (b : ℕ) (bs : List ℕ) (e : Entry) (ms : List Mark) (k : ℕ) → getEntry sub (b ∷ bs) ≡ ok e ms k → Small e
+  small-of b bs e ms k h = byCase (eqb b 35) (λ q. commented q (asComment-ok (getComment (b ∷ bs)) e ms k (sym (entry-comment sub b bs q) ∙ h))) (λ q. named (named-entry sub b bs e ms k q h))
+    where
+      named : (e ≡ message) ⊎ (e ≡ term) → Small e
+      named (inl z) = subst Small (sym z) tt
+      named (inr z) = subst Small (sym z) tt
+
+      level : (l : ℕ) → getComment (b ∷ bs) ≡ ok l ms k → eqb b 35 ≡ true → l ≡ levelOf (b ∷ bs)
+      level l o q = unfold getComment repeat in (subst (Holds (Levelled 0 (b ∷ bs))) o (levelled (suc (length (b ∷ bs))) 0 (b ∷ bs)) .1 refl (levels b bs q))
+
+      three : levelOf (b ∷ bs) ≤ 3
+      three = unfold levelOf in (omega arith)
+
+      commented : eqb b 35 ≡ true → (l : ℕ) × (e ≡ comment l) × (getComment (b ∷ bs) ≡ ok l ms k) → Small e
+      commented q (l, z, o) = subst Small (sym z) (omega (arith, level l o q, levels b bs q), omega (arith, level l o q, three))
+
+  module _ (law : InsideLaw sub) (mk : InsideMarked sub) where
+    step-le : (n b : ℕ) (bs : List ℕ) (ma : List Mark) (t : Step sub n (b ∷ bs) ma) → Whole (b ∷ bs) → t .k + t .u ≤ suc (length bs)
+    step-le n b bs ma t w = go (way sub law [] tt n b bs ma t w)
+      where
+        rest : t .k ≤ suc (length bs) → t .k + t .u ≤ suc (length bs)
+        rest le = omega (arith, length-drop (t .k) (b ∷ bs), gap-within sub law [] tt (drop (t .k) (b ∷ bs)) [] (whole-drop (t .k) (b ∷ bs) w) tt (t .c) (t .gs) (t .u) (ap skipBlankBlock (append-nil (drop (t .k) (b ∷ bs))) ∙ t .gap))
+
+        go : Way sub law [] tt n (b ∷ bs) ma t → t .k + t .u ≤ suc (length bs)
+        go (kept e le ls z) = rest le
+        go (ended l el ek h v g) = rest (omega arith)
+
+    entry-good : (n : ℕ) (s : List ℕ) (ma : List Mark) (t : Step sub n s ma) → Good (t .k) (t .ms)
+    entry-good n s ma t = subst Marked (t .entry) (entry-marked sub mk s)
+
+    abbrev near : (n : ℕ) (s : List ℕ) (ma : List Mark) (t : Step sub n s ma) → Bool
+    near n s ma t = ltb (t .c) 2 && isNamed (getEntry sub (drop (t .k + t .u) s))
+
+    pub none-read : (n : ℕ) (ma : List Mark) (es : List Error) → entries n sub [] ≡ read ma es → ma ≡ []
+    unfolding entries
+    none-read zero ma es e = let z : _≡_ {A = ℕ} 0 1 = cc in absurd (omega arith)
+    none-read (suc n) ma es e = cc
+
+    pub entries-good : (n : ℕ) (s : List ℕ) (ma : List Mark) → Whole s → entries n sub s ≡ read ma [] → Good (length s) ma
+    unfolding entries
+    entries-good zero s ma w e = let z : _≡_ {A = ℕ} 0 1 = cc in absurd (omega arith)
+    entries-good (suc n) [] ma w e = subst (Good 0) (sym (none-read (suc n) ma [] e)) (good-nil 0)
+    entries-good (suc n) (b ∷ bs) ma w e =
+        let t = step-of sub n b bs ma e in
+        by (step-of sub n b bs ma e) (entries-good n (drop (t .k + t .u) (b ∷ bs)) (t .mr) (whole-drop (t .k + t .u) (b ∷ bs) w) (t .rest))
+      where
+        by : (t : Step sub n (b ∷ bs) ma) → Good (length (drop (t .k + t .u) (b ∷ bs))) (t .mr) → Good (suc (length bs)) ma
+        by t g =
+            let le = step-le n b bs ma t w in
+            let z : t .k + t .u + length (drop (t .k + t .u) (b ∷ bs)) ≡ suc (length bs) = omega (arith, length-drop (t .k + t .u) (b ∷ bs)) in
+            subst (Good (suc (length bs))) (t .marks) (subst (λ i. Good i (node (kindOfEntry (t .e) (near n (b ∷ bs) ma t)) (t .ms) ++ moveUp (t .k + t .u) (t .mr))) z
+            (good-append (t .k + t .u) (length (drop (t .k + t .u) (b ∷ bs))) (node (kindOfEntry (t .e) (near n (b ∷ bs) ma t)) (t .ms)) (t .mr)
+            (good-node (t .k + t .u) (kindOfEntry (t .e) (near n (b ∷ bs) ma t)) (t .ms) (lt-ltb (kindOfEntry (t .e) (near n (b ∷ bs) ma t)) 100 (omega (arith, kind-le (t .e) (near n (b ∷ bs) ma t) (small-of b bs (t .e) (t .ms) (t .k) (t .entry)))))
+            (good-more (t .k) (t .k + t .u) (omega arith) (t .ms) (entry-good n (b ∷ bs) ma t))) g))
+
+    -- nodes moved up keep their kinds
+    module _ (S : List ℕ) where
+      pub ends-up : (j : ℕ) (ns : List Node) → Ends S ns → Ends S (map (upNode j) ns)
+      ends-up j [] h = tt
+      ends-up j (n ∷ []) h = h
+      ends-up j (n ∷ m ∷ ns) h = (h .0, ends-up j (m ∷ ns) (h .1))
+
+      ends-cons : (n : Node) (ns : List Node) → eqb (n .kind) 7 ≡ false → (ns ≡ [] → eqb (n .kind) 6 ≡ false) → Ends S ns → Ends S (n ∷ ns)
+      ends-cons n [] p q h = (p, q refl)
+      ends-cons n (m ∷ ns) p q h = (p, h)
+
+      abbrev pub Some : List Node → Type 0
+      Some ns = (n : Node) × (ms : List Node) × (ns ≡ n ∷ ms)
+
+      some-up : (j : ℕ) (ns : List Node) → Some ns → map (upNode j) ns ≡ [] → ⊥
+      some-up j ns (n, ms, e) h = let z : upNode j n ∷ map (upNode j) ms ≡ [] = sym (ap (map (upNode j)) e) ∙ h in let i : _≡_ {A = ℕ} 0 1 = cc in omega arith
+
+      nodes-of : (K : ℕ) (ms mr : List Mark) (j : ℕ) → K ≤ 6 → Levels 0 ms → nodes (node K ms ++ moveUp j mr) ≡ nodeOf K ms ∷ map (upNode j) (nodes mr)
+      nodes-of K ms mr j h l = nodes-node K ms (moveUp j mr) (lt-ltb K 100 (omega arith)) l ∙ ap (λ r. nodeOf K ms ∷ r) (nodes-up j mr)
+
+      pub entries-ends : (n : ℕ) (s : List ℕ) (ma : List Mark) → Whole s → entries n sub s ≡ read ma [] → Ends S (nodes ma) × (0 < length s → Some (nodes ma))
+      unfolding entries nodes nodesFrom
+      entries-ends zero s ma w e = let z : _≡_ {A = ℕ} 0 1 = cc in absurd (omega arith)
+      entries-ends (suc n) [] ma w e = (subst (λ z. Ends S (nodes z)) (sym (none-read (suc n) ma [] e)) tt, λ h. absurd (not-suc-le-zero h))
+      entries-ends (suc n) (b ∷ bs) ma w e =
+          let t = step-of sub n b bs ma e in
+          by (step-of sub n b bs ma e) (entries-ends n (drop (t .k + t .u) (b ∷ bs)) (t .mr) (whole-drop (t .k + t .u) (b ∷ bs) w) (t .rest))
+        where
+          by : (t : Step sub n (b ∷ bs) ma) → Ends S (nodes (t .mr)) × (0 < length (drop (t .k + t .u) (b ∷ bs)) → Some (nodes (t .mr))) → Ends S (nodes ma) × (0 < suc (length bs) → Some (nodes ma))
+          by t ih = (subst (Ends S) (sym listed) (ends-cons (nodeOf K (t .ms)) (map (upNode j) (nodes (t .mr))) (ne-eqb K 7 (λ z. omega (arith, le))) last (ends-up j (nodes (t .mr)) (ih .0))), λ h. (nodeOf K (t .ms), map (upNode j) (nodes (t .mr)), listed))
+            where
+              j : ℕ
+              j = t .k + t .u
+
+              K : ℕ
+              K = kindOfEntry (t .e) (near n (b ∷ bs) ma t)
+
+              le : K ≤ 6
+              le = kind-le (t .e) (near n (b ∷ bs) ma t) (small-of b bs (t .e) (t .ms) (t .k) (t .entry))
+
+              listed : nodes ma ≡ nodeOf K (t .ms) ∷ map (upNode j) (nodes (t .mr))
+              listed = ap nodes (sym (t .marks)) ∙ nodes-of K (t .ms) (t .mr) j le (entry-good n (b ∷ bs) ma t .0)
+
+              last : map (upNode j) (nodes (t .mr)) ≡ [] → eqb K 6 ≡ false
+              last h = byCase (ltb 0 (length (drop (t .k + t .u) (b ∷ bs))))
+                  (λ q. absurd (some-up j (nodes (t .mr)) (ih .1 (ltb-true 0 (length (drop (t .k + t .u) (b ∷ bs))) q)) h))
+                  (λ q. not-six K (kind-low (t .e) (near n (b ∷ bs) ma t) (small-of b bs (t .e) (t .ms) (t .k) (t .entry))
+                  (ap (λ r. ltb (t .c) 2 && isNamed (getEntry sub r)) (empty-of (drop (t .k + t .u) (b ∷ bs)) (ltb-false 0 (length (drop (t .k + t .u) (b ∷ bs))) q)) ∙ ap (λ v. ltb (t .c) 2 && v) (nil-named sub) ∙ and-false (ltb (t .c) 2))))
+                where
+                  empty-of : (r : List ℕ) → length r ≤ 0 → r ≡ []
+                  empty-of [] h = refl
+                  empty-of (c ∷ cs) h = absurd (not-suc-le-zero h)
+
+      -- the first node of any reading
+      follow : (ms : List Mark) (xs : List Error) (k : ℕ) (r : Reading) (ns : List Mark) (es : List Error) → following ms xs k r ≡ read ns es → (ns′ : List Mark) × (es′ : List Error) × (r ≡ read ns′ es′) × (ms ++ moveUp k ns′ ≡ ns)
+      unfolding following
+      follow ms xs k (read ns′ es′) ns es e = (ns′, es′, refl, cc)
+      follow ms xs k (refused j) ns es e = let z : _≡_ {A = ℕ} 0 1 = cc in absurd (omega arith)
+
+      entries-bad : (n c : ℕ) (cs : List ℕ) (mb : List Mark) (eb : List Error) (f : ParserError) (k : ℕ) → entries (suc n) sub (c ∷ cs) ≡ read mb eb → getEntry sub (c ∷ cs) ≡ bad f k → (j i : ℕ) × (mr : List Mark) × (textNode 7 0 j ++ moveUp i mr ≡ mb)
+      unfolding entries
+      entries-bad n c cs mb eb f k e p =
+          let j = junkEnd k (c ∷ cs) in
+          let i = j + usedBy (skipBlankBlock (drop j (c ∷ cs))) in
+          let (mr, er, r, m) = follow (textNode 7 0 j) (record { fault = f; junkFrom = 0; junkTill = j } ∷ []) i (entries n sub (drop i (c ∷ cs))) mb eb (rw (p, entries) at e) in
+          (j, i, mr, m)
+
+      entries-ok : (n c : ℕ) (cs : List ℕ) (mb : List Mark) (eb : List Error) (e : Entry) (ms : List Mark) (k : ℕ) → entries (suc n) sub (c ∷ cs) ≡ read mb eb → getEntry sub (c ∷ cs) ≡ ok e ms k
+          → (g j : ℕ) × (r : List ℕ) × (mr : List Mark) × (er : List Error) × (entries n sub r ≡ read mr er) × (node (kindOfEntry e (ltb g 2 && isNamed (getEntry sub r))) ms ++ moveUp j mr ≡ mb)
+      entries-ok n c cs mb eb e ms k h p =
+          let (g, gs, u, gap) = sure-ok (skipBlankBlock (drop k (c ∷ cs))) (block-sure (drop k (c ∷ cs))) in
+          let (mr, er, r, m) = follow (node (kindOfEntry e (ltb g 2 && isNamed (getEntry sub (drop (k + u) (c ∷ cs))))) ms) [] (k + u) (entries n sub (drop (k + u) (c ∷ cs))) mb eb
+          (sym (entries-with sub n c cs e ms k g u gs (drop (k + u) (c ∷ cs)) p gap refl) ∙ h) in
+          (g, k + u, drop (k + u) (c ∷ cs), mr, er, r, m)
+
+      abbrev Named : List Node → Type 0
+      Named ns = (n : Node) × (ms : List Node) × (ns ≡ n ∷ ms) × (isFree S (n .kind) ≡ false) × (eqb (n .kind) 6 ≡ false)
+
+      named-first : (n : ℕ) (r : List ℕ) (mr : List Mark) (er : List Error) → entries n sub r ≡ read mr er → isNamed (getEntry sub r) ≡ true → Named (nodes mr)
+      unfolding entries
+      named-first zero r mr er e h = let z : _≡_ {A = ℕ} 0 1 = cc in absurd (omega arith)
+      named-first (suc n) [] mr er e h = clash h (nil-named sub)
+      named-first (suc n) (c ∷ cs) mr er e h = go (getEntry sub (c ∷ cs)) refl (ap isNamed refl ∙ h)
+        where
+          by : (d : Entry) (ms : List Mark) (k : ℕ) → getEntry sub (c ∷ cs) ≡ ok d ms k → (kd : ℕ) → ((v : Bool) → kindOfEntry d v ≡ kd) → kd ≤ 6 → isFree S kd ≡ false → eqb kd 6 ≡ false → Named (nodes mr)
+          by d ms k p kd f le a b =
+              let (g, j, r, ns, es, rd, m) = entries-ok n c cs mr er d ms k e p in
+              (nodeOf kd ms, map (upNode j) (nodes ns), ap nodes (sym m) ∙ ap (λ i. nodes (node i ms ++ moveUp j ns)) (f (ltb g 2 && isNamed (getEntry sub r))) ∙ nodes-of kd ms ns j le (subst Marked p (entry-marked sub mk (c ∷ cs)) .0), a, b)
+
+          go : (o : Out Entry) → getEntry sub (c ∷ cs) ≡ o → isNamed (getEntry sub (c ∷ cs)) ≡ true → Named (nodes mr)
+          go (ok message ms k) p q = by message ms k p 1 (λ v. unfold kindOfEntry in refl) (omega arith) refl refl
+          go (ok term ms k) p q = by term ms k p 2 (λ v. unfold kindOfEntry in refl) (omega arith) refl refl
+          go (ok (comment l) ms k) p q = clash q (ap isNamed p ∙ (unfold isNamed in refl))
+          go (bad f k) p q = clash q (ap isNamed p ∙ (unfold isNamed in refl))
+          go (deep k) p q = clash q (ap isNamed p ∙ (unfold isNamed in refl))
+
+      opening-cons : (n : Node) (ns : List Node) → (eqb (n .kind) 6 ≡ true → Named ns) → Opening S (n ∷ ns)
+      opening-cons n [] h = byCase (eqb (n .kind) 6) (λ q. absurd (none (h q))) (λ q. q)
+        where
+          none : Named [] → ⊥
+          none t = let e = t .2 in let z : _≡_ {A = ℕ} 0 1 = cc in omega arith
+      opening-cons n (m ∷ ns) h = λ q. same (h q)
+        where
+          same : Named (m ∷ ns) → (isFree S (m .kind) ≡ false) × (eqb (m .kind) 6 ≡ false)
+          same t = let e = t .2 in let z : t .0 ≡ m = cc in (subst (λ x. isFree S (x .kind) ≡ false) z (t .3), subst (λ x. eqb (x .kind) 6 ≡ false) z (t .4))
+
+      named-up : (j : ℕ) (ns : List Node) → Named ns → Named (map (upNode j) ns)
+      named-up j ns (n, ms, e, a, b) = (upNode j n, map (upNode j) ms, ap (map (upNode j)) e, a, b)
+
+      pub entries-opening : (n : ℕ) (y : List ℕ) (mb : List Mark) (eb : List Error) → entries n sub y ≡ read mb eb → Opening S (nodes mb) × (opensNodes S (nodes mb) ≡ opensFree mb)
+      unfolding entries nodes nodesFrom opensFree node textNode
+      entries-opening zero y mb eb e = let z : _≡_ {A = ℕ} 0 1 = cc in absurd (omega arith)
+      entries-opening (suc n) [] mb eb e = let z = none-read (suc n) mb eb e in (subst (λ r. Opening S (nodes r)) (sym z) tt, subst (λ r. opensNodes S (nodes r) ≡ opensFree r) (sym z) refl)
+      entries-opening (suc n) (c ∷ cs) mb eb e = go (getEntry sub (c ∷ cs)) refl
+        where
+          go : (o : Out Entry) → getEntry sub (c ∷ cs) ≡ o → Opening S (nodes mb) × (opensNodes S (nodes mb) ≡ opensFree mb)
+          go (ok d ms k) p = by (entries-ok n c cs mb eb d ms k e p)
+            where
+              by : (g j : ℕ) × (r : List ℕ) × (mr : List Mark) × (er : List Error) × (entries n sub r ≡ read mr er) × (node (kindOfEntry d (ltb g 2 && isNamed (getEntry sub r))) ms ++ moveUp j mr ≡ mb) → Opening S (nodes mb) × (opensNodes S (nodes mb) ≡ opensFree mb)
+              by (g, j, r, mr, er, rd, m) = (
+                subst (Opening S) (sym listed) (opening-cons (nodeOf K ms) (map (upNode j) (nodes mr)) (λ q. named-up j (nodes mr) (named-first n r mr er rd (and-right (ltb g 2) (isNamed (getEntry sub r)) (near-true q))))),
+                ap (opensNodes S) listed ∙ ap opensFree m,
+              )
+                where
+                  K : ℕ
+                  K = kindOfEntry d (ltb g 2 && isNamed (getEntry sub r))
+
+                  listed : nodes mb ≡ nodeOf K ms ∷ map (upNode j) (nodes mr)
+                  listed = ap nodes (sym m) ∙ nodes-of K ms mr j (kind-le d (ltb g 2 && isNamed (getEntry sub r)) (small-of c cs d ms k p)) (subst Marked p (entry-marked sub mk (c ∷ cs)) .0)
+
+                  near-true : eqb K 6 ≡ true → (ltb g 2 && isNamed (getEntry sub r)) ≡ true
+                  near-true q = byCase (ltb g 2 && isNamed (getEntry sub r)) (λ z. z) (λ z. clash q (not-six K (kind-low d (ltb g 2 && isNamed (getEntry sub r)) (small-of c cs d ms k p) z)))
+
+                  and-right : (a b : Bool) → (a && b) ≡ true → b ≡ true
+                  and-right true b h = h
+                  and-right false b h = clash h refl
+          go (bad f k) p = by (entries-bad n c cs mb eb f k e p)
+            where
+              by : (j i : ℕ) × (mr : List Mark) × (textNode 7 0 j ++ moveUp i mr ≡ mb) → Opening S (nodes mb) × (opensNodes S (nodes mb) ≡ opensFree mb)
+              by (j, i, mr, m) =
+                  let listed = ap nodes (sym m) ∙ nodes-text 7 0 j (moveUp i mr) refl in
+                  (subst (Opening S) (sym listed) (opening-cons (record { kind = 7; opening = placed 7 0; closing = placed (100 + 7) j; inner = [] }) (nodes (moveUp i mr)) (λ q. clash q refl)), ap (opensNodes S) listed ∙ ap opensFree m)
+          go (deep k) p = absurd (not-deep sub n c cs mb eb k e p)
