@@ -1,26 +1,8 @@
--- laws
-pub mod Words
-pub mod Law
-pub mod LawHelper
-pub mod LawPattern
-pub mod LawString
-pub mod LawInline
-pub mod LawArgument
-pub mod LawExpression
-pub mod LawEntry
-pub mod LawMove
-pub mod LawComment
-pub mod LawJoin
-pub mod LawLands
-pub mod Cut
-pub mod LawEntries
-pub mod LawCut
-pub mod CutTree
-pub mod LawMarks
-pub mod LawMarked
-pub mod LawNodes
-pub mod LawSource
-pub mod LawText
-pub mod LawListing
-pub mod CutText
+-- Laws of the definitions.
+pub mod Bytes
+pub mod Moving
+pub mod Stable
+pub mod Entries
 pub mod Progress
+pub mod Balanced
+pub mod Lines

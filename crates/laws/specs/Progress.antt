@@ -18,9 +18,9 @@ use Rattle.syntax.specs.Comment.{levelOf, lineRead, lineTurn, commentTurn, getC
 use Rattle.syntax.specs.Pattern.{Inside, usedBy}
 use Rattle.syntax.specs.Expression.{level}
 use Rattle.syntax.specs.Core.{Fields, fields, termFields, Entry, asMessage, asTerm, asComment, getEntry, toNextEntry, lineStartsAt, junkEnd, Error, Reading, read, refused, following, isNamed, count, kindOfEntry, entries, parse}
-use Rattle.laws.specs.Words.{isFresh, byCase, clash}
-use Rattle.laws.specs.LawJoin.{levels}
-use Rattle.laws.specs.LawEntries.{no-entry}
+use Rattle.laws.specs.Bytes.{isFresh, byCase, clash}
+use Rattle.laws.specs.Lines.Join.{levels}
+use Rattle.laws.specs.Entries.{no-entry}
 
 -- an answer, or an error, past the first byte
 abbrev Moved : {A : Type 0} → Out A → Type 0

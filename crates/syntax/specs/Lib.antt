@@ -11,3 +11,4 @@ pub mod Pattern
 pub mod Expression
 pub mod Core
 pub mod Serializer
+pub mod Cut

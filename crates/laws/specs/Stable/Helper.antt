@@ -13,8 +13,8 @@ use Rattle.syntax.specs.Marks.{Mark, textNode}
 use Rattle.syntax.specs.declared.errors.ErrorKind.the-variants.{ExpectedToken, ExpectedCharRange, InvalidUnicodeEscapeSequence}
 use Rattle.syntax.specs.Reader.{Out, ok, bad, deep, Reader, fail, _>>=_, _>>_, pure, Turn, again, done, repeat}
 use Rattle.syntax.specs.Helper.{skipBlankInline, skipEol, blankTurn, skipBlank, blockTurn, skipBlankBlock, takeByteIf, expectByte, skipDigits, fraction, number, asText, getNumberLiteral, getIdentifier, skipUnicodeEscapeSequence}
-use Rattle.laws.specs.Words.{Whole, whole-drop, Fresh, isFresh, Stop, stop-fresh, byCase, clash, drop-app, run-whole, eol-whole, spaces-whole, fresh-spaces, fresh-eol, not-fresh, stop-run, nonempty}
-use Rattle.laws.specs.Law.{Mode, loose, fresh, any, none, Upto, Within, Carries, Takes, Reads, Closes, same-carries, from-any, bind, then, pure-reads, fail-reads, Relabels, relabel, relabels, pick-within, pick-carries, TurnWithin, TurnCarries, Turns, Free, Any, pick-turn-within, repeat-reads, Sure, TurnSure, repeat-sure, Short, Strict, Holds}
+use Rattle.laws.specs.Bytes.{Whole, whole-drop, Fresh, isFresh, Stop, stop-fresh, byCase, clash, drop-app, run-whole, eol-whole, spaces-whole, fresh-spaces, fresh-eol, not-fresh, stop-run, nonempty}
+use Rattle.laws.specs.Stable.{Mode, loose, fresh, any, none, Upto, Within, Carries, Takes, Reads, Closes, same-carries, from-any, bind, then, pure-reads, fail-reads, Relabels, relabel, relabels, pick-within, pick-carries, TurnWithin, TurnCarries, Turns, Free, Any, pick-turn-within, repeat-reads, Sure, TurnSure, repeat-sure, Short, Strict, Holds}
 
 -- modes in which what follows an x that is used up is fresh
 abbrev pub Soft : Mode → Type 0

@@ -15,9 +15,9 @@ use Rattle.syntax.specs.Marks.{Mark, moveUp, node, textNode}
 use Rattle.syntax.specs.Reader.{Out, ok, bad, deep, Reader, fail, _>>=_, _>>_, pure, Turn, again, done, after, repeat, next, loop}
 use Rattle.syntax.specs.Helper.{skipBlankBlock}
 use Rattle.syntax.specs.Pattern.{Inside, Ending, lineFeed, crlf, placeableStart, eof, Role, initialLineStart, lineStart, continuation, Slice, isTextByte, isBlank, endsInCr, lineSlice, sliceBy, getTextSlice, Element, placeable, text, State, isLineStart, roleAfter, isLineFeed, withPlaceable, commonAfter, isElement, withText, goesOn, lineTurn, textTurn, patternTurn, trimmed, dedented, textMarks, elementMarks, finish, stateAt, usedBy, firstState, getPattern}
-use Rattle.laws.specs.Words.{Whole, whole-drop, Fresh, isFresh, Stop, stop-fresh, byCase, clash, drop-app, run-whole, eol-whole, spaces-whole, fresh-spaces, fresh-eol, not-fresh, stop-run}
-use Rattle.laws.specs.Law.{Mode, loose, fresh, any, Upto, upto-le, upto-down, upto-rest, Within, Carries, Takes, Reads, Closes, same-carries, weaker, from-any, bind, then, pure-reads, fail-reads, Relabels, relabel, relabels, next-ok, after-within, pick-within, pick-carries, TurnWithin, TurnCarries, Turns, Free, Any, pick-turn-within, pick-turn-carries, repeat-reads, repeat-stops, repeat-keeps, Short, Strict, Inner, Holds, TurnHolds, loop-holds, Sure}
-use Rattle.laws.specs.LawHelper.{Soft, soft-fresh, past-spaces, block-reads, block-sure}
+use Rattle.laws.specs.Bytes.{Whole, whole-drop, Fresh, isFresh, Stop, stop-fresh, byCase, clash, drop-app, run-whole, eol-whole, spaces-whole, fresh-spaces, fresh-eol, not-fresh, stop-run}
+use Rattle.laws.specs.Stable.{Mode, loose, fresh, any, Upto, upto-le, upto-down, upto-rest, Within, Carries, Takes, Reads, Closes, same-carries, weaker, from-any, bind, then, pure-reads, fail-reads, Relabels, relabel, relabels, next-ok, after-within, pick-within, pick-carries, TurnWithin, TurnCarries, Turns, Free, Any, pick-turn-within, pick-turn-carries, repeat-reads, repeat-stops, repeat-keeps, Short, Strict, Inner, Holds, TurnHolds, loop-holds, Sure}
+use Rattle.laws.specs.Stable.Helper.{Soft, soft-fresh, past-spaces, block-reads, block-sure}
 
 -- the readers of what stands inside
 pub record InsideLaw (sub : Inside) : Type 0 where

@@ -15,8 +15,8 @@ use Rattle.syntax.specs.Marks.{Mark, moveUp, textNode}
 use Rattle.syntax.specs.declared.errors.ParserError.{ParserError}
 use Rattle.syntax.specs.Reader.{Out, ok, bad, deep, Reader, fail, after, Turn, again, done, loop, repeat}
 use Rattle.syntax.specs.Comment.{lineLength, levelOf, lineEndUsed, lineRead, lineTurn, commentTurn, getComment}
-use Rattle.laws.specs.Words.{byCase, clash}
-use Rattle.laws.specs.Law.{Holds, TurnHolds, loop-holds, loop-more}
+use Rattle.laws.specs.Bytes.{byCase, clash}
+use Rattle.laws.specs.Stable.{Holds, TurnHolds, loop-holds, loop-more}
 
 -- where a comment has started there is no error
 abbrev NotBad : Out ℕ → Type 0

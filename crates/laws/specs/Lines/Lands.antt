@@ -17,11 +17,11 @@ use Rattle.syntax.specs.Helper.{skipBlankInline, skipBlankBlock, blockTurn, exp
 use Rattle.syntax.specs.Pattern.{Inside, Ending, lineFeed, crlf, placeableStart, eof, Role, initialLineStart, lineStart, continuation, Slice, isTextByte, endsInCr, lineSlice, sliceBy, getTextSlice, State, isLineStart, roleAfter, withPlaceable, withText, goesOn, lineTurn, textTurn, patternTurn, finish, stateAt, usedBy, firstState, getPattern}
 use Rattle.syntax.specs.Expression.{needsValue}
 use Rattle.syntax.specs.Core.{getAttribute, attributeBy, attributeTurn, getAttributes, Fields, fields, termFields, Entry, asMessage, asTerm, getEntry, lineStartsAt}
-use Rattle.laws.specs.Words.{Whole, whole-tail, whole-drop, nonempty, byCase, clash, run-whole}
-use Rattle.laws.specs.Law.{Mode, loose, fresh, any, none, Within, TurnWithin, Turns, Short, Strict, Holds, holds-map, TurnHolds, loop-holds, Takes, Closes, Sure}
-use Rattle.laws.specs.LawHelper.{past-spaces, block-sure, expectByte-strict, expectByte-reads}
-use Rattle.laws.specs.LawPattern.{InsideLaw, Ready, not-ready, past-text, pattern-turns, first-ready}
-use Rattle.laws.specs.LawComment.{lineRun, eol-line, starts-at, starts-later, starts-add}
+use Rattle.laws.specs.Bytes.{Whole, whole-tail, whole-drop, nonempty, byCase, clash, run-whole}
+use Rattle.laws.specs.Stable.{Mode, loose, fresh, any, none, Within, TurnWithin, Turns, Short, Strict, Holds, holds-map, TurnHolds, loop-holds, Takes, Closes, Sure}
+use Rattle.laws.specs.Stable.Helper.{past-spaces, block-sure, expectByte-strict, expectByte-reads}
+use Rattle.laws.specs.Stable.Pattern.{InsideLaw, Ready, not-ready, past-text, pattern-turns, first-ready}
+use Rattle.laws.specs.Stable.Comment.{lineRun, eol-line, starts-at, starts-later, starts-add}
 
 -- a line end ends where a line starts
 eol-starts : (r : List ℕ) → 0 < eol r → lineStartsAt (eol r) r ≡ true

@@ -17,11 +17,11 @@ use Rattle.syntax.specs.Helper.{skipBlankInline, skipBlankBlock, expectByte, ge
 use Rattle.syntax.specs.Pattern.{Inside, getPattern}
 use Rattle.syntax.specs.Expression.{needsValue}
 use Rattle.syntax.specs.Core.{getAttribute, attributeBy, attributeTurn, getAttributes, Fields, fields, termFields, Entry, comment, message, term, asMessage, asTerm, asComment, getEntry}
-use Rattle.laws.specs.Words.{Whole, whole-tail, whole-drop, nonempty, Fresh, isFresh, Stop, stop-fresh, byCase, clash, drop-app, spaces-whole, fresh-spaces, not-fresh}
-use Rattle.laws.specs.Law.{Mode, loose, fresh, any, none, Upto, upto-le, Within, Carries, Reads, Closes, Short, Strict, Inner, inner-keeps, from-any, weaker, bind, then, strict-then, inner-bind, inner-then, pure-reads, node-reads, TurnWithin, TurnCarries, Turns, Any, Free, pick-turn-within, repeat-reads, Holds, holds-map, next-ok, pick-within, pick-carries}
-use Rattle.laws.specs.LawHelper.{Soft, past-spaces, expectByte-reads, expectByte-strict, inline-reads, identifier-reads, block-reads}
-use Rattle.laws.specs.LawPattern.{InsideLaw, getPattern-inner}
-use Rattle.laws.specs.LawExpression.{needsValue-reads}
+use Rattle.laws.specs.Bytes.{Whole, whole-tail, whole-drop, nonempty, Fresh, isFresh, Stop, stop-fresh, byCase, clash, drop-app, spaces-whole, fresh-spaces, not-fresh}
+use Rattle.laws.specs.Stable.{Mode, loose, fresh, any, none, Upto, upto-le, Within, Carries, Reads, Closes, Short, Strict, Inner, inner-keeps, from-any, weaker, bind, then, strict-then, inner-bind, inner-then, pure-reads, node-reads, TurnWithin, TurnCarries, Turns, Any, Free, pick-turn-within, repeat-reads, Holds, holds-map, next-ok, pick-within, pick-carries}
+use Rattle.laws.specs.Stable.Helper.{Soft, past-spaces, expectByte-reads, expectByte-strict, inline-reads, identifier-reads, block-reads}
+use Rattle.laws.specs.Stable.Pattern.{InsideLaw, getPattern-inner}
+use Rattle.laws.specs.Stable.Expression.{needsValue-reads}
 
 -- the rest does not start with an attribute
 abbrev pub dotted : List ℕ → Bool

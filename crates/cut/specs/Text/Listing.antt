@@ -17,18 +17,18 @@ use Rattle.syntax.specs.Comment.{levelOf, getComment, commentTurn}
 use Rattle.syntax.specs.Pattern.{Inside, usedBy}
 use Rattle.syntax.specs.Core.{Entry, comment, message, term, getEntry, junkEnd, Error, upError, Reading, read, refused, following, isNamed, kindOfEntry, entries}
 use Rattle.syntax.specs.Serializer.{Node, nodes, nodesFrom}
-use Rattle.laws.specs.Words.{Whole, whole-drop, Fresh, byCase, clash}
-use Rattle.laws.specs.Law.{Holds, sure-ok}
-use Rattle.laws.specs.LawHelper.{block-sure}
-use Rattle.laws.specs.LawPattern.{InsideLaw}
-use Rattle.laws.specs.LawJoin.{Levelled, levelled, levels}
-use Rattle.laws.specs.LawEntries.{following-read, entries-with, not-deep, Step, step-of, entry-comment, nil-named}
-use Rattle.laws.specs.LawCut.{asComment-ok, named-entry, and-false, gap-within, Way, kept, ended, way}
-use Rattle.laws.specs.LawMarks.{Levels, Good, good-nil, good-more, good-append, good-node, Marked}
-use Rattle.laws.specs.LawMarked.{InsideMarked, entry-marked}
-use Rattle.laws.specs.LawNodes.{nodeOf, nodes-node, nodes-text, upNode, nodes-up}
-use Rattle.laws.specs.LawText.{Ends, Opening, opensNodes, isFree}
-use Rattle.laws.specs.Cut.{opensFree}
+use Rattle.laws.specs.Bytes.{Whole, whole-drop, Fresh, byCase, clash}
+use Rattle.laws.specs.Stable.{Holds, sure-ok}
+use Rattle.laws.specs.Stable.Helper.{block-sure}
+use Rattle.laws.specs.Stable.Pattern.{InsideLaw}
+use Rattle.laws.specs.Lines.Join.{Levelled, levelled, levels}
+use Rattle.laws.specs.Entries.{following-read, entries-with, not-deep, Step, step-of, entry-comment, nil-named}
+use Rattle.cut.specs.Tree.Join.{asComment-ok, named-entry, and-false, gap-within, Way, kept, ended, way}
+use Rattle.laws.specs.Balanced.{Levels, Good, good-nil, good-more, good-append, good-node, Marked}
+use Rattle.laws.specs.Balanced.Readers.{InsideMarked, entry-marked}
+use Rattle.laws.specs.Balanced.Nodes.{nodeOf, nodes-node, nodes-text, upNode, nodes-up}
+use Rattle.cut.specs.Text.Piece.{Ends, Opening, opensNodes, isFree}
+use Rattle.syntax.specs.Cut.{opensFree}
 
 -- the level of a comment is one to three
 abbrev Small : Entry → Type 0

@@ -10,9 +10,9 @@ use lib.Dec.{eqb, ltb}
 use borrow.Author.Tests.{eqb-true, eqb-false, ltb-true, ltb-false, le-ltb, lt-ltb, ne-eqb}
 use Rattle.syntax.specs.Marks.{Mark, plain, placed, kindOf, up, moveUp, node, textNode}
 use Rattle.syntax.specs.Serializer.{Node, outside, opened, into, closed, nodesFrom, nodes}
-use Rattle.laws.specs.Words.{byCase, clash}
-use Rattle.laws.specs.LawMove.{map-append, moveUp-append}
-use Rattle.laws.specs.LawMarks.{Levels}
+use Rattle.laws.specs.Bytes.{byCase, clash}
+use Rattle.laws.specs.Moving.{map-append, moveUp-append}
+use Rattle.laws.specs.Balanced.{Levels}
 
 into-nil : (o : Node) → into o [] ≡ o
 into-nil o i = record { kind = o .kind; opening = o .opening; closing = o .closing; inner = append-nil (o .inner) i }

@@ -15,12 +15,12 @@ use Rattle.syntax.specs.Reader.{Out, ok, bad, deep, Reader, fail, _>>=_, _>>_, 
 use Rattle.syntax.specs.Helper.{skipBlank, skipBlankInline, skipEol, expectByte, getIdentifier, getNumberLiteral}
 use Rattle.syntax.specs.Pattern.{Inside, getPattern}
 use Rattle.syntax.specs.Expression.{Inline, string, number, variable, function, inner, message, term, getInlineExpression, argumentTurn, parenthesised, keyText, getVariantKey, needsValue, variant, variantKind, endVariants, variantWith, afterStar, turnAfter, variantTurn, getVariants, selector, alone, needsLineEnd, selectFrom, afterInline, inSelect, inlineOrSelect, getExpression, braced, tooDeep, level}
-use Rattle.laws.specs.Words.{Whole, whole-tail, nonempty, Stop, byCase}
-use Rattle.laws.specs.Law.{Mode, loose, any, Upto, Within, Carries, Takes, Reads, Closes, Strict, Inner, from-any, bind, then, bind-closes, then-closes, then-strict, strict-then, inner-bind, pure-reads, fail-reads, node-reads, node-closes, Relabels, relabel, relabels, TurnWithin, TurnCarries, Turns, Any, Free, pick-turn-within, pick-turn-carries, turnOf-carries, turnOf-within, done-carries, repeat-reads}
-use Rattle.laws.specs.LawHelper.{expectByte-reads, expectByte-closes, expectByte-strict, inline-reads, eol-reads, blank-reads, identifier-reads, numberLiteral-reads, choose-reads, loose-nil}
-use Rattle.laws.specs.LawPattern.{InsideLaw, getPattern-inner}
-use Rattle.laws.specs.LawInline as Inline
-use Rattle.laws.specs.LawArgument.{argument-turns}
+use Rattle.laws.specs.Bytes.{Whole, whole-tail, nonempty, Stop, byCase}
+use Rattle.laws.specs.Stable.{Mode, loose, any, Upto, Within, Carries, Takes, Reads, Closes, Strict, Inner, from-any, bind, then, bind-closes, then-closes, then-strict, strict-then, inner-bind, pure-reads, fail-reads, node-reads, node-closes, Relabels, relabel, relabels, TurnWithin, TurnCarries, Turns, Any, Free, pick-turn-within, pick-turn-carries, turnOf-carries, turnOf-within, done-carries, repeat-reads}
+use Rattle.laws.specs.Stable.Helper.{expectByte-reads, expectByte-closes, expectByte-strict, inline-reads, eol-reads, blank-reads, identifier-reads, numberLiteral-reads, choose-reads, loose-nil}
+use Rattle.laws.specs.Stable.Pattern.{InsideLaw, getPattern-inner}
+use Rattle.laws.specs.Stable.Inline as Inline
+use Rattle.laws.specs.Stable.Argument.{argument-turns}
 
 byte : (b : ℕ) → (b ≡ 35 → ⊥) → Reads loose (expectByte b)
 byte b h = from-any loose (expectByte-reads b h)

@@ -1,4 +1,7 @@
 -- A file cut in two: its normal text.
+pub mod Source
+pub mod Piece
+pub mod Listing
 use Prim.Native.Nat.{ℕ, zero, suc, _+_, _-_, _≤_, _<_}
 use native.Mathlib.Nat.{not-suc-le-zero, zero-add}
 use native.Mathlib.Omega.{arith}
@@ -13,18 +16,18 @@ use Rattle.syntax.specs.Marks.{Mark, plain, placed, moveUp}
 use Rattle.syntax.specs.Expression.{level}
 use Rattle.syntax.specs.Core.{Error, upError, read, parse, entries}
 use Rattle.syntax.specs.Serializer.{Node, nodes, nodesFrom, lastOf, resource, serialize, empty}
-use Rattle.laws.specs.Words.{Whole, whole-drop, Fresh, byCase, clash}
-use Rattle.laws.specs.LawExpression.{level-law}
-use Rattle.laws.specs.LawPattern.{span-same}
-use Rattle.laws.specs.LawMove.{moveUp-zero}
-use Rattle.laws.specs.LawMarks.{Upto, Good, good-up}
-use Rattle.laws.specs.LawMarked.{level-marked}
-use Rattle.laws.specs.LawNodes.{upNode, nodes-up, nodes-append, OkMarks, OkNodes, ok-nodes}
-use Rattle.laws.specs.LawSource.{resource-same}
-use Rattle.laws.specs.LawText.{Ends, resource-ends, wroteAll, wrote-ends, resource-append, Opening, opensNodes, opened-text}
-use Rattle.laws.specs.LawListing.{none-read, entries-good, entries-ends, ends-up, entries-opening}
-use Rattle.laws.specs.CutTree.{CutTree, cut-tree, start, from-start, from-length, first-part, second-part}
-use Rattle.laws.specs.Cut.{opensFree, between, Readings, Parts}
+use Rattle.laws.specs.Bytes.{Whole, whole-drop, Fresh, byCase, clash}
+use Rattle.laws.specs.Stable.Expression.{level-law}
+use Rattle.laws.specs.Stable.Pattern.{span-same}
+use Rattle.laws.specs.Moving.{moveUp-zero}
+use Rattle.laws.specs.Balanced.{Upto, Good, good-up}
+use Rattle.laws.specs.Balanced.Readers.{level-marked}
+use Rattle.laws.specs.Balanced.Nodes.{upNode, nodes-up, nodes-append, OkMarks, OkNodes, ok-nodes}
+use Rattle.cut.specs.Text.Source.{resource-same}
+use Rattle.cut.specs.Text.Piece.{Ends, resource-ends, wroteAll, wrote-ends, resource-append, Opening, opensNodes, opened-text}
+use Rattle.cut.specs.Text.Listing.{none-read, entries-good, entries-ends, ends-up, entries-opening}
+use Rattle.cut.specs.Tree.{CutTree, cut-tree, start, from-start, from-length, first-part, second-part}
+use Rattle.syntax.specs.Cut.{opensFree, between, Readings, Parts}
 
 upto-ok : (k : ℕ) (ms : List Mark) → Upto k ms → OkMarks (λ p. p ≤ k) ms
 upto-ok k [] u = tt

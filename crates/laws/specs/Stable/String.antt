@@ -13,9 +13,9 @@ use Rattle.syntax.specs.Marks.{Mark, textNode}
 use Rattle.syntax.specs.Reader.{Out, ok, bad, deep, Reader, fail, _>>=_, _>>_, pure, Turn, again, done, turnOf, after, repeat}
 use Rattle.syntax.specs.Helper.{expectByte, skipUnicodeEscapeSequence}
 use Rattle.syntax.specs.Expression.{Inline, string, escapeTurn, stringTurn, stringLiteral, asString}
-use Rattle.laws.specs.Words.{Whole, whole-tail, nonempty, Fresh, Stop, byCase, clash}
-use Rattle.laws.specs.Law.{Mode, loose, any, Upto, upto-le, Within, Carries, Reads, from-any, Relabels, relabel, relabels, TurnWithin, TurnCarries, Turns, pick-turn-within, pick-turn-carries, repeat-stops, repeat-keeps, Short, Strict, Inner, strict-then, inner-then}
-use Rattle.laws.specs.LawHelper.{expectByte-reads, expectByte-strict, escape-within, escape-carries}
+use Rattle.laws.specs.Bytes.{Whole, whole-tail, nonempty, Fresh, Stop, byCase, clash}
+use Rattle.laws.specs.Stable.{Mode, loose, any, Upto, upto-le, Within, Carries, Reads, from-any, Relabels, relabel, relabels, TurnWithin, TurnCarries, Turns, pick-turn-within, pick-turn-carries, repeat-stops, repeat-keeps, Short, Strict, Inner, strict-then, inner-then}
+use Rattle.laws.specs.Stable.Helper.{expectByte-reads, expectByte-strict, escape-within, escape-carries}
 
 abbrev Left : Unit {0} → List ℕ → Type 0
 Left u x = 0 < length x

@@ -19,14 +19,14 @@ use Rattle.syntax.specs.Helper.{skipBlankBlock, blockTurn, getIdentifier}
 use Rattle.syntax.specs.Comment.{getComment, commentTurn}
 use Rattle.syntax.specs.Pattern.{Inside, usedBy}
 use Rattle.syntax.specs.Core.{Fields, fields, termFields, Entry, comment, message, term, asMessage, asTerm, asComment, getEntry, junkEnd, lineStartsAt, Error, upError, Reading, read, refused, following, isNamed, count, kindOfEntry, entries}
-use Rattle.laws.specs.Words.{Whole, whole-tail, whole-drop, nonempty, Fresh, isFresh, Stop, stop-fresh, byCase, clash, drop-app, fresh-spaces, fresh-eol, not-fresh}
-use Rattle.laws.specs.Law.{Mode, loose, fresh, any, none, Within, Holds, TurnHolds, loop-holds, Sure, sure-ok}
-use Rattle.laws.specs.LawHelper.{block-sure}
-use Rattle.laws.specs.LawPattern.{InsideLaw, block-within, block-same}
-use Rattle.laws.specs.LawEntry.{dotted, Cut, entry-ends, entry-stops}
-use Rattle.laws.specs.LawComment.{after-ok, lineRun, lineRun-whole, lineRun-here, lineRun-on, OneLine, starts-add, starts-later}
-use Rattle.laws.specs.LawLands.{block-lands, entry-lands}
-use Rattle.laws.specs.Cut.{oneLine, lastLine, hashes, Joins}
+use Rattle.laws.specs.Bytes.{Whole, whole-tail, whole-drop, nonempty, Fresh, isFresh, Stop, stop-fresh, byCase, clash, drop-app, fresh-spaces, fresh-eol, not-fresh}
+use Rattle.laws.specs.Stable.{Mode, loose, fresh, any, none, Within, Holds, TurnHolds, loop-holds, Sure, sure-ok}
+use Rattle.laws.specs.Stable.Helper.{block-sure}
+use Rattle.laws.specs.Stable.Pattern.{InsideLaw, block-within, block-same}
+use Rattle.laws.specs.Stable.Entry.{dotted, Cut, entry-ends, entry-stops}
+use Rattle.laws.specs.Stable.Comment.{after-ok, lineRun, lineRun-whole, lineRun-here, lineRun-on, OneLine, starts-add, starts-later}
+use Rattle.laws.specs.Lines.Lands.{block-lands, entry-lands}
+use Rattle.syntax.specs.Cut.{oneLine, lastLine, hashes, Joins}
 
 -- ---- the last line
 

@@ -9,7 +9,7 @@ use Rattle.syntax.specs.Bytes.{startsWith}
 use Rattle.syntax.specs.Marks.{Mark, plain, placed, up, moveUp}
 use Rattle.syntax.specs.Serializer as Ser
 use Rattle.syntax.specs.Serializer.{Node, nodes, Piece, _⊕_, literal, newline, indented, star, empty}
-use Rattle.laws.specs.LawNodes.{upNode, nodes-up, OkMark, OkMarks, OkNode, OkNodes, ok-nodes}
+use Rattle.laws.specs.Balanced.Nodes.{upNode, nodes-up, OkMark, OkMarks, OkNode, OkNodes, ok-nodes}
 
 abbrev choice : Bool → Piece → Piece → Piece
 choice v a b = elim v [ true ↦ a | false ↦ b ]

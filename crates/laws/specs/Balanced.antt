@@ -1,4 +1,6 @@
 -- The marks of an answer: every node that opens closes, and the places are within what was used.
+pub mod Readers
+pub mod Nodes
 use Prim.Native.Nat.{ℕ, zero, suc, _+_, _-_, _≤_, _<_, min}
 use native.Mathlib.Nat.{not-suc-le-zero, zero-add}
 use native.Mathlib.Omega.{arith}
@@ -11,8 +13,8 @@ use lib.Dec.{eqb, ltb, leb}
 use borrow.Author.Tests.{eqb-true, eqb-false, ltb-true, ltb-false, le-ltb, lt-ltb}
 use Rattle.syntax.specs.Marks.{Mark, plain, placed, kindOf, up, moveUp, node, textNode}
 use Rattle.syntax.specs.Reader.{Out, ok, bad, deep, Reader, after, next, _>>=_, _>>_, pure, fail, wrap, inNode, Turn, again, done, turnOf, loop, repeat}
-use Rattle.laws.specs.Words.{byCase, clash}
-use Rattle.laws.specs.Law.{Holds, TurnHolds, loop-holds, Takes}
+use Rattle.laws.specs.Bytes.{byCase, clash}
+use Rattle.laws.specs.Stable.{Holds, TurnHolds, loop-holds, Takes}
 
 -- from d nodes open to none
 abbrev pub Levels : ℕ → List Mark → Type 0

@@ -16,11 +16,11 @@ use Rattle.syntax.specs.Reader.{Out, ok, bad, deep, Reader, fail, _>>=_, _>>_, 
 use Rattle.syntax.specs.Helper.{skipBlank, takeByteIf, expectByte, getIdentifier, getNumberLiteral}
 use Rattle.syntax.specs.Pattern.{Inside}
 use Rattle.syntax.specs.Expression.{Inline, string, number, variable, function, inner, message, term, inlineKind, asInline, stringLiteral, asString, numberLiteral, callArguments, getCallArguments, getAttributeAccessor, termReference, variableReference, messageReference, functionReference, referenceBy, reference, nestedPlaceable, noInline, nonLiteral, getInlineExpression}
-use Rattle.laws.specs.Words.{Whole, whole-tail, nonempty, Fresh, Stop, byCase, clash}
-use Rattle.laws.specs.Law.{Mode, loose, any, Upto, upto-le, Within, Carries, Reads, Closes, from-any, bind, then, pure-reads, fail-reads, Relabels, relabel, relabels, pick-within, pick-carries, Holds}
-use Rattle.laws.specs.LawHelper.{expectByte-reads, identifier-reads, identifier-same, identifier-named, numberLiteral-reads, blank-reads, choose-reads, loose-nil}
-use Rattle.laws.specs.LawPattern.{InsideLaw}
-use Rattle.laws.specs.LawString.{string-reads}
+use Rattle.laws.specs.Bytes.{Whole, whole-tail, nonempty, Fresh, Stop, byCase, clash}
+use Rattle.laws.specs.Stable.{Mode, loose, any, Upto, upto-le, Within, Carries, Reads, Closes, from-any, bind, then, pure-reads, fail-reads, Relabels, relabel, relabels, pick-within, pick-carries, Holds}
+use Rattle.laws.specs.Stable.Helper.{expectByte-reads, identifier-reads, identifier-same, identifier-named, numberLiteral-reads, blank-reads, choose-reads, loose-nil}
+use Rattle.laws.specs.Stable.Pattern.{InsideLaw}
+use Rattle.laws.specs.Stable.String.{string-reads}
 
 asInline-relabels : Relabels asInline
 unfolding asInline

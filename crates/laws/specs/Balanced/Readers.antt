@@ -20,12 +20,12 @@ use Rattle.syntax.specs.Pattern.{Inside, Slice, getTextSlice, Element, placeabl
 use Rattle.syntax.specs.Expression as Expression
 use Rattle.syntax.specs.Expression.{Inline, string, variable, function, inner, inlineKind, asInline, stringTurn, stringLiteral, asString, numberLiteral, callArguments, getCallArguments, getAttributeAccessor, termReference, variableReference, messageReference, functionReference, referenceBy, reference, nestedPlaceable, noInline, nonLiteral, getInlineExpression, isAmong, isNone, separator, positional, namedValue, namedArgument, afterReference, pastBlank, argumentBy, argumentTurn, parenthesised, keyText, getVariantKey, needsValue, variant, variantKind, endVariants, variantWith, afterStar, turnAfter, variantTurn, getVariants, selector, alone, needsLineEnd, selectFrom, afterInline, inSelect, inlineOrSelect, getExpression, braced, tooDeep, level}
 use Rattle.syntax.specs.Core.{getAttribute, attributeBy, attributeTurn, getAttributes, Fields, fields, termFields, Entry, comment, message, term, asMessage, asTerm, asComment, getEntry}
-use Rattle.laws.specs.Words.{byCase, clash}
-use Rattle.laws.specs.Law.{Holds, holds-map, TurnHolds, loop-holds, Takes, takes-next, Closes}
-use Rattle.laws.specs.LawHelper.{expectByte-closes}
-use Rattle.laws.specs.LawPattern.{slice-sized, Sized}
-use Rattle.laws.specs.LawArgument.{Fits, inline-fits}
-use Rattle.laws.specs.LawMarks.{Good, good-nil, good-up, good-more, good-join, good-append, good-node, good-text, Marked, TurnMarked, after-marked, next-marked, bind-marked, then-marked, pure-marked, wrap-marked, turnOf-marked, pick-marked, pick-turn-marked, repeat-marked}
+use Rattle.laws.specs.Bytes.{byCase, clash}
+use Rattle.laws.specs.Stable.{Holds, holds-map, TurnHolds, loop-holds, Takes, takes-next, Closes}
+use Rattle.laws.specs.Stable.Helper.{expectByte-closes}
+use Rattle.laws.specs.Stable.Pattern.{slice-sized, Sized}
+use Rattle.laws.specs.Stable.Argument.{Fits, inline-fits}
+use Rattle.laws.specs.Balanced.{Good, good-nil, good-up, good-more, good-join, good-append, good-node, good-text, Marked, TurnMarked, after-marked, next-marked, bind-marked, then-marked, pure-marked, wrap-marked, turnOf-marked, pick-marked, pick-turn-marked, repeat-marked}
 
 fail-marked : (A : Type 0) (k : Rattle.syntax.specs.declared.errors.ErrorKind.ErrorKind) (s : List ℕ) → Marked (fail {A = A} k s)
 unfolding fail

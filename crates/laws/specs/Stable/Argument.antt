@@ -16,11 +16,11 @@ use Rattle.syntax.specs.Reader.{Out, ok, bad, deep, Reader, fail, _>>=_, _>>_, 
 use Rattle.syntax.specs.Helper.{skipBlank, takeByteIf, expectByte, getIdentifier, getNumberLiteral}
 use Rattle.syntax.specs.Pattern.{Inside}
 use Rattle.syntax.specs.Expression.{Inline, string, number, variable, function, inner, message, term, asInline, stringLiteral, asString, numberLiteral, getCallArguments, getAttributeAccessor, termReference, variableReference, messageReference, functionReference, referenceBy, reference, nestedPlaceable, noInline, nonLiteral, getInlineExpression, isAmong, isNone, separator, positional, namedValue, namedArgument, afterReference, pastBlank, argumentBy, argumentTurn}
-use Rattle.laws.specs.Words.{Whole, whole-tail, whole-drop, nonempty, Fresh, Stop, byCase, clash, drop-app}
-use Rattle.laws.specs.Law.{Mode, loose, any, Upto, upto-le, Within, Carries, Reads, Closes, from-any, bind, then, pure-reads, fail-reads, pick-within, pick-carries, Holds, TurnWithin, TurnCarries, Turns, Any, Free, pick-turn-within, pick-turn-carries, turnOf-carries, turnOf-within, next-within, next-keeps, wrap-relabels, Sure, sure-ok, cont-within, cont-keeps, carries-trans, after-least, holds-map, least-next, least-wrap, beyond, plain-after, plain-next}
-use Rattle.laws.specs.LawHelper.{expectByte-reads, takeByteIf-reads, identifier-reads, identifier-named, blank-reads, blank-sure, loose-nil}
-use Rattle.laws.specs.LawPattern.{InsideLaw}
-use Rattle.laws.specs.LawInline.{inline-reads}
+use Rattle.laws.specs.Bytes.{Whole, whole-tail, whole-drop, nonempty, Fresh, Stop, byCase, clash, drop-app}
+use Rattle.laws.specs.Stable.{Mode, loose, any, Upto, upto-le, Within, Carries, Reads, Closes, from-any, bind, then, pure-reads, fail-reads, pick-within, pick-carries, Holds, TurnWithin, TurnCarries, Turns, Any, Free, pick-turn-within, pick-turn-carries, turnOf-carries, turnOf-within, next-within, next-keeps, wrap-relabels, Sure, sure-ok, cont-within, cont-keeps, carries-trans, after-least, holds-map, least-next, least-wrap, beyond, plain-after, plain-next}
+use Rattle.laws.specs.Stable.Helper.{expectByte-reads, takeByteIf-reads, identifier-reads, identifier-named, blank-reads, blank-sure, loose-nil}
+use Rattle.laws.specs.Stable.Pattern.{InsideLaw}
+use Rattle.laws.specs.Stable.Inline.{inline-reads}
 
 -- a message reference's name is in what was used
 abbrev pub NameUpto : ℕ → Inline → Type 0

@@ -1,6 +1,14 @@
 -- What a reader does at a cut. Of a source x that is empty or ends in a newline, and of what follows it:
 -- `stops`: where a '#' or nothing follows, it uses no more than x. `keeps`: it answers on x and y what it answered on x, where it left some of x
 -- (loose), where what follows is fresh (fresh), always (any), or never (none).
+pub mod Helper
+pub mod Pattern
+pub mod String
+pub mod Inline
+pub mod Argument
+pub mod Expression
+pub mod Entry
+pub mod Comment
 use Prim.Native.Nat.{ℕ, zero, suc, _+_, _-_, _≤_, _<_, suc-le-suc}
 use native.Mathlib.Nat.{le-of-suc-le-suc, not-suc-le-zero}
 use native.Mathlib.Omega.{arith}
@@ -16,7 +24,7 @@ use Rattle.syntax.specs.declared.errors.ErrorKind.{ErrorKind}
 use Rattle.syntax.specs.declared.errors.ParserError.{ParserError}
 use Rattle.syntax.specs.Errors.{upFault}
 use Rattle.syntax.specs.Reader.{Out, ok, bad, deep, Reader, after, next, _>>=_, _>>_, pure, fail, wrap, inNode, Turn, again, done, turnOf, loop, repeat}
-use Rattle.laws.specs.Words.{Whole, whole-drop, Fresh, Stop, byCase, clash, drop-app}
+use Rattle.laws.specs.Bytes.{Whole, whole-drop, Fresh, Stop, byCase, clash, drop-app}
 
 pub data Mode : Type 0 where
   loose fresh any none : Mode

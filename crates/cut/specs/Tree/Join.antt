@@ -18,17 +18,17 @@ use Rattle.syntax.specs.Helper.{skipBlankBlock, blockTurn}
 use Rattle.syntax.specs.Comment.{getComment, commentTurn}
 use Rattle.syntax.specs.Pattern.{Inside, usedBy}
 use Rattle.syntax.specs.Core.{Fields, fields, termFields, Entry, comment, message, term, asMessage, asTerm, asComment, getEntry, lineStartsAt, Error, upError, Reading, read, refused, following, isNamed, kindOfEntry, entries}
-use Rattle.laws.specs.Words.{Whole, whole-tail, whole-drop, Fresh, isFresh, Stop, stop-fresh, byCase, clash, drop-app}
-use Rattle.laws.specs.Law.{Mode, loose, fresh, Within, Carries, Holds, Sure, sure-ok}
-use Rattle.laws.specs.LawPattern.{InsideLaw, block-within, block-same}
-use Rattle.laws.specs.LawHelper.{block-sure}
-use Rattle.laws.specs.LawEntry.{dotted, Cut, entry-ends, entry-stops}
-use Rattle.laws.specs.LawMove.{moveUp-append, moveUp-twice, moveUp-zero, moveUp-nil, upErrors-twice, upErrors-zero, following-twice}
-use Rattle.laws.specs.LawComment.{after-ok, OneLine, starts-add, starts-later, Cutting, before, newline, end, Goes, GoesBy, cutting}
-use Rattle.laws.specs.LawJoin.{Own, Other, own-or-other}
-use Rattle.laws.specs.LawLands.{block-lands, entry-lands}
-use Rattle.laws.specs.LawEntries.{lastLine-at, lastLine-drop, Tail, tail-of, following-read, read-read, map-nil, weight, weight-append, weight-up, weight-node, entries-with, junk-free, not-deep, Step, step-of, entries-more, block-fresh, block-ten, block-two, block-one, entry-comment, hash-named, nil-named, nil-entry, not-dotted}
-use Rattle.laws.specs.Cut.{lastLine, hashes, Joins}
+use Rattle.laws.specs.Bytes.{Whole, whole-tail, whole-drop, Fresh, isFresh, Stop, stop-fresh, byCase, clash, drop-app}
+use Rattle.laws.specs.Stable.{Mode, loose, fresh, Within, Carries, Holds, Sure, sure-ok}
+use Rattle.laws.specs.Stable.Pattern.{InsideLaw, block-within, block-same}
+use Rattle.laws.specs.Stable.Helper.{block-sure}
+use Rattle.laws.specs.Stable.Entry.{dotted, Cut, entry-ends, entry-stops}
+use Rattle.laws.specs.Moving.{moveUp-append, moveUp-twice, moveUp-zero, moveUp-nil, upErrors-twice, upErrors-zero, following-twice}
+use Rattle.laws.specs.Stable.Comment.{after-ok, OneLine, starts-add, starts-later, Cutting, before, newline, end, Goes, GoesBy, cutting}
+use Rattle.laws.specs.Lines.Join.{Own, Other, own-or-other}
+use Rattle.laws.specs.Lines.Lands.{block-lands, entry-lands}
+use Rattle.laws.specs.Entries.{lastLine-at, lastLine-drop, Tail, tail-of, following-read, read-read, map-nil, weight, weight-append, weight-up, weight-node, entries-with, junk-free, not-deep, Step, step-of, entries-more, block-fresh, block-ten, block-two, block-one, entry-comment, hash-named, nil-named, nil-entry, not-dotted}
+use Rattle.syntax.specs.Cut.{lastLine, hashes, Joins}
 
 pub asComment-ok : (o : Out ℕ) (e : Entry) (ms : List Mark) (k : ℕ) → asComment o ≡ ok e ms k → (l : ℕ) × (e ≡ comment l) × (o ≡ ok l ms k)
 unfolding asComment

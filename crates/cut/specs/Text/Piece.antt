@@ -11,7 +11,7 @@ use borrow.Author.Tests.{eqb-true, eqb-false}
 use Rattle.syntax.specs.Marks.{Mark, moveUp}
 use Rattle.syntax.specs.Serializer as Ser
 use Rattle.syntax.specs.Serializer.{Node, nodes, Piece, lastOf, _⊕_, literal, newline, indented, empty}
-use Rattle.laws.specs.Words.{byCase, clash}
+use Rattle.laws.specs.Bytes.{byCase, clash}
 
 lastOf-append : (b : ℕ) (s t : List ℕ) → lastOf b (s ++ t) ≡ lastOf (lastOf b s) t
 unfolding lastOf

@@ -1,0 +1,1 @@
+// The theorem on a file cut in two stands in specs/.

@@ -1,0 +1,3 @@
+-- Lines of a source.
+pub mod Join
+pub mod Lands
