@@ -1,0 +1,2 @@
+-- What the contracts of the parser say of results and of lent words.
+pub mod Tree

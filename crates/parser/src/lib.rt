@@ -1,0 +1,2 @@
+// The parser: bytes are read into marks and errors.
+pub mod marks;

@@ -1,0 +1,36 @@
+// Marks in a lent tree: two words of sizes, then as many kinds as the tree holds, then as many places.
+ghost use Prim.Native.Nat.{_+_, _*_, _≤_, _<_, _^_};
+ghost use mathlib.Core.Path.{_≡_};
+ghost use mathlib.Core.List.{[], _∷_};
+ghost use Rattle.syntax.specs.Kind.{closing};
+ghost use Rattle.parser.specs.Tree.{word, Step, Fits};
+
+// Writes a mark after n others.
+pub fn put(tree: &mut [u32], cap: usize, n: usize, kind: u32, place: usize) -> usize
+    requires { ⌜ Fits (now tree) cap n 1 ⌝ }
+    requires { ⌜ place < 2 ^ 32 ⌝ }
+    ensures { λ r. ⌜ (r ≡ n + 1) × Step cap n (now (tree .entry)) (now (tree .exit)) (word kind place ∷ []) ⌝ }
+{
+    let at = n + 2;
+    tree[at] = kind;
+    let at = cap + n + 2;
+    tree[at] = place as u32;
+    n + 1
+}
+
+// Writes the two marks of a text.
+pub fn put_text(
+    tree: &mut [u32],
+    cap: usize,
+    n: usize,
+    kind: u32,
+    start: usize,
+    end: usize,
+) -> usize
+    requires { ⌜ Fits (now tree) cap n 2 ⌝ }
+    requires { ⌜ (start < 2 ^ 32) × (end < 2 ^ 32) × (kind < 100) ⌝ }
+    ensures { λ r. ⌜ (r ≡ n + 2) × Step cap n (now (tree .entry)) (now (tree .exit)) (word kind start ∷ word (closing kind) end ∷ []) ⌝ }
+{
+    let m = put(tree, cap, n, kind, start);
+    put(tree, cap, m, 100 + kind, end)
+}
