@@ -1,2 +1,5 @@
 -- What the proofs of several functions use.
 pub mod Steps
+pub mod Tests
+pub mod Run
+pub mod Places
