@@ -3,3 +3,5 @@ pub mod Steps
 pub mod Tests
 pub mod Run
 pub mod Places
+pub mod Lines
+pub mod Turns
