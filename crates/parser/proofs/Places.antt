@@ -1,5 +1,5 @@
 -- Answers at places of the source.
-use Prim.Native.Nat.{ℕ, _+_, _≤_}
+use Prim.Native.Nat.{ℕ, _+_, _-_, _≤_}
 use mathlib.Core.Path.{_≡_, refl, sym, ap, ap₂, _∙_}
 use mathlib.Core.List.{List, []}
 use mathlib.Core.Bool.{true, false}
@@ -12,11 +12,12 @@ use borrow.Author.Tests.{eq-eqb, ne-eqb}
 use Rattle.syntax.specs.declared.errors.ErrorKind.{ErrorKind}
 use Rattle.syntax.specs.declared.errors.ParserError.{ParserError}
 use Rattle.syntax.specs.declared.errors.ErrorKind.the-variants.{ExpectedToken, ExpectedCharRange}
-use Rattle.syntax.specs.Errors.{letterRange, digitRange, upKind, faultAt}
+use Rattle.syntax.specs.Errors.{letterRange, digitRange, upKind, upFault, faultAt}
 use Rattle.syntax.specs.Marks.{Mark, textNode}
 use Rattle.syntax.specs.Bytes.{startsWith, starts, run, isDigit, isLetter, isNamePart}
 use Rattle.syntax.specs.Reader.{Out, ok, bad, deep, Reader, after, next, fail}
-use Rattle.syntax.specs.Helper.{takeByteIf, expectByte, skipDigits, getIdentifier}
+use Rattle.syntax.specs.Helper.{takeByteIf, expectByte, skipDigits, number, asText, getNumberLiteral, getIdentifier}
+use Rattle.laws.specs.Bytes.{byCase}
 use Rattle.laws.specs.Moving.{upFault-twice}
 use Rattle.parser.specs.Place.{Passed, Went, Found, Shallow, placed}
 use Rattle.parser.specs.declared.helper.Place.{Place}
@@ -121,5 +122,45 @@ found-at {A} {at = at} {i} {r} {o} f h = go o (f .answers) (f .shallow)
     go (bad b j) p u = let z : _≡_ {A = ℕ} 0 1 = cc in absurd (omega arith)
     go (deep j) p u = absurd u
 
+-- the definition's error, where the code's answer is one
+pub record Failed {A : Type 0} (at : ℕ) (e : ParserError) (j : ℕ) (o : Out A) : Type 0 where
+  pub f : ParserError
+  pub k : ℕ
+  pub is : o ≡ bad f k
+  pub error : e ≡ upFault at f
+  pub place : j ≡ at + k
+
+pub found-bad : {A : Type 0} {s : List ℕ} {at j : ℕ} {r : Place} {e : ParserError} {o : Out A} → Found s at o r → r ≡ Bad e j → Failed at e j o
+found-bad {A} {at = at} {j} {r} {e} {o} f h = go o (f .answers) (f .shallow)
+  where
+    go : (o : Out A) → r ≡ placed at o → Shallow o → Failed at e j o
+    go (ok a ms k) p u = let z : _≡_ {A = ℕ} 0 1 = cc in absurd (omega arith)
+    go (bad b i) p u = record { f = b; k = i; is = refl; error = cc; place = cc }
+    go (deep i) p u = absurd u
+
 pub found-within : {A : Type 0} {s : List ℕ} {at i : ℕ} {r : Place} {o : Out A} → Found s at o r → r ≡ At i → i ≤ length s
 found-within f h = rw h at (f .within)
+
+-- ---- texts: the definition's answer, with its marks, where the code found an end
+
+pub identifier-read : {s : List ℕ} {at i : ℕ} {r : Place} (kind : ℕ) → Found s at (getIdentifier kind (drop at s)) r → r ≡ At i
+    → getIdentifier kind (drop at s) ≡ ok (i - at) (textNode kind 0 (i - at)) (i - at)
+identifier-read {s} {at} {i} kind f h = byCase (starts isLetter (drop at s)) some none
+  where
+    e : Read at i (getIdentifier kind (drop at s))
+    e = found-at f h
+
+    some : starts isLetter (drop at s) ≡ true → getIdentifier kind (drop at s) ≡ ok (i - at) (textNode kind 0 (i - at)) (i - at)
+    some q =
+        let n : ℕ = run isNamePart (drop at s) in
+        let p : n ≡ e .k = cc (identifier-some kind (drop at s) q, e .is) in
+        let d : n ≡ i - at = omega (arith, p, e .place) in
+        identifier-some kind (drop at s) q ∙ rw d
+
+    none : starts isLetter (drop at s) ≡ false → getIdentifier kind (drop at s) ≡ ok (i - at) (textNode kind 0 (i - at)) (i - at)
+    none q = unfold fail in (let z : _≡_ {A = ℕ} 0 1 = cc (identifier-none kind (drop at s) q, e .is) in absurd (omega arith))
+
+pub number-read : {s : List ℕ} {at i : ℕ} {r : Place} (kind : ℕ) → Found s at (number (drop at s)) r → r ≡ At i
+    → getNumberLiteral kind (drop at s) ≡ ok (i - at) (textNode kind 0 (i - at)) (i - at)
+unfolding getNumberLiteral asText
+number-read {at = at} {i} kind f h = let e = found-at f h in let d : e .k ≡ i - at = omega (arith, e .place) in rw (e .is, d)
