@@ -5,3 +5,4 @@ pub mod Run
 pub mod Places
 pub mod Lines
 pub mod Turns
+pub mod Slices

@@ -3,3 +3,4 @@ pub mod bytes;
 pub mod errors;
 pub mod helper;
 pub mod marks;
+pub mod text;
