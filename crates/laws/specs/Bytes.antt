@@ -34,6 +34,11 @@ pub pick : {B : Type 0} (P : B → Type 0) (v : Bool) (o u : B) → (v ≡ true 
 pick P true o u f g = f refl
 pick P false o u f g = g refl
 
+-- the same choice on both sides
+pub pick₂ : {B : Type 0} (R : B → B → Type 0) (v : Bool) (o u o′ u′ : B) → (v ≡ true → R o o′) → (v ≡ false → R u u′) → R (elim v [ true ↦ o | false ↦ u ]) (elim v [ true ↦ o′ | false ↦ u′ ])
+pick₂ R true o u o′ u′ f g = f refl
+pick₂ R false o u o′ u′ f g = g refl
+
 -- the rest of a line that does not end here
 pub nonempty : (b : ℕ) (bs : List ℕ) → Whole (b ∷ bs) → (b ≡ 10 → ⊥) → 0 < length bs
 nonempty b [] w h = absurd (h w)

@@ -8,4 +8,5 @@ pub mod Progress
 pub mod File
 pub mod Balanced
 pub mod Bounds
+pub mod Limit
 pub mod Lines
