@@ -79,6 +79,11 @@ module _ {n : ℕ} where
           (λ z. withText-bounded {c = 8} st indent h (omega arith) (subst (λ r. Bounded n (λ _. 8) r (getTextSlice (b ∷ bs))) (sym e) (slice-some b bs (not-brace (unfold goesOn in (rw (z, goesOn) at q))))))
           (λ z. withText-bounded {c = 0} st indent h (omega (arith, eqb-false indent 0 z)) (subst (λ r. Bounded n (λ _. 0) r (getTextSlice (b ∷ bs))) (sym e) (slice-bounds .on (b ∷ bs))))
 
+  pub text-bounded : (st : State) (b : ℕ) (bs : List ℕ) → eqb b 123 ≡ false → TurnBounded n 1 0 (b ∷ bs) (textTurn st (b ∷ bs))
+  unfolding textTurn
+  text-bounded st b bs q = pick (TurnBounded n 1 0 (b ∷ bs)) (isLineStart (st .role)) _ _
+      (λ l. line-bounded st (spaces (b ∷ bs)) (b ∷ bs) (drop (spaces (b ∷ bs)) (b ∷ bs)) (spaces-le (b ∷ bs)) refl) (λ l. withText-bounded st 0 (omega arith) (omega arith) (slice-some b bs q))
+
 module _ {n : ℕ} {sub : Inside} (law : InsideBounds n sub) where
   withPlaceable-bounded : {s : List ℕ} {o : Out (Unit {0})} (st : State) → Bounded n (λ _. 20) s o → TurnBounded n 1 0 s (withPlaceable st o)
   unfolding withPlaceable
@@ -91,10 +96,7 @@ module _ {n : ℕ} {sub : Inside} (law : InsideBounds n sub) where
     where
       go : (st : State) (s : List ℕ) → TurnBounded n 1 0 s (patternTurn sub st s)
       go st [] = unfold patternTurn in (ends (used (uses-nil 0 (omega arith) (omega arith))))
-      go st (b ∷ bs) = unfold patternTurn textTurn in
-          (pick (TurnBounded n 1 0 (b ∷ bs)) (eqb b 123) _ _ (λ q. withPlaceable-bounded st (law .braced b bs))
-          (λ q. pick (TurnBounded n 1 0 (b ∷ bs)) (isLineStart (st .role)) _ _ (λ l. line-bounded st (spaces (b ∷ bs)) (b ∷ bs) (drop (spaces (b ∷ bs)) (b ∷ bs)) (spaces-le (b ∷ bs)) refl)
-          (λ l. withText-bounded st 0 (omega arith) (omega arith) (slice-some b bs q))))
+      go st (b ∷ bs) = unfold patternTurn in (pick (TurnBounded n 1 0 (b ∷ bs)) (eqb b 123) _ _ (λ q. withPlaceable-bounded st (law .braced b bs)) (λ q. text-bounded st b bs q))
 
 -- ---- elements
 
