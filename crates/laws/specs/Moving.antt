@@ -49,6 +49,10 @@ pub moveUp-nil : (k : ℕ) → moveUp k [] ≡ []
 unfolding moveUp
 moveUp-nil k = refl
 
+pub moveUp-length : (k : ℕ) (ms : List Mark) → length (moveUp k ms) ≡ length ms
+unfolding moveUp
+moveUp-length k ms = length-map ms (up k)
+
 upKind-twice : (k j : ℕ) (w : ErrorKind) → upKind k (upKind j w) ≡ upKind (k + j) w
 upKind-twice k j (Errors.ExpectedToken b) = refl
 upKind-twice k j (Errors.ExpectedCharRange b) = refl
