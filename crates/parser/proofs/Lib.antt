@@ -6,3 +6,4 @@ pub mod Places
 pub mod Lines
 pub mod Turns
 pub mod Slices
+pub mod Strings

@@ -6,17 +6,18 @@ use mathlib.Core.Bool.{Bool, true, false, _&&_}
 use native.Mathlib.Omega.{arith}
 use native.Mathlib.Numerals.{add-one}
 use lib.ListN.{length, getD, drop, drop-of-length-le}
-use lib.Seq.{drop-cons}
+use lib.Seq.{drop-cons, drop-drop}
 use Rattle.syntax.specs.Bytes.{starts, run, all, isLetter, isNamePart}
+use Rattle.laws.specs.Bytes.{byCase}
 use Rattle.parser.specs.Place.{Tests, Passed}
 use Rattle.parser.proofs.Tests.{by, starts-at}
 
-run-none : (p : ℕ → Bool) (x : List ℕ) → starts p x ≡ false → run p x ≡ 0
+pub run-none : (p : ℕ → Bool) (x : List ℕ) → starts p x ≡ false → run p x ≡ 0
 unfolding run starts
 run-none p [] h = refl
 run-none p (b ∷ x) h = rw (h, run)
 
-run-more : (p : ℕ → Bool) (s : List ℕ) (i : ℕ) → i < length s → starts p (drop i s) ≡ true → run p (drop i s) ≡ suc (run p (drop (i + 1) s))
+pub run-more : (p : ℕ → Bool) (s : List ℕ) (i : ℕ) → i < length s → starts p (drop i s) ≡ true → run p (drop i s) ≡ suc (run p (drop (i + 1) s))
 unfolding run
 run-more p s i l h =
     let t : p (getD s i 0) ≡ true = by (starts-at p s i l) h in
@@ -70,3 +71,13 @@ module _ {p : ℕ → Bool} {s : List ℕ} {i : ℕ} (g : Passing p s i) where
   pub passing-end : length s ≤ i → all p s ≡ true
   unfolding all
   passing-end l = g .sofar ∙ rw (drop-of-length-le s l)
+
+-- ---- where a run ends
+
+run-stops : (p : ℕ → Bool) (x : List ℕ) → starts p (drop (run p x) x) ≡ false
+unfolding run starts
+run-stops p [] = refl
+run-stops p (b ∷ x) = let d = run-stops p x in byCase (p b) (λ q. rw (q, run) d) (λ q. rw (q, run) q)
+
+pub passed-stops : (p : ℕ → Bool) {s : List ℕ} {at i : ℕ} → Passed s at (run p (drop at s)) i → starts p (drop i s) ≡ false
+passed-stops p {s} {at} {i} g = let e = g .end in rw (e, ← drop-drop) (run-stops p (drop at s))

@@ -1,14 +1,13 @@
 -- Loops of turns without marks: what the code's loop keeps, and how it goes on and ends.
-use Prim.Native.Nat.{ℕ, zero, suc, _+_, _-_, _≤_, _<_}
+use Prim.Native.Nat.{ℕ, _+_, _-_, _≤_, _<_}
 use native.Mathlib.Nat.{zero-add}
 use native.Mathlib.Omega.{arith}
 use mathlib.Core.Path.{_≡_, refl, sym, ap, ap₂, _∙_}
-use mathlib.Core.List.{List, [], _∷_}
-use mathlib.Core.Bool.{Bool, true, false, _&&_}
-use lib.ListN.{drop, length, length-drop}
+use mathlib.Core.List.{List, []}
+use mathlib.Core.Bool.{true, false}
+use lib.ListN.{drop, length}
 use lib.Seq.{drop-drop}
-use lib.Dec.{eqb, ltb}
-use borrow.Author.Tests.{lt-ltb, le-ltb, ltb-true}
+use borrow.Author.Tests.{lt-ltb}
 use Rattle.syntax.specs.Byte as Byte
 use Rattle.syntax.specs.Bytes.{startsWith, eol}
 use Rattle.syntax.specs.declared.errors.ParserError.{ParserError}
@@ -16,9 +15,11 @@ use Rattle.syntax.specs.Errors.{upFault}
 use Rattle.syntax.specs.Marks.{moveUp}
 use Rattle.syntax.specs.Reader.{Out, ok, bad, deep, after, Turn, again, done, repeat}
 use Rattle.syntax.specs.Helper.{blankTurn}
-use Rattle.laws.specs.Bytes.{byCase, clash}
+use Rattle.laws.specs.Bytes.{byCase}
 use Rattle.laws.specs.Moving.{moveUp-zero, upKind-zero, after-after}
-use Rattle.laws.specs.Loop.{Moved, Moves, repeat-again, repeat-done}
+use Rattle.laws.specs.Loop.{Moves, repeat-again, repeat-done}
+use Rattle.laws.specs.Bounds.{moves}
+use Rattle.laws.specs.Bounds.Helper.{blankTurn-bounds}
 use Rattle.parser.specs.Place.{Went, Found, blankWidth}
 use Rattle.parser.specs.declared.helper.Place.{Place}
 use Rattle.parser.proofs.Places.{went-ok, found-after}
@@ -58,24 +59,8 @@ module _ {S A : Type 0} {turn : S → List ℕ → Turn S A} {s : List ℕ} {at 
 
 -- ---- blanks
 
-pick : {B : Type 0} (P : B → Type 0) (v : Bool) (o u : B) → (v ≡ true → P o) → (v ≡ false → P u) → P (elim v [ true ↦ o | false ↦ u ])
-pick P true o u f g = f refl
-pick P false o u f g = g refl
-
-eol-le : (s : List ℕ) → eol s ≤ length s
-unfolding eol startsWith
-eol-le [] = omega arith
-eol-le (b ∷ []) = byCase (eqb b 10) (λ q. rw (q, eol) (omega arith)) (λ q. byCase (eqb b 13) (λ r. rw (q, eol) (rw r (omega arith))) (λ r. rw (q, eol) (rw r (omega arith))))
-eol-le (b ∷ c ∷ cs) = byCase (eqb b 10) (λ q. rw (q, eol) (omega arith)) (λ q. rw (q, eol) (pick (λ e. e ≤ suc (suc (length cs))) (eqb b 13 && eqb c 10) 2 0 (λ r. omega arith) (λ r. omega arith)))
-
-startsWith-some : (b : ℕ) (s : List ℕ) → startsWith b s ≡ true → 0 < length s
-unfolding startsWith
-startsWith-some b [] h = clash h refl
-startsWith-some b (c ∷ cs) h = omega arith
-
 pub blank-moves : Moves blankTurn
-unfolding blankTurn
-blank-moves = record { moves = λ u s. pick (Moved s) (startsWith Byte.space s) _ _ (λ q. (omega arith, omega (arith, startsWith-some 32 s q))) (λ q. pick (Moved s) (ltb 0 (eol s)) _ _ (λ l. (ltb-true 0 (eol s) l, eol-le s)) (λ l. tt)) }
+blank-moves = moves (blankTurn-bounds {n = 0})
 
 pub blank-again : (x : List ℕ) → 0 < blankWidth x → blankTurn tt x ≡ again tt [] (blankWidth x)
 unfolding blankTurn blankWidth

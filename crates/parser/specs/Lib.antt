@@ -1,4 +1,5 @@
 -- What the contracts of the parser say of results and of lent words.
 pub mod Tree
 pub mod Place
+pub mod Scan
 pub mod Slice

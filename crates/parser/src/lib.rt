@@ -3,4 +3,5 @@ pub mod bytes;
 pub mod errors;
 pub mod helper;
 pub mod marks;
+pub mod string;
 pub mod text;
