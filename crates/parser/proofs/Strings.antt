@@ -2,7 +2,7 @@
 use Prim.Native.Nat.{ℕ, zero, suc, _+_, _-_, _≤_, _<_, min}
 use mathlib.Core.Path.{_≡_, refl, sym, ap, subst, _∙_}
 use mathlib.Core.List.{List, [], _∷_}
-use mathlib.Core.Bool.{Bool, true, false, _||_}
+use mathlib.Core.Bool.{true, false}
 use native.Mathlib.Nat.{add-zero}
 use native.Mathlib.Omega.{arith}
 use lib.ListN.{length, getD, drop, length-drop, drop-of-length-le}
@@ -15,7 +15,7 @@ use Rattle.syntax.specs.declared.errors.ErrorKind.the-variants.{UnknownEscapeSe
 use Rattle.syntax.specs.declared.errors.ParserError.{ParserError}
 use Rattle.syntax.specs.Errors.{faultAt, upFault}
 use Rattle.syntax.specs.Marks.{moveUp}
-use Rattle.syntax.specs.Reader.{Out, ok, bad, deep, fail, after, Turn, again, done, turnOf, repeat}
+use Rattle.syntax.specs.Reader.{ok, bad, fail, after, Turn, again, done, turnOf, repeat}
 use Rattle.syntax.specs.Helper.{skipUnicodeEscapeSequence}
 use Rattle.syntax.specs.Expression.{escapeTurn, stringTurn}
 use Rattle.laws.specs.Bytes.{byCase, clash, run-le}
@@ -26,9 +26,8 @@ use Rattle.parser.specs.Place.{Passed, Found}
 use Rattle.parser.specs.Scan.{isEscaped, isPlain, Onward, Ended, Turned}
 use Rattle.parser.specs.declared.helper.Place.{Place}
 use Rattle.parser.specs.declared.helper.Place.the-variants.{At, Bad}
-use Rattle.parser.proofs.Tests.{by}
 use Rattle.parser.proofs.Run.{run-none, run-more, passed-stops}
-use Rattle.parser.proofs.Places.{Read, found-ok, found-fault, found-fail, found-at, found-bad, found-after, found-within}
+use Rattle.parser.proofs.Places.{Read, found-ok, found-fault, found-fail, found-at, found-bad, found-after}
 use Rattle.parser.proofs.Turns.{Turning, turning-more, found-turns}
 
 -- ---- widths of characters
