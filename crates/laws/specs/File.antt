@@ -24,7 +24,7 @@ use Rattle.syntax.specs.Core.{Fields, fields, termFields, Entry, comment, messa
 use Rattle.laws.specs.Bytes.{byCase, pick}
 use Rattle.laws.specs.Stable.{Holds, holds-map}
 use Rattle.laws.specs.Lines.Join.{Levelled, levelled}
-use Rattle.laws.specs.Balanced.{Good, good-more, Kind}
+use Rattle.laws.specs.Balanced.{Kind, forest-more}
 use Rattle.laws.specs.Bounds.{Uses, uses-nil, uses-text, uses-less, uses-after, uses-node, ok-uses, bad-within, deep-within}
 use Rattle.laws.specs.Bounds.Comment.{levelOf-some}
 use Rattle.laws.specs.Bounds.Pattern.{InsideBounds, block-le}
@@ -76,7 +76,7 @@ kind-le (comment l) v s = pick (λ i. i ≤ 6) (eqb l 1 && v) 6 (2 + l) (λ q. o
 
 -- with more bytes
 longer : {c : ℕ} {s : List ℕ} {ms : List Mark} {k : ℕ} → Uses c s ms k → (j : ℕ) → k + j ≤ length s → Uses c s ms (k + j)
-longer {ms = ms} {k} u j h = record { within = h; room = omega (arith, u .room); good = good-more k (k + j) (omega arith) ms (u .good) }
+longer {ms = ms} {k} u j h = record { within = h; room = omega (arith, u .room); forest = forest-more (omega arith) (u .forest) }
 
 entry-kind : (i : ℕ) → i ≤ 6 → Kind false i
 unfolding isText

@@ -16,7 +16,7 @@ use Rattle.syntax.specs.Expression.{Inline, string, number, variable, function,
 use Rattle.laws.specs.Bytes.{pick, startsWith-some}
 use Rattle.laws.specs.Stable.{Holds}
 use Rattle.laws.specs.Stable.Argument.{Fits, inline-fits, variable-value, term-value, nested-value, reference-value}
-use Rattle.laws.specs.Balanced.{Kind, good-more}
+use Rattle.laws.specs.Balanced.{Kind, forest-more}
 use Rattle.laws.specs.Bounds as Bounds
 use Rattle.laws.specs.Bounds.{Uses, uses-nil, uses-text, uses-less, uses-after, uses-node, Bounded, used, stopped, bounded-less, after-bounded, wrap-bounded, next-bounded, Bounds, bind-by, bind, then, then-inside, less, pure-bounds, fail-bounds, node-bounds, TurnBounded, goes, ends, turnOf-bounded, turn-less, TurnBounds, repeat-bounds}
 use Rattle.laws.specs.Bounds.Helper.{inline-bounds, eol-bounds, blank-bounds, takeByteIf-bounds, expectByte-bounds, numberLiteral-bounds, identifier-bounds, escape-bounds}
@@ -264,7 +264,7 @@ module _ {n : ℕ} {sub : Inside} (law : InsideBounds n sub) where
       let (l, h) = pastBlank-within k s (u .within) in
       let p = pastBlank k s in
       pick (Bounded n (λ _. 4) s) (startsWith 58 (drop p s)) _ _ (λ q. bounded-less (λ _. omega arith) (named-bounded names i p s (omega arith) h (omega (arith, u .room))))
-      (λ q. positional-bounded names (record { within = h; room = omega (arith, u .room); good = good-more k p l ms (u .good) }))
+      (λ q. positional-bounded names (record { within = h; room = omega (arith, u .room); forest = forest-more l (u .forest) }))
   argumentBy-bounded names (ok (message i true) ms k) (used u) f = positional-bounded names u
   argumentBy-bounded names (ok string ms k) (used u) f = positional-bounded names u
   argumentBy-bounded names (ok number ms k) (used u) f = positional-bounded names u
