@@ -63,11 +63,6 @@ eol-le [] = omega arith
 eol-le (b ∷ []) = byCase (eqb b 10) (λ q. rw (q, eol) (omega arith)) (λ q. byCase (eqb b 13) (λ r. rw (q, eol) (rw r (omega arith))) (λ r. rw (q, eol) (rw r (omega arith))))
 eol-le (b ∷ c ∷ cs) = byCase (eqb b 10) (λ q. rw (q, eol) (omega arith)) (λ q. rw (q, eol) (pick (λ e. e ≤ suc (suc (length cs))) (eqb b 13 && eqb c 10) 2 0 (λ r. omega arith) (λ r. omega arith)))
 
-pub starts-some : (t : ℕ → Bool) (s : List ℕ) → starts t s ≡ true → 0 < length s
-unfolding starts
-starts-some t [] h = clash h refl
-starts-some t (b ∷ bs) h = omega arith
-
 pub startsWith-some : (b : ℕ) (s : List ℕ) → startsWith b s ≡ true → 0 < length s
 unfolding startsWith
 startsWith-some b [] h = clash h refl

@@ -46,10 +46,6 @@ pub moveUp-zero : (ms : List Mark) → moveUp 0 ms ≡ ms
 unfolding moveUp
 moveUp-zero ms = map-same (up 0) up-zero ms
 
-pub moveUp-nil : (k : ℕ) → moveUp k [] ≡ []
-unfolding moveUp
-moveUp-nil k = refl
-
 pub moveUp-length : (k : ℕ) (ms : List Mark) → length (moveUp k ms) ≡ length ms
 unfolding moveUp
 moveUp-length k ms = length-map ms (up k)
@@ -144,11 +140,6 @@ unfolding following
 following-twice ms es k ns fs j (read os gs) = ap₂ (λ a b. read a b) (marks-after ms k ns j os) (errors-after es k fs j gs)
 following-twice ms es k ns fs j (refused i) = ap refused (sym (add-assoc k j i))
 
-pub following-none : (r : Reading) → following [] [] 0 r ≡ r
-unfolding following
-following-none (read ms es) = ap₂ read (moveUp-zero ms) (upErrors-zero es)
-following-none (refused k) = ap refused (zero-add k)
-
 -- ---- readers
 
 next-after : {A B : Type 0} (s : List ℕ) (ms : List Mark) (k : ℕ) (q : A → Reader B) (o : Out A) → next s q (after ms k o) ≡ after ms k (next (drop k s) q o)
@@ -169,16 +160,3 @@ bind-bind {A} {B} {C} p q r s = go (p s)
 pub then-then : {A B C : Type 0} (p : Reader A) (q : Reader B) (r : Reader C) (s : List ℕ) → ((p >> q) >> r) s ≡ (p >> (q >> r)) s
 unfolding _>>_ _>>=_
 then-then p q r s = bind-bind p (λ _. q) (λ _. r) s
-
-pub pure-bind : {A B : Type 0} (a : A) (q : A → Reader B) (s : List ℕ) → (pure a >>= q) s ≡ q a s
-unfolding _>>=_ pure next
-pure-bind a q s = after-none (q a s)
-
-pub bind-pure : {A : Type 0} (p : Reader A) (s : List ℕ) → (p >>= pure) s ≡ p s
-unfolding _>>=_ pure next after moveUp
-bind-pure {A} p s = go (p s)
-  where
-    go : (o : Out A) → next s pure o ≡ o
-    go (ok a ms k) = ap₂ (ok a) (append-nil ms) (add-zero k)
-    go (bad f k) = refl
-    go (deep k) = refl

@@ -12,7 +12,7 @@ use Rattle.syntax.specs.Bytes.{startsWith, starts, isLetter, isDigit, isNamePar
 use Rattle.syntax.specs.Marks.{textNode}
 use Rattle.syntax.specs.Reader.{Out, ok, bad, Reader, fail, _>>=_, _>>_, pure, again, done, repeat}
 use Rattle.syntax.specs.Helper.{skipBlankInline, skipEol, blankTurn, skipBlank, blockTurn, skipBlankBlock, takeByteIf, expectByte, skipDigits, fraction, number, asText, getNumberLiteral, getIdentifier, skipUnicodeEscapeSequence}
-use Rattle.laws.specs.Bytes.{byCase, clash, pick, run-le, spaces-le, eol-le, starts-some, startsWith-some}
+use Rattle.laws.specs.Bytes.{byCase, clash, pick, run-le, spaces-le, eol-le, startsWith-some}
 use Rattle.laws.specs.Balanced.{Kind}
 use Rattle.laws.specs.Bounds.{Uses, uses-nil, uses-text, Bounded, used, stopped, tooDeep, bounded-less, Bounds, bind, then, less, pure-bounds, fail-bounds, TurnBounded, goes, ends, TurnBounds, repeat-bounds}
 
