@@ -231,16 +231,6 @@ pub node-closes : {A : Type 0} {p : Reader A} (kind : ℕ) → Closes p → Clos
 unfolding inNode
 node-closes kind r = relabel-closes {f = wrap kind} (wrap-relabels kind) r
 
--- a choice by a test
-pub pick-within : {A : Type 0} (n : ℕ) (v : Bool) (o u : Out A) → (v ≡ true → Within n o) → (v ≡ false → Within n u) → Within {A = A} n (elim v [ true ↦ o | false ↦ u ])
-pick-within n true o u f g = f refl
-pick-within n false o u f g = g refl
-
-pub pick-carries : {A : Type 0} (N : ℕ → Type 0) (v : Bool) (o u o′ u′ : Out A) → (v ≡ true → Carries N o o′) → (v ≡ false → Carries N u u′)
-    → Carries {A = A} N (elim v [ true ↦ o | false ↦ u ]) (elim v [ true ↦ o′ | false ↦ u′ ])
-pick-carries N true o u o′ u′ f g = f refl
-pick-carries N false o u o′ u′ f g = g refl
-
 -- turns of a loop, with what holds of the state and the rest of x before each
 abbrev pub TurnWithin : {S A : Type 0} → (S → ℕ → Type 0) → ℕ → Turn S A → Type 0
 TurnWithin H n (again st ms k) = (k ≤ n) × H st k
@@ -279,15 +269,6 @@ unfolding turnOf
 turnOf-within A n (ok a ms k) c = (c, tt)
 turnOf-within A n (bad f k) c = tt
 turnOf-within A n (deep k) c = tt
-
-pub pick-turn-within : {S A : Type 0} (H : S → ℕ → Type 0) (n : ℕ) (v : Bool) (o u : Turn S A) → (v ≡ true → TurnWithin H n o) → (v ≡ false → TurnWithin H n u) → TurnWithin {S = S} {A = A} H n (elim v [ true ↦ o | false ↦ u ])
-pick-turn-within H n true o u f g = f refl
-pick-turn-within H n false o u f g = g refl
-
-pub pick-turn-carries : {S A : Type 0} (H : S → ℕ → Type 0) (N : ℕ → Type 0) (v : Bool) (o u o′ u′ : Turn S A) → (v ≡ true → TurnCarries H N o o′) → (v ≡ false → TurnCarries H N u u′)
-    → TurnCarries {S = S} {A = A} H N (elim v [ true ↦ o | false ↦ u ]) (elim v [ true ↦ o′ | false ↦ u′ ])
-pick-turn-carries H N true o u o′ u′ f g = f refl
-pick-turn-carries H N false o u o′ u′ f g = g refl
 
 module _ {S A : Type 0} (t : S → List ℕ → Turn S A) where
   step-within : (H : S → ℕ → Type 0) (n : ℕ) (x y : List ℕ) (w : Turn S A) → TurnWithin H (length x) w
