@@ -511,22 +511,3 @@ unfolding next
 plain-next P s q (ok a ms k) h = plain-after P ms k (q a (drop k s)) (h a (drop k s))
 plain-next P s q (bad f k) h = tt
 plain-next P s q (deep k) h = tt
-
--- more turns change no answer
-module _ {S A : Type 0} (t : S → List ℕ → Turn S A) where
-  pub loop-more : (n n′ : ℕ) (st : S) (s : List ℕ) (a : A) (ms : List Mark) (k : ℕ) → n ≤ n′ → loop n t st s ≡ ok a ms k → loop n′ t st s ≡ ok a ms k
-  unfolding loop after
-  loop-more zero n′ st s a ms k le e = let z : _≡_ {A = ℕ} 0 1 = cc in absurd (omega arith)
-  loop-more (suc n) zero st s a ms k le e = absurd (not-suc-le-zero le)
-  loop-more (suc n) (suc n′) st s a ms k le e = go (t st s) (λ st′ j b ns i f. loop-more n n′ st′ (drop j s) b ns i (le-of-suc-le-suc le) f) e
-    where
-      inner : (o o′ : Out A) (ns : List Mark) (j : ℕ) → ((b : A) (os : List Mark) (i : ℕ) → o ≡ ok b os i → o′ ≡ ok b os i) → after ns j o ≡ ok a ms k → after ns j o′ ≡ ok a ms k
-      inner (ok b os i) o′ ns j f g = ap (after ns j) (f b os i refl) ∙ g
-      inner (bad d i) o′ ns j f g = let z : _≡_ {A = ℕ} 0 1 = cc in absurd (omega arith)
-      inner (deep i) o′ ns j f g = let z : _≡_ {A = ℕ} 0 1 = cc in absurd (omega arith)
-
-      go : (w : Turn S A) → ((st′ : S) (j : ℕ) (b : A) (ns : List Mark) (i : ℕ) → loop n t st′ (drop j s) ≡ ok b ns i → loop n′ t st′ (drop j s) ≡ ok b ns i)
-          → _≡_ {A = Out A} (elim w [ again st′ ms k ↦ after ms k (loop n t st′ (drop k s)) | done o ↦ o ]) (ok a ms k)
-          → _≡_ {A = Out A} (elim w [ again st′ ms k ↦ after ms k (loop n′ t st′ (drop k s)) | done o ↦ o ]) (ok a ms k)
-      go (again st′ ns j) f g = inner (loop n t st′ (drop j s)) (loop n′ t st′ (drop j s)) ns j (f st′ j) g
-      go (done o) f g = g
