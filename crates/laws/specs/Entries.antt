@@ -187,42 +187,6 @@ module _ (sub : Inside) where
       go (bad f k) p = absurd (junk-free n b bs ma f k h p)
       go (deep k) p = absurd (not-deep n b bs ma [] k h p)
 
-  pub entries-more : (n n′ : ℕ) (s : List ℕ) (ms : List Mark) (es : List Error) → n ≤ n′ → entries n sub s ≡ read ms es → entries n′ sub s ≡ read ms es
-  unfolding entries following
-  entries-more zero n′ s ms es le e = let z : _≡_ {A = ℕ} 0 1 = cc in absurd (omega arith)
-  entries-more (suc n) zero s ms es le e = absurd (not-suc-le-zero le)
-  entries-more (suc n) (suc n′) [] ms es le e = e
-  entries-more (suc n) (suc n′) (b ∷ bs) ms es le e = go (getEntry sub (b ∷ bs)) (λ r ns fs h. entries-more n n′ r ns fs (le-of-suc-le-suc le) h) e
-    where
-      inner : (r r′ : Reading) (ns : List Mark) (xs : List Error) (k : ℕ) → ((os : List Mark) (fs : List Error) → r ≡ read os fs → r′ ≡ read os fs) → following ns xs k r ≡ read ms es → following ns xs k r′ ≡ read ms es
-      inner (read os fs) r′ ns xs k f g = ap (following ns xs k) (f os fs refl) ∙ g
-      inner (refused j) r′ ns xs k f g = let z : _≡_ {A = ℕ} 0 1 = cc in absurd (omega arith)
-
-      body : ℕ → Out Entry → Reading
-      body m o = elim o [
-        | ok e ms k ↦
-            let gap = skipBlankBlock (drop k (b ∷ bs)) in
-            let rest = drop (k + usedBy gap) (b ∷ bs) in
-            following (node (kindOfEntry e (ltb (count gap) 2 && isNamed (getEntry sub rest))) ms) [] (k + usedBy gap) (entries m sub rest)
-        | bad f k ↦
-            let j = junkEnd k (b ∷ bs) in
-            let gap = skipBlankBlock (drop j (b ∷ bs)) in
-            following (textNode 7 0 j) (record { fault = f; junkFrom = 0; junkTill = j } ∷ []) (j + usedBy gap) (entries m sub (drop (j + usedBy gap) (b ∷ bs)))
-        | deep k ↦ refused k
-      ]
-
-      go : (o : Out Entry) → ((r : List ℕ) (ns : List Mark) (fs : List Error) → entries n sub r ≡ read ns fs → entries n′ sub r ≡ read ns fs) → body n o ≡ read ms es → body n′ o ≡ read ms es
-      go (ok d ns k) f h =
-          let gap = skipBlankBlock (drop k (b ∷ bs)) in
-          let r = drop (k + usedBy gap) (b ∷ bs) in
-          inner (entries n sub r) (entries n′ sub r) (node (kindOfEntry d (ltb (count gap) 2 && isNamed (getEntry sub r))) ns) [] (k + usedBy gap) (f r) h
-      go (bad x k) f h =
-          let j = junkEnd k (b ∷ bs) in
-          let gap = skipBlankBlock (drop j (b ∷ bs)) in
-          let r = drop (j + usedBy gap) (b ∷ bs) in
-          inner (entries n sub r) (entries n′ sub r) (textNode 7 0 j) (record { fault = x; junkFrom = 0; junkTill = j } ∷ []) (j + usedBy gap) (f r) h
-      go (deep k) f h = h
-
 -- ---- blank blocks
 
 pub block-none : (s : List ℕ) → eol (drop (spaces s) s) ≡ 0 → skipBlankBlock s ≡ ok 0 [] 0

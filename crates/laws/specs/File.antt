@@ -1,7 +1,7 @@
 -- A file's entries, one by one. `First`: the entry or junk at the start of a rest, with the blank lines after it. `Passed`: some first entries of a
 -- rest. What a reading has, it has part way: its marks, its errors and where it stands are bounded by the bytes passed.
 use Prim.Native.Nat.{ℕ, zero, suc, _+_, _-_, _*_, _≤_, _<_}
-use native.Mathlib.Nat.{not-suc-le-zero, add-assoc}
+use native.Mathlib.Nat.{not-suc-le-zero, le-of-suc-le-suc}
 use native.Mathlib.Omega.{arith}
 use mathlib.Core.Path.{_≡_, refl, sym, ap, ap₂, _∙_, subst}
 use mathlib.Core.Logic.{_⊎_, inl, inr}
@@ -126,6 +126,20 @@ module _ {n : ℕ} {sub : Inside} (law : InsideBounds n sub) where
 
 -- ---- the whole
 
+-- a reading that is not refused is kept
+pub data ReadKept (r : Reading) : Reading → Type 0 where
+  sameReading : ReadKept r r
+  lostReading : {r′ : Reading} (k : ℕ) → r ≡ refused k → ReadKept r r′
+
+pub following-kept : {r r′ : Reading} (ms : List Mark) (es : List Error) (k : ℕ) → ReadKept r r′ → ReadKept (following ms es k r) (following ms es k r′)
+unfolding following
+following-kept ms es k sameReading = sameReading
+following-kept ms es k (lostReading j e) = lostReading (k + j) (ap (following ms es k) e)
+
+pub read-kept : {r r′ : Reading} {ms : List Mark} {es : List Error} → ReadKept r r′ → r ≡ read ms es → r′ ≡ read ms es
+read-kept sameReading e = e
+read-kept (lostReading k d) e = let z : _≡_ {A = ℕ} 0 1 = cc in absurd (omega arith)
+
 module _ (sub : Inside) where
   pub entries-first : (m : ℕ) {b : ℕ} {bs : List ℕ} {ms : List Mark} {es : List Error} {k : ℕ} → First sub (b ∷ bs) ms es k
       → entries (suc m) sub (b ∷ bs) ≡ following ms es k (entries m sub (drop k (b ∷ bs)))
@@ -149,6 +163,20 @@ module _ (sub : Inside) where
   pub entries-far : (m b : ℕ) (bs : List ℕ) {k : ℕ} → getEntry sub (b ∷ bs) ≡ deep k → entries (suc m) sub (b ∷ bs) ≡ refused k
   unfolding entries
   entries-far m b bs h = rw (h, entries)
+
+  -- a reading that is not refused is the same with more entries allowed
+  pub entries-more : (m m′ : ℕ) (s : List ℕ) (ms : List Mark) (es : List Error) → m ≤ m′ → entries m sub s ≡ read ms es → entries m′ sub s ≡ read ms es
+  entries-more m m′ s ms es l e = read-kept (go m m′ s l) e
+    where
+      go : (m m′ : ℕ) (s : List ℕ) → m ≤ m′ → ReadKept (entries m sub s) (entries m′ sub s)
+      go zero m′ s l = unfold entries in (lostReading 0 refl)
+      go (suc m) zero s l = absurd (not-suc-le-zero l)
+      go (suc m) (suc m′) [] l = unfold entries in sameReading
+      go (suc m) (suc m′) (b ∷ bs) l = by (begins b bs) (λ r. go m m′ r (le-of-suc-le-suc l))
+        where
+          by : Begins b bs → ((r : List ℕ) → ReadKept (entries m sub r) (entries m′ sub r)) → ReadKept (entries (suc m) sub (b ∷ bs)) (entries (suc m′) sub (b ∷ bs))
+          by (first {ms} {es} {k} f) ih = rw (entries-first m f, entries-first m′ f) (following-kept ms es k (ih (drop k (b ∷ bs))))
+          by (far {k} h) ih = rw (entries-far m b bs h, entries-far m′ b bs h) sameReading
 
   -- a reading: all entries are passed, or the one after those passed is too deep
   pub data Result (s : List ℕ) : Reading → Type 0 where

@@ -27,7 +27,8 @@ use Rattle.laws.specs.Moving.{moveUp-append, moveUp-twice, moveUp-zero, upError
 use Rattle.laws.specs.Stable.Comment.{after-ok, OneLine, starts-add, starts-later, Cutting, before, newline, end, Goes, GoesBy, cutting}
 use Rattle.laws.specs.Lines.Join.{Own, Other, own-or-other}
 use Rattle.laws.specs.Lines.Lands.{Lands, whole-lands, block-lands, entry-lands}
-use Rattle.laws.specs.Entries.{lastLine-at, lastLine-drop, Tail, tail-of, following-read, read-read, map-nil, weight, weight-append, weight-up, weight-node, entries-with, junk-free, not-deep, Step, step-of, entries-more, block-fresh, block-ten, block-two, block-one, entry-comment, hash-named, nil-named, nil-entry, not-dotted}
+use Rattle.laws.specs.File.{entries-more}
+use Rattle.laws.specs.Entries.{lastLine-at, lastLine-drop, Tail, tail-of, following-read, read-read, map-nil, weight, weight-append, weight-up, weight-node, entries-with, junk-free, not-deep, Step, step-of, block-fresh, block-ten, block-two, block-one, entry-comment, hash-named, nil-named, nil-entry, not-dotted}
 use Rattle.syntax.specs.Cut.{lastLine, hashes, Joins}
 
 pub asComment-ok : (o : Out ℕ) (e : Entry) (ms : List Mark) (k : ℕ) → asComment o ≡ ok e ms k → (l : ℕ) × (e ≡ comment l) × (o ≡ ok l ms k)
