@@ -1,15 +1,15 @@
 -- Marks in nodes. `Forest k`: every node that opens closes; T kinds, and no others, have places, a text's in order and at most k.
 pub mod Nodes
-use Prim.Native.Nat.{ℕ, zero, suc, _+_, _-_, _≤_, _<_}
+use Prim.Native.Nat.{ℕ, suc, _+_, _-_, _≤_, _<_}
 use native.Mathlib.Nat.{zero-add}
 use native.Mathlib.Omega.{arith}
-use mathlib.Core.Path.{_≡_, refl, sym, ap, _∙_, subst}
+use mathlib.Core.Path.{_≡_, refl, sym, subst}
 use mathlib.Core.Bool.{Bool, true, false}
 use mathlib.Core.List.{List, [], _∷_, _++_, append-assoc, List·Memᴰ, List·Memᴰ·head, List·Memᴰ·tail}
 use lib.Dec.{ltb}
 use borrow.Author.Tests.{le-ltb}
 use Rattle.syntax.specs.Kind.{isText}
-use Rattle.syntax.specs.Marks.{Mark, plain, placed, kindOf, up, moveUp, node, textNode}
+use Rattle.syntax.specs.Marks.{Mark, plain, placed, kindOf, moveUp, node, textNode}
 use Rattle.laws.specs.Moving.{moveUp-append}
 
 -- a node's kind: below 100, and a T kind or not

@@ -1,15 +1,15 @@
 -- Bytes before a cut, and tests over them.
-use Prim.Native.Nat.{ℕ, zero, suc, _+_, _-_, _≤_, _<_, suc-le-suc}
-use mathlib.Core.Path.{_≡_, refl, sym, ap, _∙_, subst}
-use mathlib.Core.Bool.{Bool, true, false, _&&_, _||_, not}
+use Prim.Native.Nat.{ℕ, zero, suc, _≤_, _<_, suc-le-suc}
+use mathlib.Core.Path.{_≡_, refl, ap}
+use mathlib.Core.Bool.{Bool, true, false, _&&_}
 use mathlib.Core.List.{List, [], _∷_, _++_}
 use native.Mathlib.Omega.{arith}
-use lib.ListN.{drop, length, take}
-use lib.Dec.{eqb, ltb}
-use borrow.Author.Tests.{eqb-true, eqb-false, ltb-true, ltb-false}
+use lib.ListN.{drop, length}
+use lib.Dec.{eqb}
+use borrow.Author.Tests.{eqb-true}
 use lib.Seq.{drop-append-le}
 pub use Rattle.syntax.specs.Bytes.{Whole, isFresh, Fresh}
-use Rattle.syntax.specs.Bytes.{startsWith, starts, isLetter, isDigit, isNamePart, isHex, spaces, eol, run, firstWidth}
+use Rattle.syntax.specs.Bytes.{startsWith, isLetter, spaces, eol, run}
 
 pub whole-tail : (b : ℕ) (bs : List ℕ) → Whole (b ∷ bs) → Whole bs
 whole-tail b [] w = tt

@@ -1,31 +1,28 @@
 -- The entries of a file, and its last line.
-use Prim.Native.Nat.{ℕ, zero, suc, _+_, _-_, _≤_, _<_}
-use native.Mathlib.Nat.{not-suc-le-zero, le-of-suc-le-suc, add-zero, zero-add, suc-add, add-suc, min-eq-left}
+use Prim.Native.Nat.{ℕ, zero, suc, _+_, _≤_, _<_}
+use native.Mathlib.Nat.{not-suc-le-zero, add-zero, zero-add}
 use native.Mathlib.Omega.{arith}
-use mathlib.Core.Path.{_≡_, refl, sym, ap, ap₂, _∙_, subst}
-use mathlib.Core.Logic.{_⊎_, inl, inr}
-use mathlib.Core.Bool.{Bool, true, false, _&&_, _||_, not}
-use mathlib.Core.List.{List, [], _∷_, _++_, map, append-nil, append-assoc}
-use lib.ListN.{drop, length, take, length-drop, length-take, length-append, take-append-drop, drop-of-length-le}
-use lib.Seq.{drop-drop, drop-length, drop-append-seam}
+use mathlib.Core.Path.{_≡_, refl, sym, ap, _∙_, subst}
+use mathlib.Core.Bool.{true, false, _&&_}
+use mathlib.Core.List.{List, [], _∷_, _++_, map}
+use lib.ListN.{drop, length, take, length-drop, take-append-drop}
+use lib.Seq.{drop-drop}
 use lib.Dec.{eqb, ltb}
-use borrow.Author.Tests.{eqb-true, eqb-false, ltb-true, ltb-false, eq-eqb, ne-eqb, le-ltb}
-use Rattle.syntax.specs.declared.errors.ErrorKind.the-variants as Errors
+use borrow.Author.Tests.{eqb-true, eq-eqb, ne-eqb, le-ltb}
 use Rattle.syntax.specs.Bytes.{startsWith, starts, isLetter, spaces, eol, run}
 use Rattle.syntax.specs.Marks.{Mark, plain, placed, kindOf, moveUp, node, textNode}
 use Rattle.syntax.specs.declared.errors.ParserError.{ParserError}
-use Rattle.syntax.specs.Reader.{Out, ok, bad, deep, Reader, fail, next, _>>=_, after, Turn, again, done, loop, repeat}
+use Rattle.syntax.specs.Reader.{Out, ok, bad, deep, fail, next, _>>=_, after, loop, repeat}
 use Rattle.syntax.specs.Helper.{skipBlankBlock, blockTurn, getIdentifier}
-use Rattle.syntax.specs.Comment.{getComment, commentTurn}
+use Rattle.syntax.specs.Comment.{getComment}
 use Rattle.syntax.specs.Pattern.{Inside, usedBy}
-use Rattle.syntax.specs.Core.{Fields, fields, termFields, Entry, comment, message, term, asMessage, asTerm, asComment, getEntry, junkEnd, lineStartsAt, Error, upError, Reading, read, refused, following, isNamed, count, kindOfEntry, entries}
-use Rattle.laws.specs.Bytes.{Whole, whole-tail, whole-drop, nonempty, Fresh, isFresh, Stop, stop-fresh, byCase, clash, drop-app, fresh-spaces, fresh-eol, not-fresh}
-use Rattle.laws.specs.Stable.{Mode, loose, fresh, any, none, Within, Holds, TurnHolds, loop-holds, Sure, sure-ok}
+use Rattle.syntax.specs.Core.{fields, Entry, asMessage, asComment, getEntry, junkEnd, lineStartsAt, Error, upError, Reading, read, refused, following, isNamed, count, kindOfEntry, entries}
+use Rattle.laws.specs.Bytes.{Whole, Fresh, Stop, byCase, clash, fresh-spaces, fresh-eol}
+use Rattle.laws.specs.Stable.{Holds, TurnHolds, loop-holds, sure-ok}
 use Rattle.laws.specs.Stable.Helper.{block-sure}
-use Rattle.laws.specs.Stable.Pattern.{InsideLaw, block-within, block-same}
-use Rattle.laws.specs.Stable.Entry.{dotted, Cut, entry-ends, entry-stops}
-use Rattle.laws.specs.Stable.Comment.{after-ok, lineRun, lineRun-whole, lineRun-here, lineRun-on, OneLine, starts-add, starts-later}
-use Rattle.syntax.specs.Cut.{oneLine, lastLine, hashes, Joins}
+use Rattle.laws.specs.Stable.Entry.{dotted}
+use Rattle.laws.specs.Stable.Comment.{after-ok, lineRun, lineRun-here, lineRun-on, OneLine, starts-add}
+use Rattle.syntax.specs.Cut.{oneLine, lastLine}
 
 -- ---- the last line
 

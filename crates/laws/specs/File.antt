@@ -1,12 +1,11 @@
 -- A file's entries, one by one. `First`: the entry or junk at the start of a rest, with the blank lines after it. `Passed`: some first entries of a
 -- rest. What a reading has, it has part way: its marks, its errors and where it stands are bounded by the bytes passed.
-use Prim.Native.Nat.{ℕ, zero, suc, _+_, _-_, _*_, _≤_, _<_}
+use Prim.Native.Nat.{ℕ, zero, suc, _+_, _≤_, _<_}
 use native.Mathlib.Nat.{not-suc-le-zero, le-of-suc-le-suc}
 use native.Mathlib.Omega.{arith}
-use mathlib.Core.Path.{_≡_, refl, sym, ap, ap₂, _∙_, subst}
-use mathlib.Core.Logic.{_⊎_, inl, inr}
+use mathlib.Core.Path.{_≡_, refl, sym, ap, _∙_, subst}
 use mathlib.Core.Bool.{Bool, true, false, _&&_, _||_, not}
-use mathlib.Core.List.{List, [], _∷_, _++_, map, append-nil}
+use mathlib.Core.List.{List, [], _∷_, _++_, map}
 use lib.ListN.{drop, length, length-append, length-drop, length-map}
 use lib.Seq.{drop-drop}
 use lib.Dec.{eqb, ltb}
@@ -17,11 +16,11 @@ use Rattle.syntax.specs.Marks.{Mark, moveUp, node, textNode}
 use Rattle.syntax.specs.declared.errors.ParserError.{ParserError}
 use Rattle.syntax.specs.Reader.{Out, ok, bad, deep, repeat}
 use Rattle.syntax.specs.Helper.{skipBlankBlock}
-use Rattle.syntax.specs.Comment.{levelOf, getComment, commentTurn}
+use Rattle.syntax.specs.Comment.{levelOf, getComment}
 use Rattle.syntax.specs.Pattern.{Inside, usedBy}
 use Rattle.syntax.specs.Expression.{level}
 use Rattle.syntax.specs.Core.{Fields, fields, termFields, Entry, comment, message, term, asMessage, asTerm, asComment, getEntry, junkEnd, Error, upError, Reading, read, refused, following, isNamed, count, kindOfEntry, entries, parse}
-use Rattle.laws.specs.Bytes.{byCase, pick}
+use Rattle.laws.specs.Bytes.{pick}
 use Rattle.laws.specs.Stable.{Holds, holds-map}
 use Rattle.laws.specs.Lines.Join.{Levelled, levelled}
 use Rattle.laws.specs.Balanced.{Kind, forest-more}

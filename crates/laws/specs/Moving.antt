@@ -1,9 +1,8 @@
 -- Moving up composes and distributes over marks, errors, answers and readings; sequencing of readers associates.
-use Prim.Native.Nat.{ℕ, zero, suc, _+_}
-use native.Mathlib.Omega.{arith}
-use native.Mathlib.Nat.{add-assoc, zero-add, add-zero}
-use mathlib.Core.Path.{_≡_, refl, sym, ap, ap₂, _∙_, subst}
-use mathlib.Core.List.{List, [], _∷_, _++_, map, append-nil, append-assoc}
+use Prim.Native.Nat.{ℕ, _+_}
+use native.Mathlib.Nat.{add-assoc, zero-add}
+use mathlib.Core.Path.{_≡_, refl, sym, ap, ap₂, _∙_}
+use mathlib.Core.List.{List, [], _∷_, _++_, map, append-assoc}
 use lib.ListN.{drop, length, length-map}
 use lib.Seq.{drop-drop}
 use Rattle.syntax.specs.declared.errors.ErrorKind.the-variants as Errors
@@ -11,7 +10,7 @@ use Rattle.syntax.specs.Marks.{Mark, plain, placed, up, moveUp}
 use Rattle.syntax.specs.declared.errors.ErrorKind.{ErrorKind}
 use Rattle.syntax.specs.declared.errors.ParserError.{ParserError}
 use Rattle.syntax.specs.Errors.{upKind, upFault}
-use Rattle.syntax.specs.Reader.{Out, ok, bad, deep, Reader, after, next, _>>=_, _>>_, pure}
+use Rattle.syntax.specs.Reader.{Out, ok, bad, deep, Reader, after, next, _>>=_, _>>_}
 use Rattle.syntax.specs.Core.{Error, upError, Reading, read, refused, following}
 
 pub map-append : {A B : Type 0} (f : A → B) (xs ys : List A) → map f (xs ++ ys) ≡ map f xs ++ map f ys

@@ -9,22 +9,17 @@ pub mod Argument
 pub mod Expression
 pub mod Entry
 pub mod Comment
-use Prim.Native.Nat.{ℕ, zero, suc, _+_, _-_, _≤_, _<_, suc-le-suc}
+use Prim.Native.Nat.{ℕ, zero, suc, _+_, _-_, _≤_, _<_}
 use native.Mathlib.Nat.{le-of-suc-le-suc, not-suc-le-zero}
 use native.Mathlib.Omega.{arith}
 use mathlib.Core.Path.{_≡_, refl, sym, ap, _∙_, subst}
-use mathlib.Core.Bool.{Bool, true, false, _&&_, _||_, not}
 use mathlib.Core.List.{List, [], _∷_, _++_, append-nil}
-use lib.ListN.{drop, length, take, length-drop, length-append}
-use lib.Dec.{eqb, ltb}
-use borrow.Author.Tests.{eqb-true, eqb-false, ltb-true, ltb-false}
-use Rattle.syntax.specs.Bytes.{startsWith}
+use lib.ListN.{drop, length, length-drop, length-append}
 use Rattle.syntax.specs.Marks.{Mark, moveUp, node}
 use Rattle.syntax.specs.declared.errors.ErrorKind.{ErrorKind}
 use Rattle.syntax.specs.declared.errors.ParserError.{ParserError}
-use Rattle.syntax.specs.Errors.{upFault}
 use Rattle.syntax.specs.Reader.{Out, ok, bad, deep, Reader, after, next, _>>=_, _>>_, pure, fail, wrap, inNode, Turn, again, done, turnOf, loop, repeat}
-use Rattle.laws.specs.Bytes.{Whole, whole-drop, Fresh, Stop, byCase, clash, drop-app}
+use Rattle.laws.specs.Bytes.{Whole, whole-drop, Fresh, Stop, drop-app}
 
 pub data Mode : Type 0 where
   loose fresh any none : Mode

@@ -1,7 +1,7 @@
 -- pattern.rs within bounds.
-use Prim.Native.Nat.{ℕ, zero, suc, _+_, _-_, _*_, _≤_, _<_, min}
+use Prim.Native.Nat.{ℕ, zero, suc, _+_, _-_, _*_, _≤_, _<_}
 use native.Mathlib.Omega.{arith}
-use mathlib.Core.Path.{_≡_, refl, sym, ap, subst}
+use mathlib.Core.Path.{_≡_, refl, sym, subst}
 use mathlib.Core.Bool.{Bool, true, false, _&&_, _||_, not}
 use mathlib.Core.List.{List, [], _∷_, _++_}
 use mathlib.Core.Option.{Option, some, none}
@@ -11,7 +11,7 @@ use borrow.Author.Tests.{eqb-true, eqb-false, ltb-true}
 use Rattle.syntax.specs.Bytes.{run, eol, spaces}
 use Rattle.syntax.specs.Kind.{isText}
 use Rattle.syntax.specs.Marks.{Mark, plain, moveUp, textNode, node}
-use Rattle.syntax.specs.Reader.{Out, ok, bad, deep, after, Turn, again, done, repeat}
+use Rattle.syntax.specs.Reader.{Out, ok, bad, deep, after, Turn, repeat}
 use Rattle.syntax.specs.Helper.{skipBlankBlock}
 use Rattle.syntax.specs.Pattern.{Inside, Role, initialLineStart, lineStart, continuation, Slice, isTextByte, endsInCr, lineSlice, sliceBy, getTextSlice, Element, placeable, text, State, isLineStart, roleAfter, withPlaceable, commonAfter, isElement, withText, goesOn, lineTurn, textTurn, patternTurn, trimmed, dedented, textMarks, elementMarks, finish, stateAt, usedBy, firstState, getPattern}
 use Rattle.laws.specs.Bytes.{byCase, clash, pick, run-le, spaces-le, eol-le}
@@ -19,7 +19,7 @@ use Rattle.laws.specs.Moving.{moveUp-length}
 use Rattle.laws.specs.Stable.{Holds, TurnHolds, loop-holds}
 use Rattle.laws.specs.Stable.Pattern.{Sized, slice-sized}
 use Rattle.laws.specs.Balanced.{Forest, empty, forest-text, forest-node, forest-join, forest-more, forest-up}
-use Rattle.laws.specs.Bounds.{Uses, uses-nil, Bounded, used, stopped, tooDeep, bounded-less, after-bounded, Bounds, TurnBounded, goes, ends, TurnBounds, repeat-bounds}
+use Rattle.laws.specs.Bounds.{uses-nil, Bounded, used, stopped, tooDeep, after-bounded, Bounds, TurnBounded, goes, ends, TurnBounds, repeat-bounds}
 use Rattle.laws.specs.Bounds.Helper.{block-bounds}
 
 -- the readers inside: they are called at an opening byte

@@ -1,7 +1,7 @@
 -- A reading that is not refused is the same with more openings allowed.
 use Prim.Native.Nat.{ℕ, zero, suc, _+_, _≤_}
 use native.Mathlib.Omega.{arith}
-use mathlib.Core.Path.{_≡_, refl, sym, ap, _∙_, subst}
+use mathlib.Core.Path.{_≡_, refl, sym, _∙_, subst}
 use mathlib.Core.Logic.{_⊎_, inl, inr}
 use mathlib.Core.Bool.{_&&_}
 use mathlib.Core.List.{List, [], _∷_}
@@ -11,8 +11,7 @@ use Rattle.syntax.specs.Marks.{Mark, node}
 use Rattle.syntax.specs.Reader.{Out, deep}
 use Rattle.syntax.specs.Helper.{skipBlankBlock}
 use Rattle.syntax.specs.Pattern.{Inside, usedBy}
-use Rattle.syntax.specs.Expression.{level}
-use Rattle.syntax.specs.Core.{Entry, getEntry, Error, Reading, read, refused, following, isNamed, count, kindOfEntry, entries, parse}
+use Rattle.syntax.specs.Core.{Entry, getEntry, Error, read, refused, following, isNamed, count, kindOfEntry, entries, parse}
 use Rattle.laws.specs.Entries.{nil-entry}
 use Rattle.laws.specs.File.{near, First, entry, junk, entries-first, Begins, first, far, begins, entries-far, ReadKept, sameReading, lostReading, following-kept, read-kept, leading}
 use Rattle.laws.specs.Limit.{Kept, same, lost, ok-kept, bad-kept}

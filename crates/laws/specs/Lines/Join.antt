@@ -1,20 +1,20 @@
 -- A comment that goes on past a cut.
-use Prim.Native.Nat.{ℕ, zero, suc, _+_, _-_, _≤_, _<_, min}
-use native.Mathlib.Nat.{not-suc-le-zero, le-of-suc-le-suc}
+use Prim.Native.Nat.{ℕ, zero, suc, _+_, _<_}
+use native.Mathlib.Nat.{not-suc-le-zero}
 use native.Mathlib.Omega.{arith}
 use mathlib.Core.Path.{_≡_, refl, sym, ap, _∙_, subst}
 use mathlib.Core.Logic.{_⊎_, inl, inr}
-use mathlib.Core.Bool.{Bool, true, false, _&&_, _||_, not}
-use mathlib.Core.List.{List, [], _∷_, _++_}
+use mathlib.Core.Bool.{true, false, _&&_, _||_, not}
+use mathlib.Core.List.{List, [], _∷_}
 use lib.ListN.{drop, length}
 use lib.Dec.{eqb, ltb}
-use borrow.Author.Tests.{eqb-true, eqb-false, ltb-true, ltb-false, eq-eqb, ne-eqb}
-use Rattle.syntax.specs.Bytes.{startsWith, run, eol}
+use borrow.Author.Tests.{eqb-true, eqb-false, eq-eqb, ne-eqb}
+use Rattle.syntax.specs.Bytes.{startsWith, eol}
 use Rattle.syntax.specs.declared.errors.ErrorKind.the-variants as Errors
-use Rattle.syntax.specs.Marks.{Mark, moveUp, textNode}
+use Rattle.syntax.specs.Marks.{Mark}
 use Rattle.syntax.specs.declared.errors.ParserError.{ParserError}
-use Rattle.syntax.specs.Reader.{Out, ok, bad, deep, Reader, fail, after, Turn, again, done, loop, repeat}
-use Rattle.syntax.specs.Comment.{lineLength, levelOf, lineEndUsed, lineRead, lineTurn, commentTurn, getComment}
+use Rattle.syntax.specs.Reader.{Out, ok, bad, deep, fail, after, Turn, again, done, loop, repeat}
+use Rattle.syntax.specs.Comment.{levelOf, lineRead, lineTurn, commentTurn, getComment}
 use Rattle.laws.specs.Bytes.{byCase, clash}
 use Rattle.laws.specs.Stable.{Holds, TurnHolds, loop-holds}
 use Rattle.laws.specs.Loop.{loop-fuel}

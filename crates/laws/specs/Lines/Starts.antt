@@ -1,5 +1,5 @@
 -- Every entry of a file starts where a line starts.
-use Prim.Native.Nat.{ℕ, zero, suc, _+_, _-_, _≤_, _<_}
+use Prim.Native.Nat.{ℕ, zero, suc, _+_, _-_, _<_}
 use native.Mathlib.Nat.{not-suc-le-zero, le-of-suc-le-suc, add-zero}
 use native.Mathlib.Omega.{arith}
 use mathlib.Core.Path.{_≡_, refl, sym, ap, _∙_, subst}
@@ -10,9 +10,9 @@ use lib.ListN.{drop, length, length-drop}
 use lib.Seq.{drop-drop}
 use lib.Dec.{eqb, ltb}
 use borrow.Author.Tests.{eqb-true, ltb-true}
-use Rattle.syntax.specs.Bytes.{startsWith, isLetter, spaces, run, eol}
+use Rattle.syntax.specs.Bytes.{startsWith, isLetter, eol}
 use Rattle.syntax.specs.Marks.{Mark}
-use Rattle.syntax.specs.Reader.{Out, ok, bad, deep, after, fail, Turn, again, done, loop, repeat}
+use Rattle.syntax.specs.Reader.{Out, ok, bad, deep, after, fail, Turn, loop, repeat}
 use Rattle.syntax.specs.Helper.{skipBlankBlock, blockTurn}
 use Rattle.syntax.specs.Comment.{lineLength, levelOf, lineEndUsed, lineRead, lineTurn, commentTurn, getComment}
 use Rattle.syntax.specs.Pattern.{Inside, usedBy}
@@ -26,7 +26,7 @@ use Rattle.laws.specs.Bounds.Pattern.{InsideBounds}
 use Rattle.laws.specs.Bounds.Expression.{level-bounds}
 use Rattle.laws.specs.Lines.Lands.{Lands, Stays, stays-stay, eol-starts, block-starts, entry-lands}
 use Rattle.laws.specs.Entries.{block-ten}
-use Rattle.laws.specs.File.{First, entry, junk, Passed, none, more, first-uses, leading}
+use Rattle.laws.specs.File.{First, entry, junk, Passed, none, more, leading}
 
 -- ---- junk
 

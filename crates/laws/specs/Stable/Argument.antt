@@ -1,24 +1,24 @@
 -- Call arguments at a cut.
-use Prim.Native.Nat.{ℕ, zero, suc, _+_, _-_, _≤_, _<_}
+use Prim.Native.Nat.{ℕ, suc, _+_, _≤_, _<_}
 use native.Mathlib.Nat.{not-suc-le-zero}
 use native.Mathlib.Omega.{arith}
 use mathlib.Core.Path.{_≡_, refl, sym, ap, _∙_, subst}
-use mathlib.Core.Bool.{Bool, true, false, _&&_, _||_, not}
-use mathlib.Core.List.{List, [], _∷_, _++_, append-nil}
-use lib.ListN.{drop, length, take, length-drop, length-append, drop-of-length-le}
+use mathlib.Core.Bool.{Bool, true, false}
+use mathlib.Core.List.{List, [], _∷_, _++_}
+use lib.ListN.{drop, length, take, length-drop}
 use lib.Seq.{take-append-le}
 use lib.Dec.{eqb, ltb}
-use borrow.Author.Tests.{eqb-true, eqb-false, ltb-true, ltb-false}
+use borrow.Author.Tests.{ltb-true, ltb-false}
 use Rattle.syntax.specs.Bytes.{startsWith, starts, all, isLetter, isDigit, isCalleePart}
 use Rattle.syntax.specs.declared.errors.ErrorKind.the-variants as Errors
-use Rattle.syntax.specs.Marks.{Mark, textNode, node}
-use Rattle.syntax.specs.Reader.{Out, ok, bad, deep, Reader, fail, _>>=_, _>>_, pure, next, after, wrap, Turn, again, done, turnOf, repeat}
-use Rattle.syntax.specs.Helper.{skipBlank, takeByteIf, expectByte, getIdentifier, getNumberLiteral}
+use Rattle.syntax.specs.Marks.{Mark, textNode}
+use Rattle.syntax.specs.Reader.{Out, ok, bad, deep, Reader, fail, _>>=_, _>>_, pure, next, after, wrap}
+use Rattle.syntax.specs.Helper.{skipBlank, expectByte, getIdentifier, getNumberLiteral}
 use Rattle.syntax.specs.Pattern.{Inside}
 use Rattle.syntax.specs.Expression.{Inline, string, number, variable, function, inner, message, term, asInline, stringLiteral, asString, numberLiteral, getCallArguments, getAttributeAccessor, termReference, variableReference, messageReference, functionReference, referenceBy, reference, nestedPlaceable, noInline, nonLiteral, getInlineExpression, isAmong, isNone, separator, positional, namedValue, namedArgument, afterReference, pastBlank, argumentBy, argumentTurn}
-use Rattle.laws.specs.Bytes.{Whole, whole-tail, whole-drop, nonempty, Fresh, Stop, byCase, clash, drop-app, pick, pick₂}
-use Rattle.laws.specs.Stable.{Mode, loose, any, Upto, upto-le, Within, Carries, Reads, Closes, from-any, bind, then, pure-reads, fail-reads, Holds, TurnWithin, TurnCarries, Turns, Any, Free, turnOf-carries, turnOf-within, next-within, next-keeps, wrap-relabels, Sure, sure-ok, cont-within, cont-keeps, carries-trans, after-least, holds-map, least-next, least-wrap, beyond, plain-after, plain-next}
-use Rattle.laws.specs.Stable.Helper.{expectByte-reads, takeByteIf-reads, identifier-reads, identifier-named, blank-reads, blank-sure, loose-nil}
+use Rattle.laws.specs.Bytes.{Whole, whole-drop, Stop, byCase, drop-app, pick, pick₂}
+use Rattle.laws.specs.Stable.{loose, Upto, Within, Carries, Reads, from-any, then, pure-reads, Holds, TurnWithin, TurnCarries, Turns, Any, Free, turnOf-carries, turnOf-within, next-within, next-keeps, wrap-relabels, Sure, cont-within, cont-keeps, carries-trans, after-least, holds-map, least-next, least-wrap, beyond, plain-next}
+use Rattle.laws.specs.Stable.Helper.{expectByte-reads, takeByteIf-reads, identifier-named, blank-reads, blank-sure}
 use Rattle.laws.specs.Stable.Pattern.{InsideLaw}
 use Rattle.laws.specs.Stable.Inline.{inline-reads}
 

@@ -1,24 +1,21 @@
 -- Messages and terms at a cut.
-use Prim.Native.Nat.{ℕ, zero, suc, _+_, _-_, _≤_, _<_}
+use Prim.Native.Nat.{ℕ, zero, suc, _+_, _≤_, _<_}
 use native.Mathlib.Nat.{not-suc-le-zero, le-of-suc-le-suc, add-zero}
 use native.Mathlib.Omega.{arith}
 use mathlib.Core.Path.{_≡_, refl, sym, ap, _∙_, subst}
-use mathlib.Core.Bool.{Bool, true, false, _&&_, _||_, not}
+use mathlib.Core.Bool.{Bool, true, false, _||_, not}
 use mathlib.Core.List.{List, [], _∷_, _++_, append-nil}
-use lib.ListN.{drop, length, take, length-drop, length-append}
+use lib.ListN.{drop, length, length-drop, length-append}
 use lib.Seq.{drop-drop}
 use lib.Dec.{eqb}
-use borrow.Author.Tests.{eqb-true, eqb-false}
-use Rattle.syntax.specs.Bytes.{startsWith, starts, isLetter, spaces}
-use Rattle.syntax.specs.declared.errors.ErrorKind.the-variants as Errors
-use Rattle.syntax.specs.Marks.{Mark, moveUp, node}
-use Rattle.syntax.specs.Reader.{Out, ok, bad, deep, Reader, fail, _>>=_, _>>_, pure, inNode, next, after, Turn, again, done, loop, repeat}
+use Rattle.syntax.specs.Bytes.{startsWith, isLetter, spaces}
+use Rattle.syntax.specs.Marks.{Mark}
+use Rattle.syntax.specs.Reader.{Out, ok, bad, deep, Reader, _>>=_, _>>_, pure, next, after, Turn, again, done, loop, repeat}
 use Rattle.syntax.specs.Helper.{skipBlankInline, skipBlankBlock, expectByte, getIdentifier}
 use Rattle.syntax.specs.Pattern.{Inside, getPattern}
-use Rattle.syntax.specs.Expression.{needsValue}
-use Rattle.syntax.specs.Core.{getAttribute, attributeBy, attributeTurn, getAttributes, Fields, fields, termFields, Entry, comment, message, term, asMessage, asTerm, asComment, getEntry}
-use Rattle.laws.specs.Bytes.{Whole, whole-tail, whole-drop, nonempty, Fresh, isFresh, Stop, stop-fresh, byCase, clash, drop-app, spaces-whole, fresh-spaces, not-fresh, pick, pick₂}
-use Rattle.laws.specs.Stable.{Mode, loose, fresh, any, none, Upto, upto-le, Within, Carries, Reads, Closes, Short, Strict, Inner, inner-keeps, from-any, weaker, bind, then, strict-then, inner-bind, inner-then, pure-reads, node-reads, TurnWithin, TurnCarries, Turns, Any, Free, repeat-reads, Holds, holds-map, next-ok}
+use Rattle.syntax.specs.Core.{getAttribute, attributeBy, attributeTurn, getAttributes, Fields, fields, termFields, asMessage, asTerm, getEntry}
+use Rattle.laws.specs.Bytes.{Whole, whole-tail, whole-drop, Fresh, Stop, stop-fresh, byCase, clash, drop-app, spaces-whole, fresh-spaces, not-fresh, pick, pick₂}
+use Rattle.laws.specs.Stable.{Mode, fresh, none, Upto, Within, Carries, Reads, Short, inner-keeps, from-any, bind, then, strict-then, inner-bind, pure-reads, node-reads, TurnWithin, TurnCarries, Free, repeat-reads, Holds, holds-map, next-ok}
 use Rattle.laws.specs.Stable.Helper.{Soft, past-spaces, expectByte-reads, expectByte-strict, inline-reads, identifier-reads, block-reads}
 use Rattle.laws.specs.Stable.Pattern.{InsideLaw, getPattern-inner}
 use Rattle.laws.specs.Stable.Expression.{needsValue-reads}

@@ -1,23 +1,23 @@
 -- Expressions, variants and placeables at a cut, at every level.
-use Prim.Native.Nat.{ℕ, zero, suc, _+_, _-_, _≤_, _<_}
+use Prim.Native.Nat.{ℕ, zero, suc, _<_}
 use native.Mathlib.Nat.{not-suc-le-zero}
 use native.Mathlib.Omega.{arith}
-use mathlib.Core.Path.{_≡_, refl, sym, ap, _∙_, subst}
-use mathlib.Core.Bool.{Bool, true, false, _&&_, _||_, not}
-use mathlib.Core.List.{List, [], _∷_, _++_, append-nil}
-use lib.ListN.{drop, length, take, length-drop, length-append}
+use mathlib.Core.Path.{_≡_, refl, ap}
+use mathlib.Core.Bool.{Bool, true, false, _&&_, _||_}
+use mathlib.Core.List.{List, [], _∷_, _++_}
+use lib.ListN.{length}
 use lib.Dec.{eqb}
-use borrow.Author.Tests.{eqb-true, eqb-false}
+use borrow.Author.Tests.{eqb-true}
 use Rattle.syntax.specs.Bytes.{startsWith, starts, second, isDigit}
 use Rattle.syntax.specs.declared.errors.ErrorKind.the-variants as Errors
 use Rattle.syntax.specs.Marks.{Mark, node}
-use Rattle.syntax.specs.Reader.{Out, ok, bad, deep, Reader, fail, _>>=_, _>>_, pure, inNode, after, Turn, again, done, turnOf, repeat}
-use Rattle.syntax.specs.Helper.{skipBlank, skipBlankInline, skipEol, expectByte, getIdentifier, getNumberLiteral}
-use Rattle.syntax.specs.Pattern.{Inside, getPattern}
-use Rattle.syntax.specs.Expression.{Inline, string, number, variable, function, inner, message, term, getInlineExpression, argumentTurn, parenthesised, keyText, getVariantKey, needsValue, variant, variantKind, endVariants, variantWith, afterStar, turnAfter, variantTurn, getVariants, selector, alone, needsLineEnd, selectFrom, afterInline, inSelect, inlineOrSelect, getExpression, braced, tooDeep, level}
+use Rattle.syntax.specs.Reader.{ok, bad, deep, fail, after, Turn, again, done}
+use Rattle.syntax.specs.Helper.{skipBlank, expectByte, getIdentifier, getNumberLiteral}
+use Rattle.syntax.specs.Pattern.{Inside}
+use Rattle.syntax.specs.Expression.{Inline, string, number, variable, function, inner, message, term, argumentTurn, parenthesised, keyText, getVariantKey, needsValue, variant, variantKind, endVariants, variantWith, afterStar, turnAfter, variantTurn, getVariants, selector, alone, needsLineEnd, selectFrom, afterInline, inSelect, inlineOrSelect, getExpression, braced, tooDeep, level}
 use Rattle.laws.specs.Bytes.{Whole, whole-tail, nonempty, Stop, byCase, pick, pick₂}
-use Rattle.laws.specs.Stable.{Mode, loose, any, Upto, Within, Carries, Takes, Reads, Closes, Strict, Inner, from-any, bind, then, bind-closes, then-closes, then-strict, strict-then, inner-bind, pure-reads, fail-reads, node-reads, node-closes, Relabels, relabel, relabels, TurnWithin, TurnCarries, Turns, Any, Free, turnOf-carries, turnOf-within, done-carries, repeat-reads}
-use Rattle.laws.specs.Stable.Helper.{expectByte-reads, expectByte-closes, expectByte-strict, inline-reads, eol-reads, blank-reads, identifier-reads, numberLiteral-reads, choose-reads, loose-nil}
+use Rattle.laws.specs.Stable.{Mode, loose, Upto, Reads, Closes, Strict, from-any, bind, then, then-closes, then-strict, strict-then, inner-bind, pure-reads, fail-reads, node-reads, node-closes, Relabels, relabel, relabels, TurnWithin, TurnCarries, Free, turnOf-carries, turnOf-within, done-carries, repeat-reads}
+use Rattle.laws.specs.Stable.Helper.{expectByte-reads, expectByte-closes, expectByte-strict, inline-reads, eol-reads, blank-reads, identifier-reads, numberLiteral-reads, choose-reads}
 use Rattle.laws.specs.Stable.Pattern.{InsideLaw, getPattern-inner}
 use Rattle.laws.specs.Stable.Inline as Inline
 use Rattle.laws.specs.Stable.Argument.{argument-turns}

@@ -1,20 +1,20 @@
 -- helper.rs at a cut.
-use Prim.Native.Nat.{ℕ, zero, suc, _+_, _-_, _≤_, _<_, min}
+use Prim.Native.Nat.{ℕ, suc, _+_, min}
 use native.Mathlib.Nat.{not-suc-le-zero}
 use native.Mathlib.Omega.{arith}
 use mathlib.Core.Path.{_≡_, refl, sym, ap, _∙_, subst}
-use mathlib.Core.Bool.{Bool, true, false, _&&_, _||_, not}
+use mathlib.Core.Bool.{Bool, true, false}
 use mathlib.Core.List.{List, [], _∷_, _++_}
-use lib.ListN.{drop, length, take, length-drop, length-append}
-use lib.Dec.{eqb, ltb, leb}
-use borrow.Author.Tests.{eqb-true, eqb-false, ltb-true, ltb-false}
+use lib.ListN.{drop, length, length-drop}
+use lib.Dec.{eqb, ltb}
+use borrow.Author.Tests.{eqb-true, ltb-true}
 use Rattle.syntax.specs.Bytes.{startsWith, starts, isLetter, isDigit, isNamePart, isHex, spaces, eol, run, firstWidth}
-use Rattle.syntax.specs.Marks.{Mark, textNode}
+use Rattle.syntax.specs.Marks.{textNode}
 use Rattle.syntax.specs.declared.errors.ErrorKind.the-variants.{ExpectedToken, ExpectedCharRange, InvalidUnicodeEscapeSequence}
-use Rattle.syntax.specs.Reader.{Out, ok, bad, deep, Reader, fail, _>>=_, _>>_, pure, Turn, again, done, repeat}
+use Rattle.syntax.specs.Reader.{Out, ok, bad, deep, Reader, fail, Turn, again, done}
 use Rattle.syntax.specs.Helper.{skipBlankInline, skipEol, blankTurn, skipBlank, blockTurn, skipBlankBlock, takeByteIf, expectByte, skipDigits, fraction, number, asText, getNumberLiteral, getIdentifier, skipUnicodeEscapeSequence}
-use Rattle.laws.specs.Bytes.{Whole, whole-drop, Fresh, isFresh, Stop, stop-fresh, byCase, clash, drop-app, run-whole, eol-whole, spaces-whole, fresh-spaces, fresh-eol, not-fresh, stop-run, nonempty, pick, pick₂}
-use Rattle.laws.specs.Stable.{Mode, loose, fresh, any, none, Upto, Within, Carries, Takes, Reads, Closes, same-carries, from-any, bind, then, pure-reads, fail-reads, Relabels, relabel, relabels, TurnWithin, TurnCarries, Turns, Free, Any, repeat-reads, Sure, TurnSure, repeat-sure, Short, Strict, Holds}
+use Rattle.laws.specs.Bytes.{Whole, whole-drop, Fresh, Stop, stop-fresh, byCase, clash, drop-app, run-whole, eol-whole, spaces-whole, fresh-spaces, fresh-eol, not-fresh, stop-run, nonempty, pick, pick₂}
+use Rattle.laws.specs.Stable.{Mode, loose, fresh, any, none, Upto, Within, Carries, Takes, Reads, Closes, same-carries, from-any, bind, then, pure-reads, Relabels, relabel, relabels, TurnWithin, TurnCarries, Turns, Free, Any, repeat-reads, Sure, TurnSure, repeat-sure, Short, Strict, Holds}
 
 -- modes in which what follows an x that is used up is fresh
 abbrev pub Soft : Mode → Type 0

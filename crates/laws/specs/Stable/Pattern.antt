@@ -1,22 +1,22 @@
 -- pattern.rs at a cut.
-use Prim.Native.Nat.{ℕ, zero, suc, _+_, _-_, _≤_, _<_, min}
+use Prim.Native.Nat.{ℕ, zero, suc, _+_, _-_, _≤_, _<_}
 use native.Mathlib.Nat.{not-suc-le-zero}
 use native.Mathlib.Omega.{arith}
 use mathlib.Core.Path.{_≡_, refl, sym, ap, _∙_, subst}
-use mathlib.Core.Bool.{Bool, true, false, _&&_, _||_, not}
+use mathlib.Core.Bool.{Bool, true, false}
 use mathlib.Core.List.{List, [], _∷_, _++_, append-nil}
-use mathlib.Core.Option.{Option, some, none}
-use lib.ListN.{drop, length, take, length-drop, length-append, length-take}
+use mathlib.Core.Option.{Option}
+use lib.ListN.{drop, length, take, length-drop, length-take}
 use lib.Seq.{take-append-le}
 use lib.Dec.{eqb, ltb, leb}
-use borrow.Author.Tests.{eqb-true, eqb-false, ltb-true, ltb-false, leb-true, leb-false}
-use Rattle.syntax.specs.Bytes.{startsWith, starts, isLetter, isDigit, spaces, eol, run, all}
+use borrow.Author.Tests.{leb-true, leb-false}
+use Rattle.syntax.specs.Bytes.{isLetter, spaces, eol, run}
 use Rattle.syntax.specs.Marks.{Mark, moveUp, node, textNode}
-use Rattle.syntax.specs.Reader.{Out, ok, bad, deep, Reader, fail, _>>=_, _>>_, pure, Turn, again, done, after, repeat, next, loop}
+use Rattle.syntax.specs.Reader.{Out, ok, bad, deep, Turn, again, done, after, repeat, next}
 use Rattle.syntax.specs.Helper.{skipBlankBlock}
-use Rattle.syntax.specs.Pattern.{Inside, Ending, lineFeed, crlf, placeableStart, eof, Role, initialLineStart, lineStart, continuation, Slice, isTextByte, isBlank, endsInCr, lineSlice, sliceBy, getTextSlice, Element, placeable, text, State, isLineStart, roleAfter, isLineFeed, withPlaceable, commonAfter, isElement, withText, goesOn, lineTurn, textTurn, patternTurn, trimmed, dedented, textMarks, elementMarks, finish, stateAt, usedBy, firstState, getPattern}
-use Rattle.laws.specs.Bytes.{Whole, whole-drop, Fresh, isFresh, Stop, stop-fresh, byCase, clash, drop-app, run-whole, eol-whole, spaces-whole, fresh-spaces, fresh-eol, not-fresh, stop-run, pick, pick₂}
-use Rattle.laws.specs.Stable.{Mode, loose, fresh, any, Upto, upto-le, upto-down, upto-rest, Within, Carries, Takes, Reads, Closes, same-carries, weaker, from-any, bind, then, pure-reads, fail-reads, Relabels, relabel, relabels, next-ok, after-within, TurnWithin, TurnCarries, Turns, Free, Any, repeat-reads, repeat-stops, repeat-keeps, Short, Strict, Inner, Holds, TurnHolds, loop-holds, Sure}
+use Rattle.syntax.specs.Pattern.{Inside, initialLineStart, lineStart, Slice, isTextByte, endsInCr, lineSlice, sliceBy, getTextSlice, Element, placeable, text, State, isLineStart, roleAfter, withPlaceable, isElement, withText, goesOn, lineTurn, textTurn, patternTurn, trimmed, dedented, textMarks, elementMarks, finish, stateAt, usedBy, firstState, getPattern}
+use Rattle.laws.specs.Bytes.{Whole, whole-drop, Fresh, Stop, stop-fresh, byCase, clash, drop-app, run-whole, eol-whole, spaces-whole, fresh-spaces, not-fresh, pick, pick₂}
+use Rattle.laws.specs.Stable.{Mode, loose, any, Upto, upto-le, upto-down, upto-rest, Within, Carries, Closes, weaker, next-ok, after-within, TurnWithin, TurnCarries, Turns, repeat-stops, repeat-keeps, Short, Strict, Inner, Holds, TurnHolds, loop-holds, Sure}
 use Rattle.laws.specs.Stable.Helper.{Soft, soft-fresh, past-spaces, block-reads, block-sure}
 
 -- the readers of what stands inside

@@ -1,20 +1,19 @@
 -- String literals at a cut.
-use Prim.Native.Nat.{ℕ, zero, suc, _+_, _-_, _≤_, _<_}
+use Prim.Native.Nat.{ℕ, suc, _+_, _-_, _<_}
 use native.Mathlib.Nat.{not-suc-le-zero}
 use native.Mathlib.Omega.{arith}
-use mathlib.Core.Path.{_≡_, refl, sym, ap, _∙_, subst}
-use mathlib.Core.Bool.{Bool, true, false, _&&_, _||_, not}
+use mathlib.Core.Path.{_≡_, refl, ap, subst}
+use mathlib.Core.Bool.{true, _||_}
 use mathlib.Core.List.{List, [], _∷_, _++_, append-nil}
-use lib.ListN.{drop, length, take, length-drop, length-append}
+use lib.ListN.{drop, length, length-drop}
 use lib.Dec.{eqb}
 use borrow.Author.Tests.{eqb-true, eqb-false}
-use Rattle.syntax.specs.declared.errors.ErrorKind.the-variants as Errors
-use Rattle.syntax.specs.Marks.{Mark, textNode}
-use Rattle.syntax.specs.Reader.{Out, ok, bad, deep, Reader, fail, _>>=_, _>>_, pure, Turn, again, done, turnOf, after, repeat}
-use Rattle.syntax.specs.Helper.{expectByte, skipUnicodeEscapeSequence}
-use Rattle.syntax.specs.Expression.{Inline, string, escapeTurn, stringTurn, stringLiteral, asString}
-use Rattle.laws.specs.Bytes.{Whole, whole-tail, nonempty, Fresh, Stop, byCase, clash, pick, pick₂}
-use Rattle.laws.specs.Stable.{Mode, loose, any, Upto, upto-le, Within, Carries, Reads, from-any, Relabels, relabel, relabels, TurnWithin, TurnCarries, Turns, repeat-stops, repeat-keeps, Short, Strict, Inner, strict-then, inner-then}
+use Rattle.syntax.specs.Marks.{textNode}
+use Rattle.syntax.specs.Reader.{Out, ok, bad, deep, fail, turnOf, after, repeat}
+use Rattle.syntax.specs.Helper.{skipUnicodeEscapeSequence}
+use Rattle.syntax.specs.Expression.{string, escapeTurn, stringTurn, stringLiteral, asString}
+use Rattle.laws.specs.Bytes.{Whole, whole-tail, nonempty, Stop, clash, pick, pick₂}
+use Rattle.laws.specs.Stable.{loose, Upto, Within, Carries, Reads, from-any, Relabels, relabel, relabels, TurnWithin, TurnCarries, Turns, repeat-stops, repeat-keeps, Inner, strict-then, inner-then}
 use Rattle.laws.specs.Stable.Helper.{expectByte-reads, expectByte-strict, escape-within, escape-carries}
 
 abbrev Left : Unit {0} → List ℕ → Type 0
