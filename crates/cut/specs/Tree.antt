@@ -18,7 +18,8 @@ use Rattle.syntax.specs.Pattern.{usedBy}
 use Rattle.syntax.specs.Expression.{level}
 use Rattle.syntax.specs.Core.{getEntry, lineStartsAt, Error, upError, Reading, read, following, entries, parse}
 use Rattle.laws.specs.Bytes.{Whole, whole-drop, Fresh, byCase, drop-app}
-use Rattle.laws.specs.Stable.{fresh, Holds, sure-ok}
+use Rattle.laws.specs.Answers.{Holds, sure-ok}
+use Rattle.laws.specs.Stable.{fresh}
 use Rattle.laws.specs.Stable.Helper.{block-sure}
 use Rattle.laws.specs.Stable.Pattern.{block-within, block-same}
 use Rattle.laws.specs.Stable.Expression.{level-law}

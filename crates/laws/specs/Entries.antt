@@ -18,7 +18,7 @@ use Rattle.syntax.specs.Comment.{getComment}
 use Rattle.syntax.specs.Pattern.{Inside, usedBy}
 use Rattle.syntax.specs.Core.{fields, Entry, asMessage, asComment, getEntry, junkEnd, lineStartsAt, Error, upError, Reading, read, refused, following, isNamed, count, kindOfEntry, entries}
 use Rattle.laws.specs.Bytes.{Whole, Fresh, Stop, byCase, clash, fresh-spaces, fresh-eol}
-use Rattle.laws.specs.Stable.{Holds, TurnHolds, loop-holds, sure-ok}
+use Rattle.laws.specs.Answers.{Holds, TurnHolds, loop-holds, sure-ok}
 use Rattle.laws.specs.Stable.Helper.{block-sure}
 use Rattle.laws.specs.Stable.Entry.{dotted}
 use Rattle.laws.specs.Stable.Comment.{after-ok, lineRun, lineRun-here, lineRun-on, OneLine, starts-add}

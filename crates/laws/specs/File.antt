@@ -21,7 +21,7 @@ use Rattle.syntax.specs.Pattern.{Inside, usedBy}
 use Rattle.syntax.specs.Expression.{level}
 use Rattle.syntax.specs.Core.{Fields, fields, termFields, Entry, comment, message, term, asMessage, asTerm, asComment, getEntry, junkEnd, Error, upError, Reading, read, refused, following, isNamed, count, kindOfEntry, entries, parse}
 use Rattle.laws.specs.Bytes.{pick}
-use Rattle.laws.specs.Stable.{Holds, holds-map}
+use Rattle.laws.specs.Answers.{Holds, holds-map}
 use Rattle.laws.specs.Lines.Join.{Levelled, levelled}
 use Rattle.laws.specs.Balanced.{Kind, forest-more}
 use Rattle.laws.specs.Bounds.{Uses, uses-nil, uses-text, uses-less, uses-after, uses-node, ok-uses, bad-within, deep-within}

@@ -1,6 +1,8 @@
 -- Laws of the definitions.
 pub mod Bytes
 pub mod Moving
+pub mod Answers
+pub mod Values
 pub mod Loop
 pub mod Stable
 pub mod Entries

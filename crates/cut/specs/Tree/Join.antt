@@ -19,7 +19,8 @@ use Rattle.syntax.specs.Comment.{getComment, commentTurn}
 use Rattle.syntax.specs.Pattern.{Inside, usedBy}
 use Rattle.syntax.specs.Core.{Fields, fields, termFields, Entry, comment, message, term, asMessage, asTerm, asComment, getEntry, lineStartsAt, Error, upError, Reading, read, refused, following, isNamed, kindOfEntry, entries}
 use Rattle.laws.specs.Bytes.{Whole, whole-tail, whole-drop, Fresh, isFresh, Stop, stop-fresh, byCase, clash, drop-app}
-use Rattle.laws.specs.Stable.{Mode, loose, fresh, Within, Carries, Holds, Sure, sure-ok}
+use Rattle.laws.specs.Answers.{Holds, Sure, sure-ok}
+use Rattle.laws.specs.Stable.{Mode, loose, fresh, Within, Carries}
 use Rattle.laws.specs.Stable.Pattern.{InsideLaw, block-within, block-same}
 use Rattle.laws.specs.Stable.Helper.{block-sure}
 use Rattle.laws.specs.Stable.Entry.{dotted, Cut, entry-ends, entry-stops}

@@ -14,8 +14,8 @@ use Rattle.syntax.specs.Helper.{skipBlank, skipUnicodeEscapeSequence, getIdenti
 use Rattle.syntax.specs.Pattern.{Inside, getPattern}
 use Rattle.syntax.specs.Expression.{Inline, string, number, variable, function, inner, message, term, inlineKind, asInline, escapeTurn, stringTurn, stringLiteral, asString, numberLiteral, callArguments, getCallArguments, getAttributeAccessor, termReference, variableReference, messageReference, functionReference, referenceBy, reference, nestedPlaceable, noInline, nonLiteral, getInlineExpression, isAmong, isNone, separator, positional, namedValue, namedArgument, afterReference, pastBlank, argumentBy, argumentTurn, parenthesised, keyText, getVariantKey, needsValue, variant, variantKind, endVariants, variantWith, afterStar, turnAfter, variantTurn, getVariants, selector, alone, needsLineEnd, selectFrom, afterInline, inSelect, inlineOrSelect, getExpression, braced, tooDeep, level}
 use Rattle.laws.specs.Bytes.{pick, startsWith-some}
-use Rattle.laws.specs.Stable.{Holds}
-use Rattle.laws.specs.Stable.Argument.{Fits, inline-fits, variable-value, term-value, nested-value, reference-value}
+use Rattle.laws.specs.Answers.{Holds}
+use Rattle.laws.specs.Values.{Fits, inline-fits, variable-value, term-value, nested-value, reference-value}
 use Rattle.laws.specs.Balanced.{Kind, forest-more}
 use Rattle.laws.specs.Bounds as Bounds
 use Rattle.laws.specs.Bounds.{Uses, uses-nil, uses-text, uses-less, uses-after, uses-node, Bounded, used, stopped, bounded-less, after-bounded, wrap-bounded, next-bounded, Bounds, bind-by, bind, then, then-inside, less, pure-bounds, fail-bounds, node-bounds, TurnBounded, goes, ends, turnOf-bounded, turn-less, TurnBounds, repeat-bounds}

@@ -16,7 +16,7 @@ use Rattle.syntax.specs.Helper.{skipBlankBlock}
 use Rattle.syntax.specs.Pattern.{Inside, Role, initialLineStart, lineStart, continuation, Slice, isTextByte, endsInCr, lineSlice, sliceBy, getTextSlice, Element, placeable, text, State, isLineStart, roleAfter, withPlaceable, commonAfter, isElement, withText, goesOn, lineTurn, textTurn, patternTurn, trimmed, dedented, textMarks, elementMarks, finish, stateAt, usedBy, firstState, getPattern}
 use Rattle.laws.specs.Bytes.{byCase, clash, pick, run-le, spaces-le, eol-le}
 use Rattle.laws.specs.Moving.{moveUp-length}
-use Rattle.laws.specs.Stable.{Holds, TurnHolds, loop-holds}
+use Rattle.laws.specs.Answers.{Holds, TurnHolds, loop-holds}
 use Rattle.laws.specs.Stable.Pattern.{Sized, slice-sized}
 use Rattle.laws.specs.Balanced.{Forest, empty, forest-text, forest-node, forest-join, forest-more, forest-up}
 use Rattle.laws.specs.Bounds.{uses-nil, Bounded, used, stopped, tooDeep, after-bounded, Bounds, TurnBounded, goes, ends, TurnBounds, repeat-bounds}

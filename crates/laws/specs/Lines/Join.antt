@@ -16,7 +16,7 @@ use Rattle.syntax.specs.declared.errors.ParserError.{ParserError}
 use Rattle.syntax.specs.Reader.{Out, ok, bad, deep, fail, after, Turn, again, done, loop, repeat}
 use Rattle.syntax.specs.Comment.{levelOf, lineRead, lineTurn, commentTurn, getComment}
 use Rattle.laws.specs.Bytes.{byCase, clash}
-use Rattle.laws.specs.Stable.{Holds, TurnHolds, loop-holds}
+use Rattle.laws.specs.Answers.{Holds, TurnHolds, loop-holds}
 use Rattle.laws.specs.Loop.{loop-fuel}
 use Rattle.laws.specs.Loop.Turns.{commentTurn-moves}
 use Rattle.laws.specs.Bounds.Comment.{levelOf-some}

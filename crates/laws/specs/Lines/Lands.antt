@@ -18,7 +18,7 @@ use Rattle.syntax.specs.Pattern.{Inside, initialLineStart, Slice, isTextByte, e
 use Rattle.syntax.specs.Expression.{needsValue}
 use Rattle.syntax.specs.Core.{getAttribute, attributeBy, attributeTurn, getAttributes, Fields, fields, termFields, asMessage, asTerm, getEntry, lineStartsAt}
 use Rattle.laws.specs.Bytes.{Whole, byCase, clash, pick, run-le}
-use Rattle.laws.specs.Stable.{Takes, Holds, TurnHolds, loop-holds, Sure}
+use Rattle.laws.specs.Answers.{Takes, Holds, TurnHolds, loop-holds, Sure}
 use Rattle.laws.specs.Stable.Helper.{block-sure}
 use Rattle.laws.specs.Stable.Comment.{starts-later, starts-add}
 use Rattle.laws.specs.Bounds.{TurnBounded, goes}

@@ -19,7 +19,7 @@ use Rattle.syntax.specs.Pattern.{Inside, usedBy}
 use Rattle.syntax.specs.Expression.{level}
 use Rattle.syntax.specs.Core.{Entry, asComment, getEntry, toNextEntry, lineStartsAt, junkEnd, Error}
 use Rattle.laws.specs.Bytes.{byCase, clash, pick}
-use Rattle.laws.specs.Stable.{Takes, Holds, TurnHolds, loop-holds}
+use Rattle.laws.specs.Answers.{Takes, Holds, TurnHolds, loop-holds}
 use Rattle.laws.specs.Stable.Comment.{starts-later, starts-add}
 use Rattle.laws.specs.Bounds.{Bounded, used}
 use Rattle.laws.specs.Bounds.Pattern.{InsideBounds}

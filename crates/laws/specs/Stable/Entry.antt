@@ -15,7 +15,8 @@ use Rattle.syntax.specs.Helper.{skipBlankInline, skipBlankBlock, expectByte, ge
 use Rattle.syntax.specs.Pattern.{Inside, getPattern}
 use Rattle.syntax.specs.Core.{getAttribute, attributeBy, attributeTurn, getAttributes, Fields, fields, termFields, asMessage, asTerm, getEntry}
 use Rattle.laws.specs.Bytes.{Whole, whole-tail, whole-drop, Fresh, Stop, stop-fresh, byCase, clash, drop-app, spaces-whole, fresh-spaces, not-fresh, pick, pick₂}
-use Rattle.laws.specs.Stable.{Mode, fresh, none, Upto, Within, Carries, Reads, Short, inner-keeps, from-any, bind, then, strict-then, inner-bind, pure-reads, node-reads, TurnWithin, TurnCarries, Free, repeat-reads, Holds, holds-map, next-ok}
+use Rattle.laws.specs.Answers.{Holds, holds-map}
+use Rattle.laws.specs.Stable.{Mode, fresh, none, Upto, Within, Carries, Reads, Short, inner-keeps, from-any, bind, then, strict-then, inner-bind, pure-reads, node-reads, TurnWithin, TurnCarries, Free, repeat-reads, next-ok}
 use Rattle.laws.specs.Stable.Helper.{Soft, past-spaces, expectByte-reads, expectByte-strict, inline-reads, identifier-reads, block-reads}
 use Rattle.laws.specs.Stable.Pattern.{InsideLaw, getPattern-inner}
 use Rattle.laws.specs.Stable.Expression.{needsValue-reads}

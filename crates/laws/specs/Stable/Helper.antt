@@ -14,7 +14,8 @@ use Rattle.syntax.specs.declared.errors.ErrorKind.the-variants.{ExpectedToken, 
 use Rattle.syntax.specs.Reader.{Out, ok, bad, deep, Reader, fail, Turn, again, done}
 use Rattle.syntax.specs.Helper.{skipBlankInline, skipEol, blankTurn, skipBlank, blockTurn, skipBlankBlock, takeByteIf, expectByte, skipDigits, fraction, number, asText, getNumberLiteral, getIdentifier, skipUnicodeEscapeSequence}
 use Rattle.laws.specs.Bytes.{Whole, whole-drop, Fresh, Stop, stop-fresh, byCase, clash, drop-app, run-whole, eol-whole, spaces-whole, fresh-spaces, fresh-eol, not-fresh, stop-run, nonempty, pick, pick₂}
-use Rattle.laws.specs.Stable.{Mode, loose, fresh, any, none, Upto, Within, Carries, Takes, Reads, Closes, same-carries, from-any, bind, then, pure-reads, Relabels, relabel, relabels, TurnWithin, TurnCarries, Turns, Free, Any, repeat-reads, Sure, TurnSure, repeat-sure, Short, Strict, Holds}
+use Rattle.laws.specs.Answers.{Takes, Sure, TurnSure, repeat-sure}
+use Rattle.laws.specs.Stable.{Mode, loose, fresh, any, none, Upto, Within, Carries, Reads, Closes, same-carries, from-any, bind, then, pure-reads, Relabels, relabel, relabels, TurnWithin, TurnCarries, Turns, Free, Any, repeat-reads, Short, Strict}
 
 -- modes in which what follows an x that is used up is fresh
 abbrev pub Soft : Mode → Type 0
@@ -172,11 +173,6 @@ identifierOf kind v n = elim v [ true ↦ ok n (textNode kind 0 n) n | false ↦
 pub identifier-same : (kind b : ℕ) (bs y : List ℕ) → Whole (b ∷ bs) → getIdentifier kind ((b ∷ bs) ++ y) ≡ getIdentifier kind (b ∷ bs)
 unfolding getIdentifier starts fail
 identifier-same kind b bs y w = ap (identifierOf kind (isLetter b)) (run-whole isNamePart (unfold isNamePart isLetter isDigit in refl) b bs y w .0)
-
-pub identifier-named : (kind : ℕ) (s : List ℕ) → Holds (λ n ms k. n ≡ k) (getIdentifier kind s)
-unfolding getIdentifier starts fail
-identifier-named kind [] = tt
-identifier-named kind (b ∷ bs) = byCase (isLetter b) (λ q. rw (q, getIdentifier) refl) (λ q. rw (q, getIdentifier) tt)
 
 pub identifier-reads : (kind : ℕ) → Reads any (getIdentifier kind)
 unfolding getIdentifier starts fail isLetter

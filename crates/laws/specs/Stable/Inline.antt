@@ -17,8 +17,10 @@ use Rattle.syntax.specs.Helper.{expectByte, getIdentifier}
 use Rattle.syntax.specs.Pattern.{Inside}
 use Rattle.syntax.specs.Expression.{Inline, number, variable, function, inner, message, term, inlineKind, asInline, stringLiteral, asString, numberLiteral, callArguments, getCallArguments, getAttributeAccessor, termReference, variableReference, messageReference, functionReference, referenceBy, reference, nestedPlaceable, noInline, nonLiteral, getInlineExpression}
 use Rattle.laws.specs.Bytes.{Whole, nonempty, pick, pick₂}
-use Rattle.laws.specs.Stable.{loose, Upto, Within, Carries, Reads, from-any, bind, then, pure-reads, fail-reads, Relabels, relabel, relabels, Holds}
-use Rattle.laws.specs.Stable.Helper.{expectByte-reads, identifier-reads, identifier-same, identifier-named, numberLiteral-reads, blank-reads, choose-reads, loose-nil}
+use Rattle.laws.specs.Answers.{Holds}
+use Rattle.laws.specs.Stable.{loose, Upto, Within, Carries, Reads, from-any, bind, then, pure-reads, fail-reads, Relabels, relabel, relabels}
+use Rattle.laws.specs.Values.{identifier-named}
+use Rattle.laws.specs.Stable.Helper.{expectByte-reads, identifier-reads, identifier-same, numberLiteral-reads, blank-reads, choose-reads, loose-nil}
 use Rattle.laws.specs.Stable.Pattern.{InsideLaw}
 use Rattle.laws.specs.Stable.String.{string-reads}
 

@@ -16,7 +16,8 @@ use Rattle.syntax.specs.Reader.{Out, ok, bad, deep, Turn, again, done, after, r
 use Rattle.syntax.specs.Helper.{skipBlankBlock}
 use Rattle.syntax.specs.Pattern.{Inside, initialLineStart, lineStart, Slice, isTextByte, endsInCr, lineSlice, sliceBy, getTextSlice, Element, placeable, text, State, isLineStart, roleAfter, withPlaceable, isElement, withText, goesOn, lineTurn, textTurn, patternTurn, trimmed, dedented, textMarks, elementMarks, finish, stateAt, usedBy, firstState, getPattern}
 use Rattle.laws.specs.Bytes.{Whole, whole-drop, Fresh, Stop, stop-fresh, byCase, clash, drop-app, run-whole, eol-whole, spaces-whole, fresh-spaces, not-fresh, pick, pick₂}
-use Rattle.laws.specs.Stable.{Mode, loose, any, Upto, upto-le, upto-down, upto-rest, Within, Carries, Closes, weaker, next-ok, after-within, TurnWithin, TurnCarries, Turns, repeat-stops, repeat-keeps, Short, Strict, Inner, Holds, TurnHolds, loop-holds, Sure}
+use Rattle.laws.specs.Answers.{Holds, TurnHolds, loop-holds, Sure}
+use Rattle.laws.specs.Stable.{Mode, loose, any, Upto, upto-le, upto-down, upto-rest, Within, Carries, Closes, weaker, next-ok, after-within, TurnWithin, TurnCarries, Turns, repeat-stops, repeat-keeps, Short, Strict, Inner}
 use Rattle.laws.specs.Stable.Helper.{Soft, soft-fresh, past-spaces, block-reads, block-sure}
 
 -- the readers of what stands inside
