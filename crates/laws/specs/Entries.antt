@@ -21,7 +21,9 @@ use Rattle.laws.specs.Bytes.{Whole, Fresh, Stop, byCase, clash, fresh-sp
 use Rattle.laws.specs.Answers.{Holds, TurnHolds, loop-holds, sure-ok}
 use Rattle.laws.specs.Stable.Helper.{block-sure}
 use Rattle.laws.specs.Stable.Entry.{dotted}
-use Rattle.laws.specs.Stable.Comment.{after-ok, lineRun, lineRun-here, lineRun-on, OneLine, starts-add}
+use Rattle.laws.specs.Lines.{lineRun-here, lineRun-on, starts-add}
+use Rattle.syntax.specs.Bytes.{lineRun}
+use Rattle.laws.specs.Stable.Comment.{after-ok, OneLine}
 use Rattle.syntax.specs.Cut.{oneLine, lastLine}
 
 -- ---- the last line

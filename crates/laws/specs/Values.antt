@@ -12,7 +12,7 @@ use Rattle.syntax.specs.Reader.{Out, ok, bad, deep, fail, _>>=_, _>>_, pure, ne
 use Rattle.syntax.specs.Helper.{expectByte, getIdentifier, getNumberLiteral}
 use Rattle.syntax.specs.Pattern.{Inside}
 use Rattle.syntax.specs.Expression.{Inline, string, number, variable, function, inner, message, term, asInline, stringLiteral, asString, numberLiteral, getCallArguments, getAttributeAccessor, termReference, variableReference, messageReference, functionReference, referenceBy, reference, nestedPlaceable, noInline, nonLiteral, getInlineExpression}
-use Rattle.laws.specs.Bytes.{byCase}
+use Rattle.laws.specs.Bytes.{byCase, pick}
 use Rattle.laws.specs.Answers.{Holds, holds-map, plain-next}
 
 pub identifier-named : (kind : ℕ) (s : List ℕ) → Holds (λ n ms k. n ≡ k) (getIdentifier kind s)
@@ -115,16 +115,16 @@ module _ (sub : Inside) where
   unfolding reference _>>=_
   reference-fits s = named-fits s s (getIdentifier 9 s) (identifier-named 9 s)
 
-  pick-fits : (v : Bool) (o u : Out Inline) → Fits o → Fits u → Fits (elim v [ true ↦ o | false ↦ u ])
-  pick-fits true o u f g = f
-  pick-fits false o u f g = g
-
   pub inline-fits : (v : Bool) (s : List ℕ) → Fits (getInlineExpression sub v s)
   unfolding getInlineExpression nonLiteral
   inline-fits v [] = nameless-fits (noInline v []) (noInline-nameless v [])
   inline-fits v (b ∷ bs) =
-      pick-fits (eqb b 34) _ _ (asString-fits (stringLiteral (b ∷ bs))) (pick-fits (isDigit b) _ _ (nameless-fits (numberLiteral (b ∷ bs)) (number-value Nameless (λ n. tt) (b ∷ bs)))
-      (pick-fits (isLetter b) _ _ (asInline-fits (reference sub (b ∷ bs)) (reference-fits (b ∷ bs))) (pick-fits v _ _ (nameless-fits (noInline true (b ∷ bs)) (noInline-nameless true (b ∷ bs)))
-      (pick-fits (eqb b 45) _ _ (pick-fits (starts isLetter bs) _ _ (asInline-fits (termReference sub (b ∷ bs)) (nameless-fits (termReference sub (b ∷ bs)) (term-value Nameless sub (λ t n. tt) (b ∷ bs)))) (nameless-fits (numberLiteral (b ∷ bs)) (number-value Nameless (λ n. tt) (b ∷ bs))))
-      (pick-fits (eqb b 36) _ _ (asInline-fits (variableReference (b ∷ bs)) (nameless-fits (variableReference (b ∷ bs)) (variable-value Nameless (λ n. tt) (b ∷ bs))))
-      (pick-fits (eqb b 123) _ _ (asInline-fits (nestedPlaceable sub (b ∷ bs)) (nameless-fits (nestedPlaceable sub (b ∷ bs)) (nested-value Nameless sub (λ n. tt) (b ∷ bs)))) (nameless-fits (noInline false (b ∷ bs)) (noInline-nameless false (b ∷ bs)))))))))
+      pick Fits (eqb b 34) _ _ (λ q. asString-fits (stringLiteral s)) (λ q. pick Fits (isDigit b) _ _ (λ q. nameless-fits (numberLiteral s) (number-value Nameless (λ n. tt) s))
+      (λ q. pick Fits (isLetter b) _ _ (λ q. asInline-fits (reference sub s) (reference-fits s)) (λ q. pick Fits v _ _ (λ q. nameless-fits (noInline true s) (noInline-nameless true s))
+      (λ q. pick Fits (eqb b 45) _ _
+      (λ q. pick Fits (starts isLetter bs) _ _ (λ q. asInline-fits (termReference sub s) (nameless-fits (termReference sub s) (term-value Nameless sub (λ t n. tt) s))) (λ q. nameless-fits (numberLiteral s) (number-value Nameless (λ n. tt) s)))
+      (λ q. pick Fits (eqb b 36) _ _ (λ q. asInline-fits (variableReference s) (nameless-fits (variableReference s) (variable-value Nameless (λ n. tt) s)))
+      (λ q. pick Fits (eqb b 123) _ _ (λ q. asInline-fits (nestedPlaceable sub s) (nameless-fits (nestedPlaceable sub s) (nested-value Nameless sub (λ n. tt) s))) (λ q. nameless-fits (noInline false s) (noInline-nameless false s))))))))
+    where
+      s : List ℕ
+      s = b ∷ bs

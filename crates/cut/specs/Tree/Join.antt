@@ -25,7 +25,8 @@ use Rattle.laws.specs.Stable.Pattern.{InsideLaw, block-within, block-same}
 use Rattle.laws.specs.Stable.Helper.{block-sure}
 use Rattle.laws.specs.Stable.Entry.{dotted, Cut, entry-ends, entry-stops}
 use Rattle.laws.specs.Moving.{moveUp-append, moveUp-twice, moveUp-zero, upErrors-twice, upErrors-zero}
-use Rattle.laws.specs.Stable.Comment.{after-ok, OneLine, starts-add, starts-later, Cutting, before, newline, end, Goes, GoesBy, cutting}
+use Rattle.laws.specs.Lines.{starts-add, starts-later}
+use Rattle.laws.specs.Stable.Comment.{after-ok, OneLine, Cutting, before, newline, end, Goes, GoesBy, cutting}
 use Rattle.laws.specs.Lines.Join.{Own, Other, own-or-other}
 use Rattle.laws.specs.Lines.Lands.{Lands, whole-lands, block-lands, entry-lands}
 use Rattle.laws.specs.File.{entries-more}

@@ -4,7 +4,7 @@ use native.Mathlib.Nat.{not-suc-le-zero, add-zero, add-assoc}
 use native.Mathlib.Omega.{arith}
 use mathlib.Core.Path.{_≡_, refl, sym, ap, _∙_, subst}
 use mathlib.Core.Logic.{_⊎_, inl, inr}
-use mathlib.Core.Bool.{Bool, true, false, _&&_, _||_, not}
+use mathlib.Core.Bool.{Bool, true, false, _||_, not}
 use mathlib.Core.List.{List, [], _∷_}
 use lib.ListN.{drop, length, take, length-drop, length-take}
 use lib.Seq.{drop-drop}
@@ -20,7 +20,7 @@ use Rattle.syntax.specs.Core.{getAttribute, attributeBy, attributeTurn, getAttr
 use Rattle.laws.specs.Bytes.{Whole, byCase, clash, pick, run-le}
 use Rattle.laws.specs.Answers.{Takes, Holds, TurnHolds, loop-holds, Sure}
 use Rattle.laws.specs.Stable.Helper.{block-sure}
-use Rattle.laws.specs.Stable.Comment.{starts-later, starts-add}
+use Rattle.laws.specs.Lines.{starts-later, starts-add, eol-starts}
 use Rattle.laws.specs.Bounds.{TurnBounded, goes}
 use Rattle.laws.specs.Bounds.Pattern.{text-bounded}
 
@@ -113,18 +113,6 @@ pub whole-lands : (b : ℕ) (bs : List ℕ) (k : ℕ) → Whole (b ∷ bs) → k
 whole-lands b bs k w l h = byCase (ltb k (suc (length bs))) (λ q. h (ltb-true k (suc (length bs)) q) .1) (λ q. let e : k ≡ suc (length bs) = omega (arith, ltb-false k (suc (length bs)) q) in rw e (whole-end b bs w))
 
 -- ---- blank lines
-
--- a line end ends where a line starts
-pub eol-starts : (r : List ℕ) → 0 < eol r → lineStartsAt (eol r) r ≡ true
-unfolding eol startsWith lineStartsAt
-eol-starts [] h = absurd (not-suc-le-zero h)
-eol-starts (b ∷ bs) h = byCase (eqb b 10) (λ q. rw (q, eol) q) (λ q. cr bs q (rw (q, eol) at h))
-  where
-    cr : (cs : List ℕ) → eqb b 10 ≡ false → 0 < (elim (eqb b 13 && startsWith 10 cs) [ true ↦ 2 | false ↦ 0 ]) → lineStartsAt (eol (b ∷ cs)) (b ∷ cs) ≡ true
-    cr [] q g = byCase (eqb b 13) (λ r. absurd (not-suc-le-zero (rw r at g))) (λ r. absurd (not-suc-le-zero (rw r at g)))
-    cr (c ∷ cs) q g = byCase (eqb b 13)
-        (λ r. byCase (eqb c 10) (λ t. rw (q, eol) (rw r (rw t t))) (λ t. absurd (not-suc-le-zero (rw t at (rw r at g)))))
-        (λ r. absurd (not-suc-le-zero (rw r at g)))
 
 block-turn-lands : (n : ℕ) (s : List ℕ) → TurnHolds blockTurn (λ st r a ms k. lineStartsAt k r ≡ true) n s (blockTurn n s)
 unfolding blockTurn lineStartsAt

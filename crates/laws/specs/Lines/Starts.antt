@@ -20,11 +20,11 @@ use Rattle.syntax.specs.Expression.{level}
 use Rattle.syntax.specs.Core.{Entry, asComment, getEntry, toNextEntry, lineStartsAt, junkEnd, Error}
 use Rattle.laws.specs.Bytes.{byCase, clash, pick}
 use Rattle.laws.specs.Answers.{Takes, Holds, TurnHolds, loop-holds}
-use Rattle.laws.specs.Stable.Comment.{starts-later, starts-add}
+use Rattle.laws.specs.Lines.{starts-later, starts-add, eol-starts}
 use Rattle.laws.specs.Bounds.{Bounded, used}
 use Rattle.laws.specs.Bounds.Pattern.{InsideBounds}
 use Rattle.laws.specs.Bounds.Expression.{level-bounds}
-use Rattle.laws.specs.Lines.Lands.{Lands, Stays, stays-stay, eol-starts, block-starts, entry-lands}
+use Rattle.laws.specs.Lines.Lands.{Lands, Stays, stays-stay, block-starts, entry-lands}
 use Rattle.laws.specs.Entries.{block-ten}
 use Rattle.laws.specs.File.{First, entry, junk, Passed, none, more, leading}
 

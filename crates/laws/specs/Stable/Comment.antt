@@ -1,6 +1,6 @@
 -- comment.rs at a cut.
 use Prim.Native.Nat.{ℕ, zero, suc, _+_, _-_, _≤_, _<_, min, suc-le-suc}
-use native.Mathlib.Nat.{not-suc-le-zero, le-of-suc-le-suc, add-zero, zero-add, suc-add, add-suc}
+use native.Mathlib.Nat.{not-suc-le-zero, le-of-suc-le-suc, add-zero, zero-add, suc-add}
 use native.Mathlib.Omega.{arith}
 use mathlib.Core.Path.{_≡_, refl, sym, ap, ap₂, _∙_, subst}
 use mathlib.Core.Bool.{Bool, true, false, _&&_, _||_, not}
@@ -9,8 +9,7 @@ use lib.ListN.{drop, length, length-drop, length-append, drop-of-length-le}
 use lib.Seq.{drop-drop}
 use lib.Dec.{eqb, ltb}
 use borrow.Author.Tests.{eqb-true, ltb-true, ltb-false}
-unfoldable pub use Rattle.syntax.specs.Bytes.{lineRun}
-use Rattle.syntax.specs.Bytes.{startsWith, run, eol}
+use Rattle.syntax.specs.Bytes.{startsWith, run, eol, lineRun}
 use Rattle.syntax.specs.declared.errors.ErrorKind.the-variants as Errors
 use Rattle.syntax.specs.Marks.{Mark, moveUp, textNode}
 use Rattle.syntax.specs.declared.errors.ParserError.{ParserError}
@@ -18,47 +17,8 @@ use Rattle.syntax.specs.Reader.{Out, ok, bad, deep, fail, after, Turn, again, d
 use Rattle.syntax.specs.Comment.{lineLength, levelOf, lineEndUsed, lineRead, lineTurn, commentTurn}
 use Rattle.syntax.specs.Core.{lineStartsAt}
 use Rattle.laws.specs.Moving.{after-after}
+use Rattle.laws.specs.Lines.{lineRun-whole, lineRun-on, lineRun-at, starts-at, starts-add, eol-line}
 use Rattle.laws.specs.Bytes.{Whole, whole-drop, byCase, clash, drop-app, run-whole, eol-whole}
-
-pub lineRun-whole : (b : ℕ) (bs y : List ℕ) → Whole (b ∷ bs) → (lineRun ((b ∷ bs) ++ y) ≡ lineRun (b ∷ bs)) × (lineRun (b ∷ bs) < suc (length bs))
-unfolding lineRun
-lineRun-whole b bs y w = run-whole (λ b. not (eqb b 10)) refl b bs y w
-
-pub lineRun-here : (b : ℕ) (bs : List ℕ) → eqb b 10 ≡ true → lineRun (b ∷ bs) ≡ 0
-unfolding lineRun run
-lineRun-here b bs q = rw (q, run)
-
-pub lineRun-on : (b : ℕ) (bs : List ℕ) → eqb b 10 ≡ false → lineRun (b ∷ bs) ≡ suc (lineRun bs)
-unfolding lineRun run
-lineRun-on b bs q = rw (q, run)
-
--- what stands at the first newline
-pub lineRun-at : (s : List ℕ) → lineRun s < length s → drop (lineRun s) s ≡ 10 ∷ drop (suc (lineRun s)) s
-lineRun-at [] h = absurd (not-suc-le-zero h)
-lineRun-at (b ∷ bs) h =
-    byCase (eqb b 10) (λ q. rw (lineRun-here b bs q) (ap (λ z. z ∷ bs) (eqb-true b 10 q)))
-    (λ q. rw (lineRun-on b bs q) (lineRun-at bs (omega (arith, lineRun-on b bs q))))
-
-pub starts-at : (s : List ℕ) → lineRun s < length s → lineStartsAt (suc (lineRun s)) s ≡ true
-unfolding lineStartsAt
-starts-at [] h = absurd (not-suc-le-zero h)
-starts-at (b ∷ bs) h =
-    byCase (eqb b 10) (λ q. rw (lineRun-here b bs q) q)
-    (λ q. rw (lineRun-on b bs q) (starts-at bs (omega (arith, lineRun-on b bs q))))
-
-starts-on : (k j : ℕ) (s : List ℕ) → lineStartsAt (suc j) (drop k s) ≡ true → lineStartsAt (k + suc j) s ≡ true
-unfolding lineStartsAt
-starts-on zero j s q = rw (zero-add (suc j)) q
-starts-on (suc k) j [] q = clash q refl
-starts-on (suc k) j (b ∷ bs) q = rw (suc-add k (suc j), add-suc k j) (subst (λ z. lineStartsAt z bs ≡ true) (add-suc k j) (starts-on k j bs q))
-
-pub starts-later : (k j : ℕ) (s : List ℕ) → 0 < j → lineStartsAt j (drop k s) ≡ true → lineStartsAt (k + j) s ≡ true
-starts-later k zero s h q = absurd (not-suc-le-zero h)
-starts-later k (suc j) s h q = starts-on k j s q
-
-pub starts-add : (k j : ℕ) (s : List ℕ) → lineStartsAt k s ≡ true → lineStartsAt j (drop k s) ≡ true → lineStartsAt (k + j) s ≡ true
-starts-add k zero s p q = rw (add-zero k) p
-starts-add k (suc j) s p q = starts-on k j s q
 
 -- a run, after some of it
 run-drop : (t : ℕ → Bool) (k : ℕ) (s : List ℕ) → k ≤ run t s → run t s ≡ k + run t (drop k s)
@@ -76,20 +36,6 @@ hash-line (suc k) [] h = absurd (not-suc-le-zero h)
 hash-line (suc k) (b ∷ bs) h = byCase (eqb b 35)
     (λ q. lineRun-on b bs (rw (eqb-true b 35 q) refl) ∙ ap suc (hash-line k bs (le-of-suc-le-suc (rw (q, run) at h))) ∙ sym (suc-add k (lineRun (drop k bs))))
     (λ q. absurd (not-suc-le-zero (rw (q, run) at h)))
-
--- the line end that a line comes to
-pub eol-line : (s : List ℕ) → 0 < eol s → lineRun s + 1 ≡ eol s
-unfolding eol startsWith
-eol-line [] h = absurd (not-suc-le-zero h)
-eol-line (b ∷ bs) h = byCase (eqb b 10)
-    (λ q. rw (q, eol) (omega (arith, lineRun-here b bs q)))
-    (λ q. cr bs (rw (q, eol) at h) q)
-  where
-    cr : (cs : List ℕ) → 0 < (elim (eqb b 13 && startsWith 10 cs) [ true ↦ 2 | false ↦ 0 ]) → eqb b 10 ≡ false → lineRun (b ∷ cs) + 1 ≡ eol (b ∷ cs)
-    cr [] g q = byCase (eqb b 13) (λ r. absurd (not-suc-le-zero (rw r at g))) (λ r. absurd (not-suc-le-zero (rw r at g)))
-    cr (c ∷ cs) g q = byCase (eqb b 13)
-        (λ r. byCase (eqb c 10) (λ t. rw (q, eol) (rw r (rw t (omega (arith, lineRun-on b (c ∷ cs) q, lineRun-here c cs t))))) (λ t. absurd (not-suc-le-zero (rw t at (rw r at g)))))
-        (λ r. absurd (not-suc-le-zero (rw r at g)))
 
 -- a line's text
 record Text (b : ℕ) (bs : List ℕ) : Type 0 where
