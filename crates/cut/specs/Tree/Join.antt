@@ -120,7 +120,7 @@ module _ (sub : Inside) (law : InsideLaw sub) (y : List ℕ) (f : Fresh y) where
   named-way n b bs ma t w q =
       let le : t .k ≤ suc (length bs) = fits (suc (length bs)) (getEntry sub (b ∷ bs)) (t .e) (t .ms) (t .k) (t .entry) (subst (λ z. Within (suc (length bs)) (getEntry sub z)) (append-nil (b ∷ bs)) (entry-stops sub law b bs [] w tt q)) in
       kept (carried (Cut sub law (b ∷ bs)) (getEntry sub (b ∷ bs)) (getEntry sub ((b ∷ bs) ++ y)) (t .e) (t .ms) (t .k) (t .entry) (entry-ends sub law b bs y w f q) (le, not-dotted sub n (b ∷ bs) ma t))
-      le (inl (whole-lands b bs (t .k) w le (subst (Holds (λ e ms k. Lands (b ∷ bs) k)) (t .entry) (entry-lands sub (λ c cs. law .braced .takes (c ∷ cs)) (b ∷ bs) (unfold startsWith in q)))))
+      le (inl (whole-lands b bs (t .k) w le (subst (Holds (λ e ms k. Lands (b ∷ bs) k)) (t .entry) (entry-lands sub (law .bounds) (b ∷ bs) (unfold startsWith in q)))))
       (λ z. (λ h. apart (tail-of (b ∷ bs) w h) z, λ v w. settled sub b bs (t .e) (t .ms) (t .k) q (t .entry) (ltb (t .c) 2 && v) (ltb (t .c) 2 && w)))
     where
       go : (x z : List ℕ) → b ∷ bs ≡ x ++ z → Whole x → Stop z → 0 < length z → t .k + t .u ≡ length (b ∷ bs) → ⊥

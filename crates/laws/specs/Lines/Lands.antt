@@ -21,8 +21,8 @@ use Rattle.laws.specs.Bytes.{Whole, byCase, clash, pick, run-le}
 use Rattle.laws.specs.Answers.{Takes, Holds, TurnHolds, loop-holds, Sure}
 use Rattle.laws.specs.Stable.Helper.{block-sure}
 use Rattle.laws.specs.Lines.{starts-later, starts-add, eol-starts}
-use Rattle.laws.specs.Bounds.{TurnBounded, goes}
-use Rattle.laws.specs.Bounds.Pattern.{text-bounded}
+use Rattle.laws.specs.Bounds.{Bounded, used, TurnBounded, goes}
+use Rattle.laws.specs.Bounds.Pattern.{InsideBounds, text-bounded}
 
 -- unless all of s is used, a line starts k bytes on: past the start
 abbrev pub Lands : List ℕ → ℕ → Type 0
@@ -227,8 +227,16 @@ module _ (sub : Inside) where
           clash {v = goesOn i c} (rw i0 (rw (← bc) (rw (eqb-true b 10 z) refl))) g)
           (λ z. z)
 
-  -- what stands in braces uses a byte
-  module _ (takes : (b : ℕ) (bs : List ℕ) → Takes (sub .braced (b ∷ bs))) where
+  module _ {n : ℕ} (law : InsideBounds n sub) where
+    -- what stands in braces uses a byte
+    takes : (b : ℕ) (bs : List ℕ) → Takes (sub .braced (b ∷ bs))
+    takes b bs = go (sub .braced (b ∷ bs)) (law .braced b bs)
+      where
+        go : (o : Out (Unit {0})) → Bounded n (λ _. 20) (b ∷ bs) o → Takes o
+        go (ok a ms k) (used u) = omega (arith, u .room)
+        go (bad f k) h = tt
+        go (deep k) h = tt
+
     turn-lands : (st : State) (s : List ℕ) → Turned st s (patternTurn sub st s)
     unfolding patternTurn textTurn
     turn-lands st [] = λ h. absurd (not-suc-le-zero h)

@@ -19,9 +19,9 @@ use Rattle.syntax.specs.Pattern.{Inside, usedBy}
 use Rattle.syntax.specs.Expression.{level}
 use Rattle.syntax.specs.Core.{Entry, asComment, getEntry, toNextEntry, lineStartsAt, junkEnd, Error}
 use Rattle.laws.specs.Bytes.{byCase, clash, pick}
-use Rattle.laws.specs.Answers.{Takes, Holds, TurnHolds, loop-holds}
+use Rattle.laws.specs.Answers.{Holds, TurnHolds, loop-holds}
 use Rattle.laws.specs.Lines.{starts-later, starts-add, eol-starts}
-use Rattle.laws.specs.Bounds.{Bounded, used}
+use Rattle.laws.specs.Bounds.{used}
 use Rattle.laws.specs.Bounds.Pattern.{InsideBounds}
 use Rattle.laws.specs.Bounds.Expression.{level-bounds}
 use Rattle.laws.specs.Lines.Lands.{Lands, Stays, stays-stay, block-starts, entry-lands}
@@ -140,16 +140,8 @@ block-some (b ∷ bs) h = rw (eqb-true b 10 h) (rw (block-ten bs) (past (loop (s
 
 module _ {n : ℕ} {sub : Inside} (law : InsideBounds n sub) where
   entry-leaves : (s : List ℕ) → Holds (λ e ms k. Leaves s k) (getEntry sub s)
-  entry-leaves s = byCase (startsWith 35 s) (λ q. unfold getEntry in (rw (q, getEntry) (commented (getComment s) (comment-leaves s)))) (λ q. named (getEntry sub s) (entry-lands sub takes s q))
+  entry-leaves s = byCase (startsWith 35 s) (λ q. unfold getEntry in (rw (q, getEntry) (commented (getComment s) (comment-leaves s)))) (λ q. named (getEntry sub s) (entry-lands sub law s q))
     where
-      takes : (b : ℕ) (bs : List ℕ) → Takes (sub .braced (b ∷ bs))
-      takes b bs = go (sub .braced (b ∷ bs)) (law .braced b bs)
-        where
-          go : (o : Out (Unit {0})) → Bounded n (λ _. 20) (b ∷ bs) o → Takes o
-          go (ok a ms k) (used u) = omega (arith, u .room)
-          go (bad f k) h = tt
-          go (deep k) h = tt
-
       commented : (o : Out ℕ) → Holds (λ l ms k. Leaves s k) o → Holds (λ e ms k. Leaves s k) (asComment o)
       commented (ok l ms k) h = unfold asComment in h
       commented (bad f k) h = unfold asComment in tt

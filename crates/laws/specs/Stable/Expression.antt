@@ -16,6 +16,7 @@ use Rattle.syntax.specs.Helper.{skipBlank, expectByte, getIdentifier, getNumber
 use Rattle.syntax.specs.Pattern.{Inside}
 use Rattle.syntax.specs.Expression.{Inline, string, number, variable, function, inner, message, term, argumentTurn, parenthesised, keyText, getVariantKey, needsValue, variant, variantKind, endVariants, variantWith, afterStar, turnAfter, variantTurn, getVariants, selector, alone, needsLineEnd, selectFrom, afterInline, inSelect, inlineOrSelect, getExpression, braced, tooDeep, level}
 use Rattle.laws.specs.Bytes.{Whole, whole-tail, nonempty, Stop, byCase, pick, pick₂}
+use Rattle.laws.specs.Bounds.Expression.{level-bounds}
 use Rattle.laws.specs.Stable.{Mode, loose, Upto, Reads, Closes, Strict, from-any, bind, then, then-closes, then-strict, strict-then, inner-bind, pure-reads, fail-reads, node-reads, node-closes, Relabels, relabel, relabels, TurnWithin, TurnCarries, Free, turnOf-carries, turnOf-within, done-carries, repeat-reads}
 use Rattle.laws.specs.Stable.Helper.{expectByte-reads, expectByte-closes, expectByte-strict, inline-reads, eol-reads, blank-reads, identifier-reads, numberLiteral-reads, choose-reads}
 use Rattle.laws.specs.Stable.Pattern.{InsideLaw, getPattern-inner}
@@ -190,5 +191,5 @@ deep-strict = record { short = λ x y w s. tt }
 
 pub level-law : (n : ℕ) → InsideLaw (level n)
 unfolding level
-level-law zero = record { braced = deep-closes; bracedStrict = deep-strict; parenthesised = deep-closes }
-level-law (suc n) = record { braced = braced-closes (level n) (level-law n); bracedStrict = braced-strict (level n) (level-law n); parenthesised = parenthesised-closes (level n) (level-law n) }
+level-law zero = record { braced = deep-closes; bracedStrict = deep-strict; parenthesised = deep-closes; depth = zero; bounds = level-bounds zero }
+level-law (suc n) = record { braced = braced-closes (level n) (level-law n); bracedStrict = braced-strict (level n) (level-law n); parenthesised = parenthesised-closes (level n) (level-law n); depth = suc n; bounds = level-bounds (suc n) }
