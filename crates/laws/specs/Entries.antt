@@ -182,7 +182,7 @@ module _ (sub : Inside) where
           let (c, gs, u, g) = sure-ok (skipBlankBlock (drop k (b ∷ bs))) (block-sure (drop k (b ∷ bs))) in
           let (mr, er, r, m, x) = following-read (node (kindOfEntry e (ltb c 2 && isNamed (getEntry sub (drop (k + u) (b ∷ bs))))) ms) (k + u) (entries n sub (drop (k + u) (b ∷ bs))) ma []
           (sym (entries-with n b bs e ms k c u gs (drop (k + u) (b ∷ bs)) p g refl) ∙ h) in
-          record { e = e; ms = ms; k = k; c = c; gs = gs; u = u; mr = mr; entry = p; gap = g; rest = r ∙ ap (read mr) (map-nil (k + u) er x); marks = m }
+          record { e = e; ms = ms; k = k; c = c; gs = gs; u = u; mr = mr; entry = p; gap = g; rest = _∙_ {b = read mr er} r (ap (read mr) (map-nil (k + u) er x)); marks = m }
       go (bad f k) p = absurd (junk-free n b bs ma f k h p)
       go (deep k) p = absurd (not-deep n b bs ma [] k h p)
 

@@ -176,17 +176,23 @@ kinds true = (refl, refl)
 kinds false = (refl, refl)
 
 -- bytes used, and blanks after them
-pub pastBlank-within : (k : ℕ) (s : List ℕ) → k ≤ length s → (k ≤ pastBlank k s) × (pastBlank k s ≤ length s)
+pub pastBlank-least : (k : ℕ) (s : List ℕ) → k ≤ pastBlank k s
+unfolding pastBlank
+pastBlank-least k s = go (skipBlank (drop k s))
+  where
+    go : (o : Out (Unit {0})) → k ≤ (elim o [ ok u ms j ↦ k + j | bad f j ↦ k | deep j ↦ k ])
+    go (ok a ms j) = omega arith
+    go (bad f j) = omega arith
+    go (deep j) = omega arith
+
+pub pastBlank-within : (k : ℕ) (s : List ℕ) → k ≤ length s → pastBlank k s ≤ length s
 unfolding pastBlank
 pastBlank-within k s h = go (skipBlank (drop k s)) (blank-bounds {n = 0} .on (drop k s))
   where
-    past : Out (Unit {0}) → ℕ
-    past o = elim o [ ok u ms j ↦ k + j | bad f j ↦ k | deep j ↦ k ]
-
-    go : (o : Out (Unit {0})) → Bounded 0 (λ _. 0) (drop k s) o → (k ≤ past o) × (past o ≤ length s)
-    go (ok u ms j) (used v) = (omega arith, omega (arith, v .within, length-drop k s))
-    go (bad f j) (stopped i g) = (omega arith, h)
-    go (deep j) (Bounds.tooDeep i g l) = (omega arith, h)
+    go : (o : Out (Unit {0})) → Bounded 0 (λ _. 0) (drop k s) o → (elim o [ ok u ms j ↦ k + j | bad f j ↦ k | deep j ↦ k ]) ≤ length s
+    go (ok u ms j) (used v) = omega (arith, v .within, length-drop k s)
+    go (bad f j) b = h
+    go (deep j) b = h
 
 -- ---- readers of nesting
 
@@ -261,7 +267,8 @@ module _ {n : ℕ} {sub : Inside} (law : InsideBounds n sub) where
   argumentBy-bounded : {s : List ℕ} (names : List (List ℕ)) (o : Out Inline) → Bounded n (λ _. 4) s o → Fits o → Bounded n (λ _. 4) s (argumentBy sub names s o)
   unfolding argumentBy afterReference
   argumentBy-bounded {s} names (ok (message i false) ms k) (used u) f =
-      let (l, h) = pastBlank-within k s (u .within) in
+      let l = pastBlank-least k s in
+      let h = pastBlank-within k s (u .within) in
       let p = pastBlank k s in
       pick (Bounded n (λ _. 4) s) (startsWith 58 (drop p s)) _ _ (λ q. bounded-less (λ _. omega arith) (named-bounded names i p s (omega arith) h (omega (arith, u .room))))
       (λ q. positional-bounded names (record { within = h; room = omega (arith, u .room); forest = forest-more l (u .forest) }))

@@ -18,6 +18,7 @@ use Rattle.syntax.specs.Pattern.{Inside}
 use Rattle.syntax.specs.Expression.{Inline, string, number, variable, function, inner, message, term, getInlineExpression, isAmong, isNone, separator, positional, namedValue, namedArgument, afterReference, pastBlank, argumentBy, argumentTurn}
 use Rattle.laws.specs.Bytes.{Whole, whole-drop, Stop, byCase, drop-app, pick, pick₂}
 use Rattle.laws.specs.Answers.{Holds, Sure, holds-map}
+use Rattle.laws.specs.Bounds.Expression.{pastBlank-least}
 use Rattle.laws.specs.Stable.{loose, Upto, Within, Carries, Reads, from-any, then, pure-reads, TurnWithin, TurnCarries, Turns, Any, Free, turnOf-carries, turnOf-within, next-within, next-keeps, wrap-relabels, cont-within, cont-keeps, carries-trans, after-least, least-next, least-wrap, beyond}
 use Rattle.laws.specs.Stable.Helper.{expectByte-reads, takeByteIf-reads, blank-reads, blank-sure}
 use Rattle.laws.specs.Stable.Pattern.{InsideLaw}
@@ -112,15 +113,6 @@ module _ (sub : Inside) (law : InsideLaw sub) where
       go (ok a ms j) g = omega (arith, length-drop k x)
       go (bad f j) g = h
       go (deep j) g = h
-
-  pub pastBlank-least : (k : ℕ) (s : List ℕ) → k ≤ pastBlank k s
-  unfolding pastBlank past-of
-  pastBlank-least k s = go (skipBlank (drop k s))
-    where
-      go : (o : Out (Unit {0})) → k ≤ past-of k o
-      go (ok a ms j) = omega arith
-      go (bad f j) = omega arith
-      go (deep j) = omega arith
 
   pastBlank-same : (x y : List ℕ) → Whole x → (k : ℕ) → pastBlank k x < length x → pastBlank k (x ++ y) ≡ pastBlank k x
   unfolding pastBlank past-of

@@ -173,11 +173,6 @@ module _ (sub : Inside) (law : InsideLaw sub) where
   holds-all P f (bad e k) = tt
   holds-all P f (deep k) = tt
 
-  short-holds : {A : Type 0} (n : ℕ) (o : Out A) → Short n o → Holds (λ a ms k. k < n) o
-  short-holds n (ok a ms k) h = h
-  short-holds n (bad f k) h = tt
-  short-holds n (deep k) h = tt
-
   last-ends : {A B : Type 0} (x y : List ℕ) (g : A → B) (o o′ : Out A) → Carries (Cut x) o o′ → Carries (Cut x) (next x (λ a. pure (g a)) o) (next (x ++ y) (λ a. pure (g a)) o′)
   unfolding next pure after
   last-ends x y g (ok a ms k) o′ c = λ u. ap (next (x ++ y) (λ a. pure (g a))) (c (subst (Cut x) (add-zero k) u))
@@ -215,8 +210,8 @@ module _ (sub : Inside) (law : InsideLaw sub) where
       where
         byte : (z : List ℕ) → Whole z → EndsAt (expectByte 61 >> tail₂ n) z y
         byte z v = ends-next z y (λ _. tail₂ n) (expectByte 61 z) (expectByte 61 (z ++ y)) f (from-any fresh (expectByte-reads 61 (λ e. omega arith)) .keeps z y v)
-            (holds-map (λ a ms k. k < length z) (λ a ms k. k ≤ length z → EndsAt (tail₂ n) (drop k z) y) (λ a ms k h g. ends₂ n (drop k z) (whole-drop k z v) (rw length-drop (omega arith))) (expectByte 61 z)
-            (short-holds (length z) (expectByte 61 z) (subst (λ t. Short (length z) (expectByte 61 t)) (append-nil z) (expectByte-strict 61 (λ e. omega arith) (λ e. omega arith) .short z [] v tt))))
+            (holds-map (λ a ms k. k < length z) (λ a ms k. k ≤ length z → EndsAt (tail₂ n) (drop k z) y) (λ (a : Unit {0}) ms k h g. ends₂ n (drop k z) (whole-drop k z v) (rw length-drop (omega arith))) (expectByte 61 z)
+            (subst (λ t. Short (length z) (expectByte 61 t)) (append-nil z) (expectByte-strict 61 (λ e. omega arith) (λ e. omega arith) .short z [] v tt)))
 
     fields-ends : (x : List ℕ) → Whole x → EndsAt (fields sub) x y
     unfolding fields _>>=_
