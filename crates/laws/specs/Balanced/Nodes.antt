@@ -10,7 +10,7 @@ use borrow.Author.Tests.{eqb-true, eqb-false, le-ltb, ne-eqb}
 use Rattle.syntax.specs.Marks.{Mark, plain, placed, kindOf, up, moveUp, node, textNode}
 use Rattle.syntax.specs.Serializer.{Node, outside, opened, into, closed, nodesFrom, nodes}
 use Rattle.laws.specs.Moving.{moveUp-append}
-use Rattle.laws.specs.Balanced.{Levels}
+use Rattle.laws.specs.Balanced.{Levels, Opened}
 
 into-nil : (o : Node) → into o [] ≡ o
 into-nil o i = record { kind = o .kind; opening = o .opening; closing = o .closing; inner = append-nil (o .inner) i }
@@ -31,7 +31,7 @@ absorb : (ms xs : List Mark) (o : Node) (d j : ℕ) → 0 < d → Levels j ms �
 absorb [] xs o d j h l = ap (λ i. nodesFrom o (d + i) xs) l ∙ ap₂ (λ i z. nodesFrom z i xs) (add-zero d) (sym (into-nil o))
 absorb (m ∷ ms) xs o d j h l = go (ltb (kindOf m) 100) refl l (λ o i. absorb ms xs o d i h)
   where
-    go : (v : Bool) → ltb (kindOf m) 100 ≡ v → (elim v as (λ x. Type 0) [ true ↦ Levels (suc j) ms | false ↦ (0 < j) × Levels (j - 1) ms ]) → ((o : Node) (i : ℕ) → Levels i ms → nodesFrom o (d + i) (ms ++ xs) ≡ nodesFrom (into o ms) d xs)
+    go : (v : Bool) → ltb (kindOf m) 100 ≡ v → Opened v j ms → ((o : Node) (i : ℕ) → Levels i ms → nodesFrom o (d + i) (ms ++ xs) ≡ nodesFrom (into o ms) d xs)
         → nodesFrom o (d + j) (m ∷ (ms ++ xs)) ≡ nodesFrom (into o (m ∷ ms)) d xs
     go true q l f = let z : suc (d + j) ≡ d + suc j = omega arith in
         from-open o (d + j) m (ms ++ xs) q (omega arith) ∙ ap (λ i. nodesFrom (into o (m ∷ [])) i (ms ++ xs)) z ∙ f (into o (m ∷ [])) (suc j) l ∙ ap (λ z. nodesFrom z d xs) (into-into o m ms)
@@ -123,7 +123,7 @@ module _ (P : ℕ → Type 0) where
   ok-nodes ms a = ok-from outside 0 ms (tt, tt, tt) a
 
 -- the nodes of marks that close all they open, and of what follows them
-split-pick : (u v w : Bool) (o : Node) (d : ℕ) (m : Mark) (ms xs : List Mark) → eqb d 0 ≡ v → eqb d 1 ≡ w → (elim u as (λ x. Type 0) [ true ↦ Levels (suc d) ms | false ↦ (0 < d) × Levels (d - 1) ms ])
+split-pick : (u v w : Bool) (o : Node) (d : ℕ) (m : Mark) (ms xs : List Mark) → eqb d 0 ≡ v → eqb d 1 ≡ w → Opened u d ms
     → ((z : Node) (i : ℕ) → Levels i ms → (i ≡ 0 → z ≡ outside) → nodesFrom z i (ms ++ xs) ≡ nodesFrom z i ms ++ nodes xs)
     → pickFrom u v w o d m (ms ++ xs) ≡ pickFrom u v w o d m ms ++ nodes xs
 split-pick true true w o d m ms xs p q l f = f (opened m) 1 (subst (λ i. Levels (suc i) ms) (eqb-true d 0 p) l) (λ e. absurd (omega arith))

@@ -179,8 +179,11 @@ text-ends s i r at =
 -- ---- patterns
 
 -- a pattern's turns, from the state st on
+abbrev LandedBy : Bool → List ℕ → ℕ → Type 0
+LandedBy starts s k = ((0 < k) × (lineStartsAt k s ≡ true)) ⊎ ((k ≡ 0) × (starts ≡ true) × (startsWith 10 s ≡ false))
+
 abbrev Landed : State → List ℕ → State → List Mark → ℕ → Type 0
-Landed st s st′ ms k = k < length s → ((0 < k) × (lineStartsAt k s ≡ true)) ⊎ ((k ≡ 0) × (isLineStart (st .role) ≡ true) × (startsWith 10 s ≡ false))
+Landed st s st′ ms k = k < length s → LandedBy (isLineStart (st .role)) s k
 
 module _ (sub : Inside) where
   abbrev Turned : State → List ℕ → Turn State State → Type 0
@@ -190,7 +193,7 @@ module _ (sub : Inside) where
   unfolding withText after
   withText-lands st s i (ok t ms k) (goes u) e = λ st′ ns j h l. inl (by j (h (omega (arith, length-drop (i + k) s))))
     where
-      by : (j : ℕ) → ((0 < j) × (lineStartsAt j (drop (i + k) s) ≡ true)) ⊎ ((j ≡ 0) × (isLineStart (roleAfter (t .ending)) ≡ true) × (startsWith 10 (drop (i + k) s) ≡ false)) → (0 < i + k + j) × (lineStartsAt (i + k + j) s ≡ true)
+      by : (j : ℕ) → LandedBy (isLineStart (roleAfter (t .ending))) (drop (i + k) s) j → (0 < i + k + j) × (lineStartsAt (i + k + j) s ≡ true)
       by j (inl (p, q)) = (omega arith, starts-later (i + k) j s p q)
       by j (inr (z, a, b)) = (omega (arith, u .room), rw z (rw (add-zero (i + k)) (from (e a))))
         where
@@ -204,7 +207,7 @@ module _ (sub : Inside) where
   unfolding withPlaceable isLineStart
   withPlaceable-lands st s (ok u ms k) p = λ st′ ns j h l. inl (by j (h (omega (arith, length-drop k s))))
     where
-      by : (j : ℕ) → ((0 < j) × (lineStartsAt j (drop k s) ≡ true)) ⊎ ((j ≡ 0) × (false ≡ true) × (startsWith 10 (drop k s) ≡ false)) → (0 < k + j) × (lineStartsAt (k + j) s ≡ true)
+      by : (j : ℕ) → LandedBy false (drop k s) j → (0 < k + j) × (lineStartsAt (k + j) s ≡ true)
       by j (inl (p, q)) = (omega arith, starts-later k j s p q)
       by j (inr (z, a, b)) = clash refl (sym a)
   withPlaceable-lands st s (bad f k) p = tt
@@ -272,7 +275,7 @@ module _ (sub : Inside) where
         started : (s : List ℕ) (o : Out State) → Holds (Landed (firstState s) (drop (firstState s .used) s)) o → Holds (λ a ms k. Lands s k) (after [] (firstState s .used) o)
         started s (ok st ms k) h = unfold after in (λ l. by k (h (omega (arith, length-drop (firstState s .used) s))) (first-lands s))
           where
-            by : (k : ℕ) → ((0 < k) × (lineStartsAt k (drop (firstState s .used) s) ≡ true)) ⊎ ((k ≡ 0) × (isLineStart (firstState s .role) ≡ true) × (startsWith 10 (drop (firstState s .used) s) ≡ false))
+            by : (k : ℕ) → LandedBy (isLineStart (firstState s .role)) (drop (firstState s .used) s) k
                 → (firstState s .role ≡ initialLineStart) ⊎ ((0 < firstState s .used) × (lineStartsAt (firstState s .used) s ≡ true)) → (0 < firstState s .used + k) × (lineStartsAt (firstState s .used + k) s ≡ true)
             by k (inl (p, q)) f = (omega arith, starts-later (firstState s .used) k s p q)
             by k (inr (z, a, b)) (inl e) = clash a (ap isLineStart e ∙ (unfold isLineStart in refl))

@@ -234,6 +234,10 @@ pub data Cutting (st : ℕ) (x : List ℕ) (l : ℕ) (ms : List Mark) (k : ℕ) 
   end : k ≡ length x → (i : ℕ) → lineStartsAt i x ≡ true → OneLine (drop i x) → startsWith 35 (drop i x) ≡ true → run (λ b. eqb b 35) (drop i x) ≡ l
       → ((y : List ℕ) (n : ℕ) → length (x ++ y) < n → Goes y l ms k (loop n commentTurn st (x ++ y))) → Cutting st x l ms k
 
+-- all that n turns read
+abbrev Cuttings : ℕ → Type 0
+Cuttings n = (st : ℕ) (x : List ℕ) → Whole x → startsWith 35 x ≡ true → (l : ℕ) (ms : List Mark) (k : ℕ) → loop n commentTurn st x ≡ ok l ms k → Cutting st x l ms k
+
 pub after-ok : {A : Type 0} (ms : List Mark) (k : ℕ) (o : Out A) (a : A) (ns : List Mark) (j : ℕ) → after ms k o ≡ ok a ns j → (ns′ : List Mark) × (j′ : ℕ) × (o ≡ ok a ns′ j′) × (ms ++ moveUp k ns′ ≡ ns) × (k + j′ ≡ j)
 unfolding after
 after-ok ms k (ok b ns′ j′) a ns j e = (ns′, j′, cc, cc, cc)
@@ -332,7 +336,7 @@ module _ (n st b : ℕ) (bs : List ℕ) (w : Whole (b ∷ bs)) (hash : eqb b 35 
     turn₀ r g = subst (λ z. commentTurn st z ≡ again l₁ ms₁ (endAt (drop (suc j) (b ∷ bs) ++ []) j)) (append-nil (b ∷ bs)) (t []) ∙ ap (λ z. again l₁ ms₁ (endAt z j)) (append-nil (drop (suc j) (b ∷ bs)) ∙ g)
 
     -- it is followed by another
-    more-cut : (ih : (st′ : ℕ) (x : List ℕ) → Whole x → startsWith 35 x ≡ true → (l : ℕ) (ms : List Mark) (k : ℕ) → loop n commentTurn st′ x ≡ ok l ms k → Cutting st′ x l ms k)
+    more-cut : (ih : Cuttings n)
         (d : ℕ) (ds : List ℕ) → drop (suc j) (b ∷ bs) ≡ d ∷ ds → eqb d 35 ≡ true → Cutting st (b ∷ bs) l ms k
     unfolding j startsWith
     more-cut ih d ds g q =
@@ -407,7 +411,7 @@ module _ (n st b : ℕ) (bs : List ℕ) (w : Whole (b ∷ bs)) (hash : eqb b 35 
                 shorter : k ≡ suc j → j + 0 ≡ k - 1
                 shorter z = omega arith
 
-  line-cut : (ih : (st′ : ℕ) (x : List ℕ) → Whole x → startsWith 35 x ≡ true → (l : ℕ) (ms : List Mark) (k : ℕ) → loop n commentTurn st′ x ≡ ok l ms k → Cutting st′ x l ms k)
+  line-cut : (ih : Cuttings n)
       → Line st (b ∷ bs) → Cutting st (b ∷ bs) l ms k
   line-cut ih (over t) = over-cut t
   line-cut ih (wrong f i t) =

@@ -106,10 +106,13 @@ unfolding skipBlank
 blank-reads m soft = repeat-reads blankTurn (line-turns m soft blankTurn (λ u. tt) blankTurn-same blankTurn-fits blankTurn-calm) tt
 
 -- the rest of a line after its spaces
-pub past-spaces : (b : ℕ) (bs : List ℕ) → Whole (b ∷ bs) → (c : ℕ) × (cs : List ℕ) × (drop (spaces (b ∷ bs)) (b ∷ bs) ≡ c ∷ cs) × Whole (c ∷ cs) × (suc (length cs) + spaces (b ∷ bs) ≡ suc (length bs))
+abbrev PastSpaces : ℕ → List ℕ → Type 0
+PastSpaces b bs = (c : ℕ) × (cs : List ℕ) × (drop (spaces (b ∷ bs)) (b ∷ bs) ≡ c ∷ cs) × Whole (c ∷ cs) × (suc (length cs) + spaces (b ∷ bs) ≡ suc (length bs))
+
+pub past-spaces : (b : ℕ) (bs : List ℕ) → Whole (b ∷ bs) → PastSpaces b bs
 past-spaces b bs w = go (drop (spaces (b ∷ bs)) (b ∷ bs)) refl
   where
-    go : (r : List ℕ) → drop (spaces (b ∷ bs)) (b ∷ bs) ≡ r → (c : ℕ) × (cs : List ℕ) × (drop (spaces (b ∷ bs)) (b ∷ bs) ≡ c ∷ cs) × Whole (c ∷ cs) × (suc (length cs) + spaces (b ∷ bs) ≡ suc (length bs))
+    go : (r : List ℕ) → drop (spaces (b ∷ bs)) (b ∷ bs) ≡ r → PastSpaces b bs
     go [] e = absurd (omega (arith, ap length e, length-drop (spaces (b ∷ bs)) (b ∷ bs), spaces-whole b bs [] w .1))
     go (c ∷ cs) e = (c, cs, e, subst Whole e (whole-drop (spaces (b ∷ bs)) (b ∷ bs) w), omega (arith, ap length e, length-drop (spaces (b ∷ bs)) (b ∷ bs), spaces-whole b bs [] w .1))
 

@@ -33,6 +33,9 @@ pub record InsideLaw (sub : Inside) : Type 0 where
 abbrev pub Ready : State → List ℕ → Type 0
 Ready st x = isLineStart (st .role) ≡ false → 0 < length x
 
+abbrev ReadyAfter : List ℕ → State → ℕ → Type 0
+ReadyAfter x st k = Ready st (drop k x)
+
 isTextByte-end : isTextByte 10 ≡ false
 unfolding isTextByte
 isTextByte-end = refl
@@ -80,7 +83,7 @@ slice-fits b bs w =
     rw (slice-at (b ∷ bs) (take n (b ∷ bs)) (d ∷ ds) n refl refl e)
     (sliceBy-fits (take n (b ∷ bs)) d ds (suc (length bs)) (omega (arith, length-take n (b ∷ bs), run-whole isTextByte isTextByte-end b bs [] w .1)))
 
-withText-fits : (st : State) (indent n : ℕ) (x : List ℕ) (o : Out Slice) → Sliced n o → n + indent ≡ length x → TurnWithin (λ st′ k. Ready st′ (drop k x)) (length x) (withText st indent o)
+withText-fits : (st : State) (indent n : ℕ) (x : List ℕ) (o : Out Slice) → Sliced n o → n + indent ≡ length x → TurnWithin (ReadyAfter x) (length x) (withText st indent o)
 unfolding withText after
 withText-fits st indent n x (ok t ms k) h e = (omega (arith, h .0), λ q. rw length-drop (omega (arith, h .1 q)))
 withText-fits st indent n x (bad f k) h e = tt
@@ -94,9 +97,9 @@ lineTurn-same : (st : State) (k c : ℕ) (cs y : List ℕ) → Whole (c ∷ cs) 
 unfolding lineTurn
 lineTurn-same st k c cs y w = ap (λ o. elim (goesOn k c) [ true ↦ withText st k o | false ↦ done (ok st [] 0) ]) (slice-same c cs y w)
 
-lineTurn-fits : (st : State) (k c : ℕ) (cs x : List ℕ) → Whole (c ∷ cs) → isLineStart (st .role) ≡ true → suc (length cs) + k ≡ length x → TurnWithin (λ st′ j. Ready st′ (drop j x)) (length x) (lineTurn st k (c ∷ cs))
+lineTurn-fits : (st : State) (k c : ℕ) (cs x : List ℕ) → Whole (c ∷ cs) → isLineStart (st .role) ≡ true → suc (length cs) + k ≡ length x → TurnWithin (ReadyAfter x) (length x) (lineTurn st k (c ∷ cs))
 unfolding lineTurn
-lineTurn-fits st k c cs x w l e = pick (TurnWithin (λ st′ j. Ready st′ (drop j x)) (length x)) (goesOn k c) _ _
+lineTurn-fits st k c cs x w l e = pick (TurnWithin (ReadyAfter x) (length x)) (goesOn k c) _ _
     (λ q. withText-fits st k (suc (length cs)) x (getTextSlice (c ∷ cs)) (slice-fits c cs w) e) (λ q. omega arith)
 
 textTurn-same : (st : State) (b : ℕ) (bs y : List ℕ) → Whole (b ∷ bs) → textTurn st ((b ∷ bs) ++ y) ≡ textTurn st (b ∷ bs)
@@ -108,7 +111,7 @@ textTurn-same st b bs y w =
     ∙ lineTurn-same st (spaces (b ∷ bs)) c cs y v ∙ sym (lineTurn-at st (spaces (b ∷ bs)) (c ∷ cs) (b ∷ bs) q refl e))
     (λ q. rw (q, textTurn) (ap (withText st 0) (slice-same b bs y w)))
 
-textTurn-fits : (st : State) (b : ℕ) (bs : List ℕ) → Whole (b ∷ bs) → TurnWithin (λ st′ k. Ready st′ (drop k (b ∷ bs))) (suc (length bs)) (textTurn st (b ∷ bs))
+textTurn-fits : (st : State) (b : ℕ) (bs : List ℕ) → Whole (b ∷ bs) → TurnWithin (ReadyAfter (b ∷ bs)) (suc (length bs)) (textTurn st (b ∷ bs))
 unfolding textTurn
 textTurn-fits st b bs w =
     let (c, cs, e, v, l) = past-spaces b bs w in
@@ -130,36 +133,36 @@ pub not-ready : (st : State) → Ready st [] → isLineStart (st .role) ≡ true
 not-ready st r = byCase (isLineStart (st .role)) (λ q. q) (λ q. absurd (not-suc-le-zero (r q)))
 
 module _ (m : Mode) (soft : Soft m) (sub : Inside) (law : InsideLaw sub) where
-  withPlaceable-within : (st : State) (x : List ℕ) (o : Out (Unit {0})) → Short (length x) o → TurnWithin (λ st′ k. Ready st′ (drop k x)) (length x) (withPlaceable st o)
+  withPlaceable-within : (st : State) (x : List ℕ) (o : Out (Unit {0})) → Short (length x) o → TurnWithin (ReadyAfter x) (length x) (withPlaceable st o)
   unfolding withPlaceable
   withPlaceable-within st x (ok a ms k) h = (omega arith, λ q. rw length-drop (omega arith))
   withPlaceable-within st x (bad f k) h = tt
   withPlaceable-within st x (deep k) h = tt
 
   withPlaceable-carries : (st : State) (x y : List ℕ) (o o′ : Out (Unit {0})) → Short (length x) o → Carries (Upto any y (length x)) o o′
-      → TurnCarries (λ st′ k. Ready st′ (drop k x)) (Upto m y (length x)) (withPlaceable st o) (withPlaceable st o′)
+      → TurnCarries (ReadyAfter x) (Upto m y (length x)) (withPlaceable st o) (withPlaceable st o′)
   unfolding withPlaceable
   withPlaceable-carries st x y (ok a ms k) o′ h c = λ u. (ap (withPlaceable st) (c (upto-le m y (length x) k u)), λ q. rw length-drop (omega arith))
   withPlaceable-carries st x y (bad f k) o′ h c = tt
   withPlaceable-carries st x y (deep k) o′ h c = tt
 
-  same-turn : (x : List ℕ) (N : ℕ → Type 0) (w w′ : Turn State State) → w′ ≡ w → TurnWithin (λ st′ k. Ready st′ (drop k x)) (length x) w → TurnCarries (λ st′ k. Ready st′ (drop k x)) N w w′
+  same-turn : (x : List ℕ) (N : ℕ → Type 0) (w w′ : Turn State State) → w′ ≡ w → TurnWithin (ReadyAfter x) (length x) w → TurnCarries (ReadyAfter x) N w w′
   same-turn x N (again st ms k) w′ e h = λ u. (e, h .1)
   same-turn x N (done (ok a ms k)) w′ e h = λ u. e
   same-turn x N (done (bad f k)) w′ e h = tt
   same-turn x N (done (deep k)) w′ e h = tt
 
-  pattern-stops : (st : State) (x y : List ℕ) → Whole x → Ready st x → Stop y → TurnWithin (λ st′ k. Ready st′ (drop k x)) (length x) (patternTurn sub st (x ++ y))
+  pattern-stops : (st : State) (x y : List ℕ) → Whole x → Ready st x → Stop y → TurnWithin (ReadyAfter x) (length x) (patternTurn sub st (x ++ y))
   unfolding patternTurn
   pattern-stops st [] y w r s = rw (patternTurn-calm sub st y (not-ready st r) (stop-fresh y s)) (omega arith)
-  pattern-stops st (b ∷ bs) y w r s = pick (TurnWithin (λ st′ k. Ready st′ (drop k (b ∷ bs))) (suc (length bs))) (eqb b 123) _ _
+  pattern-stops st (b ∷ bs) y w r s = pick (TurnWithin (ReadyAfter (b ∷ bs)) (suc (length bs))) (eqb b 123) _ _
       (λ q. withPlaceable-within st (b ∷ bs) (sub .braced ((b ∷ bs) ++ y)) (law .bracedStrict .short (b ∷ bs) y w s))
-      (λ q. subst (TurnWithin (λ st′ k. Ready st′ (drop k (b ∷ bs))) (suc (length bs))) (sym (textTurn-same st b bs y w)) (textTurn-fits st b bs w))
+      (λ q. subst (TurnWithin (ReadyAfter (b ∷ bs)) (suc (length bs))) (sym (textTurn-same st b bs y w)) (textTurn-fits st b bs w))
 
-  pattern-keeps : (st : State) (x y : List ℕ) → Whole x → Ready st x → TurnCarries (λ st′ k. Ready st′ (drop k x)) (Upto m y (length x)) (patternTurn sub st x) (patternTurn sub st (x ++ y))
+  pattern-keeps : (st : State) (x y : List ℕ) → Whole x → Ready st x → TurnCarries (ReadyAfter x) (Upto m y (length x)) (patternTurn sub st x) (patternTurn sub st (x ++ y))
   unfolding patternTurn
   pattern-keeps st [] y w r = λ u. patternTurn-calm sub st y (not-ready st r) (soft-fresh m soft y 0 u)
-  pattern-keeps st (b ∷ bs) y w r = pick₂ (TurnCarries (λ st′ k. Ready st′ (drop k (b ∷ bs))) (Upto m y (suc (length bs)))) (eqb b 123) _ _ _ _
+  pattern-keeps st (b ∷ bs) y w r = pick₂ (TurnCarries (ReadyAfter (b ∷ bs)) (Upto m y (suc (length bs)))) (eqb b 123) _ _ _ _
       (λ q. withPlaceable-carries st (b ∷ bs) y (sub .braced (b ∷ bs)) (sub .braced ((b ∷ bs) ++ y)) (subst (λ z. Short (suc (length bs)) (sub .braced z)) (append-nil (b ∷ bs)) (law .bracedStrict .short (b ∷ bs) [] w tt)) (law .braced .reads .keeps (b ∷ bs) y w))
       (λ q. same-turn (b ∷ bs) (Upto m y (suc (length bs))) (textTurn st (b ∷ bs)) (textTurn st ((b ∷ bs) ++ y)) (textTurn-same st b bs y w) (textTurn-fits st b bs w))
 
