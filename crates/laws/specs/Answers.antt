@@ -19,7 +19,8 @@ holds-map P Q f (ok a ms k) h = f a ms k h
 holds-map P Q f (bad e k) h = tt
 holds-map P Q f (deep k) h = tt
 
-pub holds-after : {A : Type 0} (P Q : A → List Mark → ℕ → Type 0) (ms : List Mark) (k : ℕ) → ((a : A) (ns : List Mark) (j : ℕ) → P a ns j → Q a (ms ++ moveUp k ns) (k + j)) → (o : Out A) → Holds P o → Holds Q (after ms k o)
+pub holds-after : {A : Type 0} (P Q : A → List Mark → ℕ → Type 0) (ms : List Mark) (k : ℕ)
+    → ((a : A) (ns : List Mark) (j : ℕ) → P a ns j → Q a (ms ++ moveUp k ns) (k + j)) → (o : Out A) → Holds P o → Holds Q (after ms k o)
 unfolding after
 holds-after P Q ms k f (ok a ns j) h = f a ns j h
 holds-after P Q ms k f (bad e j) h = tt
@@ -29,7 +30,8 @@ holds-after P Q ms k f (deep j) h = tt
 plain-after : {A : Type 0} (P : A → Type 0) (ms : List Mark) (k : ℕ) (o : Out A) → Holds (λ a ns j. P a) o → Holds (λ a ns j. P a) (after ms k o)
 plain-after P ms k o h = holds-after (λ a ns j. P a) (λ a ns j. P a) ms k (λ a ns j g. g) o h
 
-pub plain-next : {A B : Type 0} (P : B → Type 0) (s : List ℕ) (q : A → Reader B) (o : Out A) → ((a : A) (r : List ℕ) → Holds (λ b ns j. P b) (q a r)) → Holds (λ b ns j. P b) (next s q o)
+pub plain-next : {A B : Type 0} (P : B → Type 0) (s : List ℕ) (q : A → Reader B) (o : Out A) → ((a : A) (r : List ℕ) → Holds (λ b ns j. P b) (q a r))
+    → Holds (λ b ns j. P b) (next s q o)
 unfolding next
 plain-next P s q (ok a ms k) h = plain-after P ms k (q a (drop k s)) (h a (drop k s))
 plain-next P s q (bad f k) h = tt

@@ -100,7 +100,8 @@ module _ {A B : Type 0} {n : ℕ} where
   then {q = q} bp bq = bind {q = λ _. q} bp (λ _. bq)
 
 -- what follows an opening byte may open one less
-pub then-inside : {A B : Type 0} {n c : ℕ} {d : B → ℕ} {p : Reader A} {q : Reader B} → 1 ≤ c → Bounds (suc n) (λ _. c) p → Bounds n d q → Bounds (suc n) (λ b. c + d b) (p >> q)
+pub then-inside : {A B : Type 0} {n c : ℕ} {d : B → ℕ} {p : Reader A} {q : Reader B} → 1 ≤ c → Bounds (suc n) (λ _. c) p → Bounds n d q
+    → Bounds (suc n) (λ b. c + d b) (p >> q)
 unfolding _>>_ next after
 then-inside {A} {B} {n} {c} {d} {p} {q} l bp bq = record { on = λ s. go s (p s) (bp .on s) }
   where

@@ -35,7 +35,8 @@ pick P true o u f g = f refl
 pick P false o u f g = g refl
 
 -- the same choice on both sides
-pub pick₂ : {B : Type 0} (R : B → B → Type 0) (v : Bool) (o u o′ u′ : B) → (v ≡ true → R o o′) → (v ≡ false → R u u′) → R (elim v [ true ↦ o | false ↦ u ]) (elim v [ true ↦ o′ | false ↦ u′ ])
+pub pick₂ : {B : Type 0} (R : B → B → Type 0) (v : Bool) (o u o′ u′ : B) → (v ≡ true → R o o′) → (v ≡ false → R u u′)
+    → R (elim v [ true ↦ o | false ↦ u ]) (elim v [ true ↦ o′ | false ↦ u′ ])
 pick₂ R true o u o′ u′ f g = f refl
 pick₂ R false o u o′ u′ f g = g refl
 

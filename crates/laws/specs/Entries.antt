@@ -141,7 +141,8 @@ unfolding node
 weight-node k ms = let h = weight-append ms (plain (100 + k) ∷ []) in omega arith
 
 module _ (sub : Inside) where
-  pub entries-with : (n b : ℕ) (bs : List ℕ) (e : Entry) (ms : List Mark) (k c u : ℕ) (gs : List Mark) (r : List ℕ) → getEntry sub (b ∷ bs) ≡ ok e ms k → skipBlankBlock (drop k (b ∷ bs)) ≡ ok c gs u → drop (k + u) (b ∷ bs) ≡ r
+  pub entries-with : (n b : ℕ) (bs : List ℕ) (e : Entry) (ms : List Mark) (k c u : ℕ) (gs : List Mark) (r : List ℕ) → getEntry sub (b ∷ bs) ≡ ok e ms k
+      → skipBlankBlock (drop k (b ∷ bs)) ≡ ok c gs u → drop (k + u) (b ∷ bs) ≡ r
       → entries (suc n) sub (b ∷ bs) ≡ following (node (kindOfEntry e (ltb c 2 && isNamed (getEntry sub r))) ms) [] (k + u) (entries n sub r)
   unfolding entries usedBy count
   entries-with n b bs e ms k c u gs r p q d = rw (p, entries)
@@ -152,7 +153,8 @@ module _ (sub : Inside) where
   unfolding entries following
   junk-free n b bs ma f k e p = go (entries n sub (drop (junkEnd k (b ∷ bs) + usedBy (skipBlankBlock (drop (junkEnd k (b ∷ bs)) (b ∷ bs)))) (b ∷ bs))) (rw (p, entries) at e)
     where
-      go : (r : Reading) → following (textNode 7 0 (junkEnd k (b ∷ bs))) (record { fault = f; junkFrom = 0; junkTill = junkEnd k (b ∷ bs) } ∷ []) (junkEnd k (b ∷ bs) + usedBy (skipBlankBlock (drop (junkEnd k (b ∷ bs)) (b ∷ bs)))) r ≡ read ma [] → ⊥
+      go : (r : Reading)
+          → following (textNode 7 0 (junkEnd k (b ∷ bs))) (record { fault = f; junkFrom = 0; junkTill = junkEnd k (b ∷ bs) } ∷ []) (junkEnd k (b ∷ bs) + usedBy (skipBlankBlock (drop (junkEnd k (b ∷ bs)) (b ∷ bs)))) r ≡ read ma [] → ⊥
       go (read ns es) h = let z : _≡_ {A = ℕ} 0 1 = cc in omega arith
       go (refused i) h = let z : _≡_ {A = ℕ} 0 1 = cc in omega arith
 

@@ -194,7 +194,8 @@ module _ {n : ℕ} {sub : Inside} (law : InsideBounds n sub) where
   entries-fuel (suc m) (suc m′) [] l l′ = refl
   entries-fuel (suc m) (suc m′) (b ∷ bs) l l′ = go (begins sub b bs) (λ r h h′. entries-fuel m m′ r h h′)
     where
-      go : Begins sub b bs → ((r : List ℕ) → length r < m → length r < m′ → entries m sub r ≡ entries m′ sub r) → entries (suc m) sub (b ∷ bs) ≡ entries (suc m′) sub (b ∷ bs)
+      go : Begins sub b bs → ((r : List ℕ) → length r < m → length r < m′ → entries m sub r ≡ entries m′ sub r)
+          → entries (suc m) sub (b ∷ bs) ≡ entries (suc m′) sub (b ∷ bs)
       go (first {ms} {es} {k} f) ih = entries-first sub m f ∙ ap (following ms es k) (ih (drop k (b ∷ bs)) (shorter m f l) (shorter m′ f l′)) ∙ sym (entries-first sub m′ f)
       go (far h) ih = entries-far sub m b bs h ∙ sym (entries-far sub m′ b bs h)
 
@@ -204,7 +205,8 @@ module _ {n : ℕ} {sub : Inside} (law : InsideBounds n sub) where
   entries-result (suc m) [] l = all none
   entries-result (suc m) (b ∷ bs) l = go (begins sub b bs) (λ r h. entries-result m r h)
     where
-      step : {ms : List Mark} {es : List Error} {k : ℕ} → First sub (b ∷ bs) ms es k → (r : Reading) → Result sub (drop k (b ∷ bs)) r → Result sub (b ∷ bs) (following ms es k r)
+      step : {ms : List Mark} {es : List Error} {k : ℕ} → First sub (b ∷ bs) ms es k → (r : Reading) → Result sub (drop k (b ∷ bs)) r
+          → Result sub (b ∷ bs) (following ms es k r)
       step {ms} {es} {k} f (read ns fs) (all p) =
           let u = first-uses law f .0 in
           let e : k + length (drop k (b ∷ bs)) ≡ length (b ∷ bs) = omega (arith, u .within, length-drop k (b ∷ bs)) in

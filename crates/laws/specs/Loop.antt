@@ -33,7 +33,8 @@ module _ {S A : Type 0} {turn : S → List ℕ → Turn S A} where
       go (again st′ ms k) h f = ap (after ms k) (f st′ (drop k s) (omega (arith, length-drop k s)) (omega (arith, length-drop k s)))
       go (done o) h f = refl
 
-  pub repeat-again : Moves turn → (st : S) (s : List ℕ) {st′ : S} {ms : List Mark} {k : ℕ} → turn st s ≡ again st′ ms k → repeat turn st s ≡ after ms k (repeat turn st′ (drop k s))
+  pub repeat-again : Moves turn → (st : S) (s : List ℕ) {st′ : S} {ms : List Mark} {k : ℕ} → turn st s ≡ again st′ ms k
+      → repeat turn st s ≡ after ms k (repeat turn st′ (drop k s))
   unfolding repeat loop
   repeat-again m st s {st′} {ms} {k} e =
       let h = turn-moves m st s e in

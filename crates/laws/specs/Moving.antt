@@ -130,7 +130,8 @@ after-none (ok a ms k) = ap₂ (ok a) (moveUp-zero ms) (zero-add k)
 after-none (bad f k) = ap₂ bad (upFault-zero f) (zero-add k)
 after-none (deep k) = ap deep (zero-add k)
 
-errors-after : (es : List Error) (k : ℕ) (fs : List Error) (j : ℕ) (gs : List Error) → es ++ map (upError k) (fs ++ map (upError j) gs) ≡ (es ++ map (upError k) fs) ++ map (upError (k + j)) gs
+errors-after : (es : List Error) (k : ℕ) (fs : List Error) (j : ℕ) (gs : List Error)
+    → es ++ map (upError k) (fs ++ map (upError j) gs) ≡ (es ++ map (upError k) fs) ++ map (upError (k + j)) gs
 errors-after es k fs j gs = ap (λ r. es ++ r) (map-append (upError k) fs (map (upError j) gs) ∙ ap (λ r. map (upError k) fs ++ r) (upErrors-twice k j gs)) ∙ sym (append-assoc es (map (upError k) fs) (map (upError (k + j)) gs))
 
 pub following-twice : (ms : List Mark) (es : List Error) (k : ℕ) (ns : List Mark) (fs : List Error) (j : ℕ) (r : Reading)

@@ -100,7 +100,8 @@ module _ {A B : Type 0} where
   next-within x y q (deep k) h g = tt
 
   pub next-ok : (N : ℕ → Type 0) (x y : List ℕ) (q : A → Reader B) (a : A) (ms : List Mark) (k : ℕ) (o′ : Out A) (w : Out B)
-      → ((j : ℕ) → N (k + j) → k ≤ length x) → Carries (λ j. N (k + j)) w (q a (drop k x ++ y)) → ((b : B) (ns : List Mark) (j : ℕ) → w ≡ ok b ns j → N (k + j) → o′ ≡ ok a ms k)
+      → ((j : ℕ) → N (k + j) → k ≤ length x) → Carries (λ j. N (k + j)) w (q a (drop k x ++ y))
+      → ((b : B) (ns : List Mark) (j : ℕ) → w ≡ ok b ns j → N (k + j) → o′ ≡ ok a ms k)
       → Carries N (after ms k w) (next (x ++ y) q o′)
   unfolding next after
   next-ok N x y q a ms k o′ (ok b ns j) le c e =
@@ -349,7 +350,8 @@ module _ {A B : Type 0} {m : Mode} {p : Reader A} {q : A → Reader B} where
       go x y w s (bad e k) h = tt
       go x y w s (deep k) h = tt
 
-      keep : (x y : List ℕ) → Whole x → (o o′ : Out A) → Short (length x) o → Carries (Upto m y (length x)) o o′ → Carries (Upto m y (length x)) (next x q o) (next (x ++ y) q o′)
+      keep : (x y : List ℕ) → Whole x → (o o′ : Out A) → Short (length x) o → Carries (Upto m y (length x)) o o′
+          → Carries (Upto m y (length x)) (next x q o) (next (x ++ y) q o′)
       keep x y w (ok a ms k) o′ h c =
           next-ok (Upto m y (length x)) x y q a ms k o′ (q a (drop k x)) (λ j u. upto-le m y (length x) k (upto-down m y (length x) k j u))
           (weaker (Upto m y (length (drop k x))) (λ j. Upto m y (length x) (k + j)) (λ j u. upto-rest m y x k j u) (q a (drop k x)) (q a (drop k x ++ y)) (inner-keeps (f a) (drop k x) y (rw length-drop (omega arith)) (whole-drop k x w)))

@@ -42,7 +42,8 @@ absorb (m ∷ ms) xs o d j h l = go (ltb (kindOf m) 100) refl l (λ o i. absorb 
 abbrev pub nodeOf : ℕ → List Mark → Node
 nodeOf k ms = record { kind = k; opening = plain k; closing = plain (100 + k); inner = ms }
 
-top : (m c : Mark) (ms xs : List Mark) → ltb (kindOf m) 100 ≡ true → ltb (kindOf c) 100 ≡ false → Levels 0 ms → nodes (m ∷ (ms ++ (c ∷ xs))) ≡ closed (into (opened m) ms) c ∷ nodes xs
+top : (m c : Mark) (ms xs : List Mark) → ltb (kindOf m) 100 ≡ true → ltb (kindOf c) 100 ≡ false → Levels 0 ms
+    → nodes (m ∷ (ms ++ (c ∷ xs))) ≡ closed (into (opened m) ms) c ∷ nodes xs
 unfolding nodes nodesFrom
 top m c ms xs p q l = rw (p, nodes, nodesFrom) (absorb ms (c ∷ xs) (opened m) 1 0 (omega arith) l ∙ rw (q, nodesFrom) refl)
 
@@ -50,7 +51,8 @@ pub nodes-node : (k : ℕ) (ms xs : List Mark) → ltb k 100 ≡ true → Levels
 unfolding node
 nodes-node k ms xs q l = ap (λ z. nodes (plain k ∷ z)) (append-assoc ms (plain (100 + k) ∷ []) xs) ∙ top (plain k) (plain (100 + k)) ms xs q (le-ltb (100 + k) 100 (omega arith)) l
 
-pub nodes-text : (k a e : ℕ) (xs : List Mark) → ltb k 100 ≡ true → nodes (textNode k a e ++ xs) ≡ record { kind = k; opening = placed k a; closing = placed (100 + k) e; inner = [] } ∷ nodes xs
+pub nodes-text : (k a e : ℕ) (xs : List Mark) → ltb k 100 ≡ true
+    → nodes (textNode k a e ++ xs) ≡ record { kind = k; opening = placed k a; closing = placed (100 + k) e; inner = [] } ∷ nodes xs
 unfolding textNode
 nodes-text k a e xs q = top (placed k a) (placed (100 + k) e) [] xs q (le-ltb (100 + k) 100 (omega arith)) refl
 
@@ -68,7 +70,8 @@ pickFrom u v w o d m ms = elim u [
   | false ↦ elim w [ true ↦ closed o m ∷ nodesFrom outside 0 ms | false ↦ nodesFrom (into o (m ∷ [])) (d - 1) ms ]
 ]
 
-from-step : (u v w : Bool) (o : Node) (d : ℕ) (m : Mark) (k : ℕ) (ms : List Mark) → ((z : Node) (i : ℕ) → nodesFrom (upNode k z) i (moveUp k ms) ≡ map (upNode k) (nodesFrom z i ms)) → opened (up k m) ≡ upNode k (opened m)
+from-step : (u v w : Bool) (o : Node) (d : ℕ) (m : Mark) (k : ℕ) (ms : List Mark)
+    → ((z : Node) (i : ℕ) → nodesFrom (upNode k z) i (moveUp k ms) ≡ map (upNode k) (nodesFrom z i ms)) → opened (up k m) ≡ upNode k (opened m)
     → pickFrom u v w (upNode k o) d (up k m) (moveUp k ms) ≡ map (upNode k) (pickFrom u v w o d m ms)
 unfolding moveUp
 from-step true true w o d m k ms f e = ap (λ z. nodesFrom z 1 (moveUp k ms)) e ∙ f (opened m) 1
@@ -107,7 +110,8 @@ module _ (P : ℕ → Type 0) where
   ok-snoc [] m a b = (b, tt)
   ok-snoc (x ∷ xs) m a b = (a .0, ok-snoc xs m (a .1) b)
 
-  ok-pick : (u v w : Bool) (o : Node) (d : ℕ) (m : Mark) (ms : List Mark) → OkNode o → OkMark m → ((z : Node) (i : ℕ) → OkNode z → OkNodes (nodesFrom z i ms)) → OkNodes (pickFrom u v w o d m ms)
+  ok-pick : (u v w : Bool) (o : Node) (d : ℕ) (m : Mark) (ms : List Mark) → OkNode o → OkMark m → ((z : Node) (i : ℕ) → OkNode z → OkNodes (nodesFrom z i ms))
+      → OkNodes (pickFrom u v w o d m ms)
   ok-pick true true w o d m ms a b f = f (opened m) 1 (b, tt, tt)
   ok-pick true false w o d m ms a b f = f (into o (m ∷ [])) (suc d) (a .0, a .1, ok-snoc (o .inner) m (a .2) b)
   ok-pick false v true o d m ms a b f = ((a .0, b, a .2), f outside 0 (tt, tt, tt))

@@ -137,7 +137,8 @@ module _ {n : ℕ} where
 
   -- ---- what an inline expression is put in
 
-  asInline-bounded : {c : ℕ} {s : List ℕ} {o : Out Inline} → 2 ≤ c → Bounded n (λ _. c) s o → Holds (λ a ms k. Kind false (inlineKind a)) o → Bounded n (λ _. c - 2) s (asInline o)
+  asInline-bounded : {c : ℕ} {s : List ℕ} {o : Out Inline} → 2 ≤ c → Bounded n (λ _. c) s o → Holds (λ a ms k. Kind false (inlineKind a)) o
+      → Bounded n (λ _. c - 2) s (asInline o)
   unfolding asInline
   asInline-bounded l (used {a} u) h = used (uses-node (inlineKind a) h l u)
   asInline-bounded l (stopped k h) _ = stopped k h

@@ -44,7 +44,8 @@ module _ {n : ℕ} where
   unfolding blockTurn
   blockTurn-bounds = record { on = λ i s. go i s (eol (drop (spaces s) s)) (eol-le (drop (spaces s) s)) }
     where
-      go : (i : ℕ) (s : List ℕ) (e : ℕ) → e ≤ length (drop (spaces s) s) → TurnBounded {S = ℕ} {A = ℕ} n 1 0 s (elim (ltb 0 e) [ true ↦ again (suc i) [] (spaces s + e) | false ↦ done (ok i [] 0) ])
+      go : (i : ℕ) (s : List ℕ) (e : ℕ) → e ≤ length (drop (spaces s) s)
+          → TurnBounded {S = ℕ} {A = ℕ} n 1 0 s (elim (ltb 0 e) [ true ↦ again (suc i) [] (spaces s + e) | false ↦ done (ok i [] 0) ])
       go i s e h = pick (TurnBounded n 1 0 s) (ltb 0 e) _ _ (λ l. goes (uses-nil (spaces s + e) (omega (arith, length-drop (spaces s) s, spaces-le s)) (omega (arith, ltb-true 0 e l)))) (λ l. ends (used (uses-nil 0 (omega arith) (omega arith))))
 
   pub block-bounds : Bounds n (λ _. 0) skipBlankBlock

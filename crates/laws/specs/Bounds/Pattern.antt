@@ -59,7 +59,8 @@ module _ {n : ℕ} where
 
   -- ---- turns
 
-  withText-bounded : {c : ℕ} {s : List ℕ} {o : Out Slice} (st : State) (indent : ℕ) → indent ≤ length s → 1 ≤ c + indent → Bounded n (λ _. c) (drop indent s) o → TurnBounded n 1 0 s (withText st indent o)
+  withText-bounded : {c : ℕ} {s : List ℕ} {o : Out Slice} (st : State) (indent : ℕ) → indent ≤ length s → 1 ≤ c + indent → Bounded n (λ _. c) (drop indent s) o
+      → TurnBounded n 1 0 s (withText st indent o)
   unfolding withText after
   withText-bounded {s = s} st indent h l (used {k = k} u) = goes (uses-nil (indent + k) (omega (arith, u .within, length-drop indent s)) (omega (arith, u .room)))
   withText-bounded {s = s} st indent h l (stopped k g) = ends (stopped (indent + k) (omega (arith, length-drop indent s)))
@@ -320,7 +321,8 @@ module _ {n : ℕ} {sub : Inside} (law : InsideBounds n sub) where
       (λ l. withText-grows sub st (b ∷ bs) 0 (getTextSlice (b ∷ bs)) (slice-sized (b ∷ bs))))
 
   -- at the end of a pattern's loop, as its source counts
-  pub pattern-grown : (s : List ℕ) → let st = firstState s in Holds (λ st′ ms k. Grown st′ × (st′ .used ≤ k)) (after [] (st .used) (repeat (patternTurn sub) st (drop (st .used) s)))
+  pub pattern-grown : (s : List ℕ)
+      → let st = firstState s in Holds (λ st′ ms k. Grown st′ × (st′ .used ≤ k)) (after [] (st .used) (repeat (patternTurn sub) st (drop (st .used) s)))
   unfolding repeat after
   pattern-grown s = let st = firstState s in let r = drop (st .used) s in go st r (repeat (patternTurn sub) st r) (first-grown s .0) (loop-holds (patternTurn sub) Grows turn-grows (suc (length r)) st r)
     where

@@ -19,7 +19,8 @@ use Rattle.laws.specs.Limit.Readers.{InsideKeeps, entry-keeps, level-kee
 
 module _ {sub sub′ : Inside} (law : InsideKeeps sub sub′) where
   -- the first entry is the same, unless what a comment looks ahead to is too deep
-  first-kept : {b : ℕ} {bs : List ℕ} {ms : List Mark} {es : List Error} {k : ℕ} → First sub (b ∷ bs) ms es k → First sub′ (b ∷ bs) ms es k ⊎ ((j : ℕ) × (getEntry sub (drop k (b ∷ bs)) ≡ deep j))
+  first-kept : {b : ℕ} {bs : List ℕ} {ms : List Mark} {es : List Error} {k : ℕ} → First sub (b ∷ bs) ms es k
+      → First sub′ (b ∷ bs) ms es k ⊎ ((j : ℕ) × (getEntry sub (drop k (b ∷ bs)) ≡ deep j))
   first-kept {b} {bs} (entry {e} {ms} {k} h) = go (getEntry sub r) (getEntry sub′ r) refl refl (entry-keeps law .on r)
     where
       u : ℕ
@@ -28,7 +29,8 @@ module _ {sub sub′ : Inside} (law : InsideKeeps sub sub′) where
       r : List ℕ
       r = drop (k + u) (b ∷ bs)
 
-      go : (o o′ : Out Entry) → getEntry sub r ≡ o → getEntry sub′ r ≡ o′ → Kept o o′ → First sub′ (b ∷ bs) (node (kindOfEntry e (near sub (b ∷ bs) k)) ms) [] (k + u) ⊎ ((j : ℕ) × (getEntry sub r ≡ deep j))
+      go : (o o′ : Out Entry) → getEntry sub r ≡ o → getEntry sub′ r ≡ o′ → Kept o o′
+          → First sub′ (b ∷ bs) (node (kindOfEntry e (near sub (b ∷ bs) k)) ms) [] (k + u) ⊎ ((j : ℕ) × (getEntry sub r ≡ deep j))
       go o o′ p q same = inl (subst (λ v. First sub′ (b ∷ bs) (node (kindOfEntry e (ltb (count (skipBlankBlock (drop k (b ∷ bs)))) 2 && isNamed v)) ms) [] (k + u)) (q ∙ sym p) (entry (ok-kept (entry-keeps law) (b ∷ bs) h)))
       go o o′ p q (lost j d) = inr (j, p ∙ d)
   first-kept {b} {bs} (junk h) = inl (junk (bad-kept (entry-keeps law) (b ∷ bs) h))
@@ -49,7 +51,8 @@ module _ {sub sub′ : Inside} (law : InsideKeeps sub sub′) where
       go : Begins sub b bs → ((r : List ℕ) → ReadKept (entries m sub r) (entries m sub′ r)) → ReadKept (entries (suc m) sub (b ∷ bs)) (entries (suc m) sub′ (b ∷ bs))
       go (first {ms} {es} {k} f) ih = by (first-kept f)
         where
-          by : First sub′ (b ∷ bs) ms es k ⊎ ((j : ℕ) × (getEntry sub (drop k (b ∷ bs)) ≡ deep j)) → ReadKept (entries (suc m) sub (b ∷ bs)) (entries (suc m) sub′ (b ∷ bs))
+          by : First sub′ (b ∷ bs) ms es k ⊎ ((j : ℕ) × (getEntry sub (drop k (b ∷ bs)) ≡ deep j))
+              → ReadKept (entries (suc m) sub (b ∷ bs)) (entries (suc m) sub′ (b ∷ bs))
           by (inl f′) = rw (entries-first sub m f, entries-first sub′ m f′) (following-kept ms es k (ih (drop k (b ∷ bs))))
           by (inr (j, h)) = let (i, e) = deep-read m (drop k (b ∷ bs)) h in rw (entries-first sub m f, e) (lostReading (k + i) refl)
       go (far {k} h) ih = lostReading k (entries-far sub m b bs h)

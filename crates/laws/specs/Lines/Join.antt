@@ -59,7 +59,8 @@ loop-not-bad (suc n) st s p = go (commentTurn st s) (turn-not-bad st s p) (λ st
     inner ms k (bad f j) h = h
     inner ms k (deep j) h = tt
 
-    go : (w : Turn ℕ ℕ) → TurnNotBad w → ((st′ : ℕ) (r : List ℕ) → 0 < st′ → NotBad (loop n commentTurn st′ r)) → NotBad (elim w [ again st′ ms k ↦ after ms k (loop n commentTurn st′ (drop k s)) | done o ↦ o ])
+    go : (w : Turn ℕ ℕ) → TurnNotBad w → ((st′ : ℕ) (r : List ℕ) → 0 < st′ → NotBad (loop n commentTurn st′ r))
+        → NotBad (elim w [ again st′ ms k ↦ after ms k (loop n commentTurn st′ (drop k s)) | done o ↦ o ])
     go (again st′ ms k) h f = inner ms k (loop n commentTurn st′ (drop k s)) (f st′ (drop k s) h)
     go (done o) h f = h
 

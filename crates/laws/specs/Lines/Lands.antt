@@ -162,7 +162,8 @@ lineSlice-ends s i t d ds e q = byCase (endsInCr t)
     (λ r. rw (r, lineSlice) (λ h. inl (rw e q)))
     (λ r. rw (r, lineSlice) (λ h. inr (subst (λ z. lineStartsAt z s ≡ true) (add-assoc i (length t) 1) (starts-later (i + length t) 1 s (omega arith) (rw e q)))))
 
-sliceBy-ends : (s : List ℕ) (i : ℕ) (t r : List ℕ) → drop (i + length t) s ≡ r → ((d : ℕ) (ds : List ℕ) → r ≡ d ∷ ds → isTextByte d ≡ false) → Holds (EndsLine s i) (sliceBy t r)
+sliceBy-ends : (s : List ℕ) (i : ℕ) (t r : List ℕ) → drop (i + length t) s ≡ r → ((d : ℕ) (ds : List ℕ) → r ≡ d ∷ ds → isTextByte d ≡ false)
+    → Holds (EndsLine s i) (sliceBy t r)
 unfolding sliceBy isLineStart roleAfter
 sliceBy-ends s i t [] e f = λ h. clash h refl
 sliceBy-ends s i t (d ∷ ds) e f = byCase (eqb d 125) (λ q. rw (q, sliceBy) tt)
@@ -213,7 +214,8 @@ module _ (sub : Inside) where
   withPlaceable-lands st s (bad f k) p = tt
   withPlaceable-lands st s (deep k) p = tt
 
-  line-lands : (st : State) (b : ℕ) (bs : List ℕ) (i : ℕ) (r : List ℕ) → isLineStart (st .role) ≡ true → spaces (b ∷ bs) ≡ i → drop i (b ∷ bs) ≡ r → TurnBounded 0 1 0 (b ∷ bs) (lineTurn st i r) → Turned st (b ∷ bs) (lineTurn st i r)
+  line-lands : (st : State) (b : ℕ) (bs : List ℕ) (i : ℕ) (r : List ℕ) → isLineStart (st .role) ≡ true → spaces (b ∷ bs) ≡ i → drop i (b ∷ bs) ≡ r
+      → TurnBounded 0 1 0 (b ∷ bs) (lineTurn st i r) → Turned st (b ∷ bs) (lineTurn st i r)
   unfolding lineTurn goesOn spaces run startsWith
   line-lands st b bs i [] l e d t = λ h. absurd (omega (arith, ap length d, length-drop i (b ∷ bs)))
   line-lands st b bs i (c ∷ cs) l e d t =
@@ -272,11 +274,13 @@ module _ (sub : Inside) where
         finished s (bad f k) h = unfold finish in tt
         finished s (deep k) h = unfold finish in tt
 
-        started : (s : List ℕ) (o : Out State) → Holds (Landed (firstState s) (drop (firstState s .used) s)) o → Holds (λ a ms k. Lands s k) (after [] (firstState s .used) o)
+        started : (s : List ℕ) (o : Out State) → Holds (Landed (firstState s) (drop (firstState s .used) s)) o
+            → Holds (λ a ms k. Lands s k) (after [] (firstState s .used) o)
         started s (ok st ms k) h = unfold after in (λ l. by k (h (omega (arith, length-drop (firstState s .used) s))) (first-lands s))
           where
             by : (k : ℕ) → LandedBy (isLineStart (firstState s .role)) (drop (firstState s .used) s) k
-                → (firstState s .role ≡ initialLineStart) ⊎ ((0 < firstState s .used) × (lineStartsAt (firstState s .used) s ≡ true)) → (0 < firstState s .used + k) × (lineStartsAt (firstState s .used + k) s ≡ true)
+                → (firstState s .role ≡ initialLineStart) ⊎ ((0 < firstState s .used) × (lineStartsAt (firstState s .used) s ≡ true))
+                → (0 < firstState s .used + k) × (lineStartsAt (firstState s .used + k) s ≡ true)
             by k (inl (p, q)) f = (omega arith, starts-later (firstState s .used) k s p q)
             by k (inr (z, a, b)) (inl e) = clash a (ap isLineStart e ∙ (unfold isLineStart in refl))
             by k (inr (z, a, b)) (inr (p, q)) = (omega arith, rw z (rw (add-zero (firstState s .used)) q))
@@ -303,7 +307,8 @@ module _ (sub : Inside) where
     unfolding getAttributes repeat
     attributes-stay = record { on = λ s. loop-holds (attributeTurn sub) (λ n r a ms k. Stays r k) turns (suc (length s)) 0 s }
       where
-        by : (n : ℕ) (s : List ℕ) (k : ℕ) (o : Out (Unit {0})) → Holds (λ a ms j. Lands (drop k s) j) o → TurnHolds (attributeTurn sub) (λ n r a ms k. Stays r k) n s (attributeBy n k o)
+        by : (n : ℕ) (s : List ℕ) (k : ℕ) (o : Out (Unit {0})) → Holds (λ a ms j. Lands (drop k s) j) o
+            → TurnHolds (attributeTurn sub) (λ n r a ms k. Stays r k) n s (attributeBy n k o)
         by n s k (ok u ms j) h = unfold attributeBy in (λ a ns i g. stays-stay (k + j) i s (λ l. lands-after k j s h l .1) g)
         by n s k (bad f j) h = unfold attributeBy lineStartsAt in (λ l. refl)
         by n s k (deep j) h = unfold attributeBy in tt

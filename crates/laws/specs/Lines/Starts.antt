@@ -176,5 +176,6 @@ module _ {n : ℕ} {sub : Inside} (law : InsideBounds n sub) where
   passed-stays (more {b} {bs} {k = k} {j} f p) = stays-stay k j (b ∷ bs) (first-stays f) (passed-stays p)
 
 -- every entry that is reached starts where a line starts
-pub entry-starts : (n : ℕ) (s : List ℕ) {ms : List Mark} {es : List Error} {k : ℕ} → Passed (level n) (drop (leading s) s) ms es k → leading s + k < length s → lineStartsAt (leading s + k) s ≡ true
+pub entry-starts : (n : ℕ) (s : List ℕ) {ms : List Mark} {es : List Error} {k : ℕ} → Passed (level n) (drop (leading s) s) ms es k → leading s + k < length s
+    → lineStartsAt (leading s + k) s ≡ true
 entry-starts n s {k = k} p = stays-stay (leading s) k s (λ _. block-starts s) (passed-stays (level-bounds n) p)

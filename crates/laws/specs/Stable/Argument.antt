@@ -93,7 +93,8 @@ module _ (sub : Inside) (law : InsideLaw sub) where
         go [] e = absurd (omega (arith, ap length e, length-drop k x))
         go (c ∷ cs) e = refl
 
-    afterReference-keeps : (n : ℕ) (ms : List Mark) (k : ℕ) → n ≤ k → Carries (Upto loose y (length x)) (afterReference sub names n ms k x) (afterReference sub names n ms k (x ++ y))
+    afterReference-keeps : (n : ℕ) (ms : List Mark) (k : ℕ) → n ≤ k
+        → Carries (Upto loose y (length x)) (afterReference sub names n ms k x) (afterReference sub names n ms k (x ++ y))
     unfolding afterReference
     afterReference-keeps n ms k h =
         byCase (ltb k (length x))
@@ -120,7 +121,8 @@ module _ (sub : Inside) (law : InsideLaw sub) where
       ap (λ r. past-of k (skipBlank r)) (drop-app k x y (omega (arith, pastBlank-least k x)))
       ∙ ap (past-of k) (go (skipBlank (drop k x)) (blank-sure (drop k x)) (blank-reads loose tt .keeps (drop k x) y (whole-drop k x w)) h)
     where
-      go : (o : Out (Unit {0})) → Sure o → Carries (Upto loose y (length (drop k x))) o (skipBlank (drop k x ++ y)) → past-of k o < length x → skipBlank (drop k x ++ y) ≡ o
+      go : (o : Out (Unit {0})) → Sure o → Carries (Upto loose y (length (drop k x))) o (skipBlank (drop k x ++ y)) → past-of k o < length x
+          → skipBlank (drop k x ++ y) ≡ o
       go (ok a ms j) s c g = c (rw length-drop (omega arith))
       go (bad f j) s c g = absurd s
       go (deep j) s c g = absurd s
@@ -139,14 +141,16 @@ module _ (sub : Inside) (law : InsideLaw sub) where
     argumentBy-within s (bad f k) h = tt
     argumentBy-within s (deep k) h = tt
 
-    by-positional : (sh : Inline) (ms : List Mark) (k : ℕ) (o′ : Out Inline) → (k < length x → o′ ≡ ok sh ms k) → argumentBy sub names (x ++ y) (ok sh ms k) ≡ positional names ms k (x ++ y)
+    by-positional : (sh : Inline) (ms : List Mark) (k : ℕ) (o′ : Out Inline) → (k < length x → o′ ≡ ok sh ms k)
+        → argumentBy sub names (x ++ y) (ok sh ms k) ≡ positional names ms k (x ++ y)
         → Carries (Upto loose y (length x)) (positional names ms k x) (argumentBy sub names (x ++ y) o′)
     by-positional sh ms k o′ c e =
         carries-trans (Upto loose y (length x)) (positional names ms k x) (positional names ms k (x ++ y)) (argumentBy sub names (x ++ y) o′) (positional-keeps x y w names ms k)
         (holds-map (λ b ns j. k ≤ j) (λ b ns j. Upto loose y (length x) j → argumentBy sub names (x ++ y) o′ ≡ positional names ms k (x ++ y))
         (λ b ns j l u. ap (argumentBy sub names (x ++ y)) (c (omega arith)) ∙ e) (positional names ms k x) (positional-least x y w names ms k x))
 
-    argumentBy-keeps : (o o′ : Out Inline) → Fits o → Carries (Upto loose y (length x)) o o′ → Carries (Upto loose y (length x)) (argumentBy sub names x o) (argumentBy sub names (x ++ y) o′)
+    argumentBy-keeps : (o o′ : Out Inline) → Fits o → Carries (Upto loose y (length x)) o o′
+        → Carries (Upto loose y (length x)) (argumentBy sub names x o) (argumentBy sub names (x ++ y) o′)
     unfolding argumentBy
     argumentBy-keeps (ok (message n false) ms k) o′ f c =
         let j = pastBlank k x in
@@ -174,7 +178,8 @@ module _ (sub : Inside) (law : InsideLaw sub) where
       (λ q. turnOf-within (Unit {0}) (suc (length bs)) (argumentBy sub names ((b ∷ bs) ++ y) (getInlineExpression sub false ((b ∷ bs) ++ y)))
       (argumentBy-within (b ∷ bs) y w names s (getInlineExpression sub false ((b ∷ bs) ++ y)) (inline-reads sub law false .stops (b ∷ bs) y w s)))
 
-  argument-keeps : (names : List (List ℕ)) (x y : List ℕ) → Whole x → Unit {0} → TurnCarries Free (Upto loose y (length x)) (argumentTurn sub names x) (argumentTurn sub names (x ++ y))
+  argument-keeps : (names : List (List ℕ)) (x y : List ℕ) → Whole x → Unit {0}
+      → TurnCarries Free (Upto loose y (length x)) (argumentTurn sub names x) (argumentTurn sub names (x ++ y))
   unfolding argumentTurn
   argument-keeps names [] y w i = λ u. absurd (not-suc-le-zero u)
   argument-keeps names (b ∷ bs) y w i = pick₂ (TurnCarries Free (Upto loose y (suc (length bs)))) (eqb b 41) _ _ _ _ (λ q u. refl)

@@ -35,7 +35,8 @@ module _ (m : Mode) (soft : Soft m) (sub : Inside) (law : InsideLaw sub) where
 abbrev attributeOf : Inside → ℕ → ℕ → Bool → List ℕ → Turn ℕ ℕ
 attributeOf sub n k v r = elim v [ true ↦ attributeBy n (k + 1) (getAttribute sub r) | false ↦ done (ok n [] 0) ]
 
-attribute-at : (sub : Inside) (n k : ℕ) (r t s : List ℕ) → spaces s ≡ k → drop k s ≡ r → drop (k + 1) s ≡ t → attributeTurn sub n s ≡ attributeOf sub n k (startsWith 46 r) t
+attribute-at : (sub : Inside) (n k : ℕ) (r t s : List ℕ) → spaces s ≡ k → drop k s ≡ r → drop (k + 1) s ≡ t
+    → attributeTurn sub n s ≡ attributeOf sub n k (startsWith 46 r) t
 unfolding attributeTurn
 attribute-at sub n k r t s e d f = ap (λ j. attributeOf sub n j (startsWith 46 (drop j s)) (drop (j + 1) s)) e ∙ ap (λ z. attributeOf sub n k (startsWith 46 z) (drop (k + 1) s)) d ∙ ap (attributeOf sub n k (startsWith 46 r)) f
 
@@ -107,14 +108,16 @@ module _ (sub : Inside) (law : InsideLaw sub) where
   TurnEnds x (done (bad f k)) t = Unit {0}
   TurnEnds x (done (deep k)) t = Unit {0}
 
-  attributeBy-ends : (n k b : ℕ) (bs cs y : List ℕ) (o o′ : Out (Unit {0})) → Fresh y → dotted (b ∷ bs) ≡ true → k + length cs ≡ suc (length bs) → Carries (Upto fresh y (length cs)) o o′
+  attributeBy-ends : (n k b : ℕ) (bs cs y : List ℕ) (o o′ : Out (Unit {0})) → Fresh y → dotted (b ∷ bs) ≡ true → k + length cs ≡ suc (length bs)
+      → Carries (Upto fresh y (length cs)) o o′
       → TurnEnds (b ∷ bs) (attributeBy n k o) (attributeBy n k o′)
   unfolding attributeBy
   attributeBy-ends n k b bs cs y (ok a ms j) o′ f d l c = λ u. ap (attributeBy n k) (c (omega arith, f))
   attributeBy-ends n k b bs cs y (bad e j) o′ f d l c = λ u. clash d (u .1)
   attributeBy-ends n k b bs cs y (deep j) o′ f d l c = tt
 
-  pick-ends : (x : List ℕ) (v : Bool) (o u o′ u′ : Turn ℕ ℕ) → (v ≡ true → TurnEnds x o o′) → (v ≡ false → TurnEnds x u u′) → TurnEnds x (elim v [ true ↦ o | false ↦ u ]) (elim v [ true ↦ o′ | false ↦ u′ ])
+  pick-ends : (x : List ℕ) (v : Bool) (o u o′ u′ : Turn ℕ ℕ) → (v ≡ true → TurnEnds x o o′) → (v ≡ false → TurnEnds x u u′)
+      → TurnEnds x (elim v [ true ↦ o | false ↦ u ]) (elim v [ true ↦ o′ | false ↦ u′ ])
   pick-ends x true o u o′ u′ f g = f refl
   pick-ends x false o u o′ u′ f g = g refl
 
@@ -132,7 +135,8 @@ module _ (sub : Inside) (law : InsideLaw sub) where
   loop-ends (suc n) zero st x y le w f = absurd (not-suc-le-zero le)
   loop-ends (suc n) (suc n′) st x y le w f = go (attributeTurn sub st x) (attributeTurn sub st (x ++ y)) (turn-ends st x y w f) (λ st′ k. loop-ends n n′ st′ (drop k x) y (le-of-suc-le-suc le) (whole-drop k x w) f)
     where
-      inner : (st′ : ℕ) (ms : List Mark) (k : ℕ) (t : Turn ℕ ℕ) → (k ≤ length x → t ≡ again st′ ms k) → (o : Out ℕ) → Carries (Cut (drop k x)) o (loop n′ (attributeTurn sub) st′ (drop k x ++ y))
+      inner : (st′ : ℕ) (ms : List Mark) (k : ℕ) (t : Turn ℕ ℕ) → (k ≤ length x → t ≡ again st′ ms k) → (o : Out ℕ)
+          → Carries (Cut (drop k x)) o (loop n′ (attributeTurn sub) st′ (drop k x ++ y))
           → Carries {A = ℕ} (Cut x) (after ms k o) (elim t [ again st′ ms k ↦ after ms k (loop n′ (attributeTurn sub) st′ (drop k (x ++ y))) | done o ↦ o ])
       inner st′ ms k t e (ok a ns j) c = λ u.
           let l : k ≤ length x = omega (arith, u .0) in
@@ -140,7 +144,8 @@ module _ (sub : Inside) (law : InsideLaw sub) where
       inner st′ ms k t e (bad f j) c = tt
       inner st′ ms k t e (deep j) c = tt
 
-      go : (t t′ : Turn ℕ ℕ) → TurnEnds x t t′ → ((st′ k : ℕ) → Carries (Cut (drop k x)) (loop n (attributeTurn sub) st′ (drop k x)) (loop n′ (attributeTurn sub) st′ (drop k x ++ y)))
+      go : (t t′ : Turn ℕ ℕ) → TurnEnds x t t′
+          → ((st′ k : ℕ) → Carries (Cut (drop k x)) (loop n (attributeTurn sub) st′ (drop k x)) (loop n′ (attributeTurn sub) st′ (drop k x ++ y)))
           → Carries {A = ℕ} (Cut x) (elim t [ again st′ ms k ↦ after ms k (loop n (attributeTurn sub) st′ (drop k x)) | done o ↦ o ]) (elim t′ [ again st′ ms k ↦ after ms k (loop n′ (attributeTurn sub) st′ (drop k (x ++ y))) | done o ↦ o ])
       go (again st′ ms k) t′ e r = inner st′ ms k t′ e (loop n (attributeTurn sub) st′ (drop k x)) (r st′ k)
       go (done (ok a ms k)) t′ e r = λ u. rw (e u) refl
@@ -173,7 +178,8 @@ module _ (sub : Inside) (law : InsideLaw sub) where
   holds-all P f (bad e k) = tt
   holds-all P f (deep k) = tt
 
-  last-ends : {A B : Type 0} (x y : List ℕ) (g : A → B) (o o′ : Out A) → Carries (Cut x) o o′ → Carries (Cut x) (next x (λ a. pure (g a)) o) (next (x ++ y) (λ a. pure (g a)) o′)
+  last-ends : {A B : Type 0} (x y : List ℕ) (g : A → B) (o o′ : Out A) → Carries (Cut x) o o′
+      → Carries (Cut x) (next x (λ a. pure (g a)) o) (next (x ++ y) (λ a. pure (g a)) o′)
   unfolding next pure after
   last-ends x y g (ok a ms k) o′ c = λ u. ap (next (x ++ y) (λ a. pure (g a))) (c (subst (Cut x) (add-zero k) u))
   last-ends x y g (bad f k) o′ c = tt

@@ -79,7 +79,8 @@ unfolding needsLineEnd
 lineEnd-reads true = pure-reads loose tt
 lineEnd-reads false = fail-reads loose (Errors.ExpectedCharRange 2)
 
-arrow-same : (b : ℕ) (bs y : List ℕ) → Whole (b ∷ bs) → (startsWith 45 ((b ∷ bs) ++ y) && second (λ c. eqb c 62) ((b ∷ bs) ++ y)) ≡ (startsWith 45 (b ∷ bs) && second (λ c. eqb c 62) (b ∷ bs))
+arrow-same : (b : ℕ) (bs y : List ℕ) → Whole (b ∷ bs)
+    → (startsWith 45 ((b ∷ bs) ++ y) && second (λ c. eqb c 62) ((b ∷ bs) ++ y)) ≡ (startsWith 45 (b ∷ bs) && second (λ c. eqb c 62) (b ∷ bs))
 unfolding startsWith second starts
 arrow-same b bs y w = byCase (eqb b 45) (λ q. ap (λ t. eqb b 45 && t) (go bs (nonempty b bs w (λ e. omega (arith, eqb-true b 45 q))))) (λ q. rw q refl)
   where
@@ -109,7 +110,8 @@ module _ (sub : Inside) (law : InsideLaw sub) where
   star-within v d x y w s = pick (TurnWithin Free (length x)) (v && d) _ _ (λ q. tt)
       (λ q. pick (TurnWithin Free (length x)) (startsWith 91 (x ++ y)) _ _ (λ r. turnOf-within (Unit {0}) (length x) (variantWith sub v d (x ++ y)) (variantWith-reads v d .stops x y w s)) (λ r. endVariants-reads (v || d) .stops x y w s))
 
-  star-keeps : (v d : Bool) (b : ℕ) (bs y : List ℕ) → Whole (b ∷ bs) → TurnCarries Free (Upto loose y (suc (length bs))) (afterStar sub v d (b ∷ bs)) (afterStar sub v d ((b ∷ bs) ++ y))
+  star-keeps : (v d : Bool) (b : ℕ) (bs y : List ℕ) → Whole (b ∷ bs)
+      → TurnCarries Free (Upto loose y (suc (length bs))) (afterStar sub v d (b ∷ bs)) (afterStar sub v d ((b ∷ bs) ++ y))
   unfolding afterStar fail startsWith
   star-keeps v d b bs y w = pick₂ (TurnCarries Free (Upto loose y (suc (length bs)))) (v && d) _ _ _ _ (λ q. tt)
       (λ q. pick₂ (TurnCarries Free (Upto loose y (suc (length bs)))) (eqb b 91) _ _ _ _
@@ -123,7 +125,8 @@ module _ (sub : Inside) (law : InsideLaw sub) where
   turnAfter-within n (done (bad f k)) h = tt
   turnAfter-within n (done (deep k)) h = tt
 
-  turnAfter-keeps : (y : List ℕ) (n : ℕ) (t t′ : Turn Bool (Unit {0})) → TurnCarries Free (Upto loose y n) t t′ → TurnCarries Free (Upto loose y (suc n)) (turnAfter 1 t) (turnAfter 1 t′)
+  turnAfter-keeps : (y : List ℕ) (n : ℕ) (t t′ : Turn Bool (Unit {0})) → TurnCarries Free (Upto loose y n) t t′
+      → TurnCarries Free (Upto loose y (suc n)) (turnAfter 1 t) (turnAfter 1 t′)
   unfolding turnAfter after
   turnAfter-keeps y n (again st ms k) t′ c = λ u. (ap (turnAfter 1) (c (omega arith) .0), tt)
   turnAfter-keeps y n (done (ok a ms k)) t′ c = λ u. ap (turnAfter 1) (c (omega arith))

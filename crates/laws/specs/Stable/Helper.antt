@@ -231,7 +231,8 @@ pub escape-within : (len b : ℕ) (bs y : List ℕ) → Whole (b ∷ bs) → Wit
 unfolding skipUnicodeEscapeSequence
 escape-within len b bs y w = pick (Within (length bs)) (eqb (min len (run isHex ((b ∷ bs) ++ y))) len) _ _ (λ q. omega (arith, run-whole isHex isHex-end b bs y w .0, run-whole isHex isHex-end b bs y w .1)) (λ q. tt)
 
-pub escape-carries : (N : ℕ → Type 0) (len b : ℕ) (bs y : List ℕ) → Whole (b ∷ bs) → Carries N (skipUnicodeEscapeSequence len (b ∷ bs)) (skipUnicodeEscapeSequence len ((b ∷ bs) ++ y))
+pub escape-carries : (N : ℕ → Type 0) (len b : ℕ) (bs y : List ℕ) → Whole (b ∷ bs)
+    → Carries N (skipUnicodeEscapeSequence len (b ∷ bs)) (skipUnicodeEscapeSequence len ((b ∷ bs) ++ y))
 unfolding skipUnicodeEscapeSequence
 escape-carries N len b bs y w =
     subst (λ n. Carries N (escapeOf len (run isHex (b ∷ bs)) (firstWidth (drop (min len (run isHex (b ∷ bs))) (b ∷ bs)))) (escapeOf len n (firstWidth (drop (min len n) ((b ∷ bs) ++ y)))))
@@ -264,7 +265,8 @@ expectByte-strict b h g = record { short = expectByte-short b h g }
 
 -- a choice by a test on the first bytes
 module _ {A : Type 0} (t : List ℕ → Bool) (p q : Reader A) (same : (b : ℕ) (bs y : List ℕ) → Whole (b ∷ bs) → t ((b ∷ bs) ++ y) ≡ t (b ∷ bs)) (rp : Reads loose p) (rq : Reads loose q) where
-  choose-keeps : (x y : List ℕ) → Whole x → Carries {A = A} (Upto loose y (length x)) (elim (t x) [ true ↦ p x | false ↦ q x ]) (elim (t (x ++ y)) [ true ↦ p (x ++ y) | false ↦ q (x ++ y) ])
+  choose-keeps : (x y : List ℕ) → Whole x
+      → Carries {A = A} (Upto loose y (length x)) (elim (t x) [ true ↦ p x | false ↦ q x ]) (elim (t (x ++ y)) [ true ↦ p (x ++ y) | false ↦ q (x ++ y) ])
   choose-keeps [] y w = loose-nil {A = A} y (elim (t []) [ true ↦ p [] | false ↦ q [] ]) (elim (t y) [ true ↦ p y | false ↦ q y ])
   choose-keeps (b ∷ bs) y w =
       subst (λ v. Carries {A = A} (Upto loose y (suc (length bs))) (elim (t (b ∷ bs)) [ true ↦ p (b ∷ bs) | false ↦ q (b ∷ bs) ]) (elim v [ true ↦ p ((b ∷ bs) ++ y) | false ↦ q ((b ∷ bs) ++ y) ])) (sym (same b bs y w))

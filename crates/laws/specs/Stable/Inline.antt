@@ -151,7 +151,8 @@ module _ (sub : Inside) (law : InsideLaw sub) where
       (elim (starts isLetter (bs ++ y)) [ true ↦ asInline (termReference sub ((b ∷ bs) ++ y)) | false ↦ numberLiteral ((b ∷ bs) ++ y) ])
   minus-keeps N b bs y e c = rw e (pick₂ (Carries N) (starts isLetter bs) _ _ _ _ (λ q. c .terms) (λ q. c .numbers))
 
-  inline-kept : (N : ℕ → Type 0) (b : ℕ) (bs y : List ℕ) (v : Bool) → Whole (b ∷ bs) → Choices (λ p. Carries N (p (b ∷ bs)) (p ((b ∷ bs) ++ y))) → Carries N (getInlineExpression sub v (b ∷ bs)) (getInlineExpression sub v ((b ∷ bs) ++ y))
+  inline-kept : (N : ℕ → Type 0) (b : ℕ) (bs y : List ℕ) (v : Bool) → Whole (b ∷ bs) → Choices (λ p. Carries N (p (b ∷ bs)) (p ((b ∷ bs) ++ y)))
+      → Carries N (getInlineExpression sub v (b ∷ bs)) (getInlineExpression sub v ((b ∷ bs) ++ y))
   unfolding getInlineExpression nonLiteral
   inline-kept N b bs y v w c =
       pick₂ (Carries N) (eqb b 34) _ _ _ _ (λ q. c .strings) (λ q. pick₂ (Carries N) (isDigit b) _ _ _ _ (λ q. c .numbers)

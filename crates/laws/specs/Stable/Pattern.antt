@@ -83,7 +83,8 @@ slice-fits b bs w =
     rw (slice-at (b ∷ bs) (take n (b ∷ bs)) (d ∷ ds) n refl refl e)
     (sliceBy-fits (take n (b ∷ bs)) d ds (suc (length bs)) (omega (arith, length-take n (b ∷ bs), run-whole isTextByte isTextByte-end b bs [] w .1)))
 
-withText-fits : (st : State) (indent n : ℕ) (x : List ℕ) (o : Out Slice) → Sliced n o → n + indent ≡ length x → TurnWithin (ReadyAfter x) (length x) (withText st indent o)
+withText-fits : (st : State) (indent n : ℕ) (x : List ℕ) (o : Out Slice) → Sliced n o → n + indent ≡ length x
+    → TurnWithin (ReadyAfter x) (length x) (withText st indent o)
 unfolding withText after
 withText-fits st indent n x (ok t ms k) h e = (omega (arith, h .0), λ q. rw length-drop (omega (arith, h .1 q)))
 withText-fits st indent n x (bad f k) h e = tt
@@ -97,7 +98,8 @@ lineTurn-same : (st : State) (k c : ℕ) (cs y : List ℕ) → Whole (c ∷ cs) 
 unfolding lineTurn
 lineTurn-same st k c cs y w = ap (λ o. elim (goesOn k c) [ true ↦ withText st k o | false ↦ done (ok st [] 0) ]) (slice-same c cs y w)
 
-lineTurn-fits : (st : State) (k c : ℕ) (cs x : List ℕ) → Whole (c ∷ cs) → isLineStart (st .role) ≡ true → suc (length cs) + k ≡ length x → TurnWithin (ReadyAfter x) (length x) (lineTurn st k (c ∷ cs))
+lineTurn-fits : (st : State) (k c : ℕ) (cs x : List ℕ) → Whole (c ∷ cs) → isLineStart (st .role) ≡ true → suc (length cs) + k ≡ length x
+    → TurnWithin (ReadyAfter x) (length x) (lineTurn st k (c ∷ cs))
 unfolding lineTurn
 lineTurn-fits st k c cs x w l e = pick (TurnWithin (ReadyAfter x) (length x)) (goesOn k c) _ _
     (λ q. withText-fits st k (suc (length cs)) x (getTextSlice (c ∷ cs)) (slice-fits c cs w) e) (λ q. omega arith)
@@ -159,7 +161,8 @@ module _ (m : Mode) (soft : Soft m) (sub : Inside) (law : InsideLaw sub) where
       (λ q. withPlaceable-within st (b ∷ bs) (sub .braced ((b ∷ bs) ++ y)) (law .bracedStrict .short (b ∷ bs) y w s))
       (λ q. subst (TurnWithin (ReadyAfter (b ∷ bs)) (suc (length bs))) (sym (textTurn-same st b bs y w)) (textTurn-fits st b bs w))
 
-  pattern-keeps : (st : State) (x y : List ℕ) → Whole x → Ready st x → TurnCarries (ReadyAfter x) (Upto m y (length x)) (patternTurn sub st x) (patternTurn sub st (x ++ y))
+  pattern-keeps : (st : State) (x y : List ℕ) → Whole x → Ready st x
+      → TurnCarries (ReadyAfter x) (Upto m y (length x)) (patternTurn sub st x) (patternTurn sub st (x ++ y))
   unfolding patternTurn
   pattern-keeps st [] y w r = λ u. patternTurn-calm sub st y (not-ready st r) (soft-fresh m soft y 0 u)
   pattern-keeps st (b ∷ bs) y w r = pick₂ (TurnCarries (ReadyAfter (b ∷ bs)) (Upto m y (suc (length bs)))) (eqb b 123) _ _ _ _
@@ -249,11 +252,13 @@ module _ (b : ℕ) (bs : List ℕ) (w : Whole (b ∷ bs)) where
   unfolding sp en
   first-whole = first-at (b ∷ bs) (drop (sp + en) (b ∷ bs)) sp en refl refl refl
 
-  ready-of : (k e u n : ℕ) → k < n → k + e + u ≤ n → n ≡ suc (length bs) → (firstOf k e u .used ≤ suc (length bs)) × Ready (firstOf k e u) (drop (firstOf k e u .used) (b ∷ bs))
+  ready-of : (k e u n : ℕ) → k < n → k + e + u ≤ n → n ≡ suc (length bs)
+      → (firstOf k e u .used ≤ suc (length bs)) × Ready (firstOf k e u) (drop (firstOf k e u .used) (b ∷ bs))
   unfolding stateAt isLineStart
   ready-of k e u n h l q = byCase (ltb 0 e) (λ r. rw (r, firstOf) (omega arith, λ z. clash refl z)) (λ r. rw (r, firstOf) (omega arith, λ z. rw length-drop (omega arith)))
 
-  pub first-ready : (y : List ℕ) → Stop y → (firstState ((b ∷ bs) ++ y) .used ≤ suc (length bs)) × Ready (firstState ((b ∷ bs) ++ y)) (drop (firstState ((b ∷ bs) ++ y) .used) (b ∷ bs))
+  pub first-ready : (y : List ℕ) → Stop y
+      → (firstState ((b ∷ bs) ++ y) .used ≤ suc (length bs)) × Ready (firstState ((b ∷ bs) ++ y)) (drop (firstState ((b ∷ bs) ++ y) .used) (b ∷ bs))
   unfolding sp en
   first-ready y s = rw (first-cut y)
       (ready-of sp en (usedBy (skipBlankBlock (drop (sp + en) (b ∷ bs) ++ y))) (suc (length bs)) (start-of b bs w .short)
@@ -280,7 +285,8 @@ module _ (m : Mode) (soft : Soft m) (sub : Inside) (law : InsideLaw sub) where
   finish-within s n (bad f k) h = tt
   finish-within s n (deep k) h = tt
 
-  finish-same : (x y : List ℕ) (st : State) (ms : List Mark) (k : ℕ) → Els (st .used) (st .elements) → st .used ≤ length x → finish (x ++ y) (ok st ms k) ≡ finish x (ok st ms k)
+  finish-same : (x y : List ℕ) (st : State) (ms : List Mark) (k : ℕ) → Els (st .used) (st .elements) → st .used ≤ length x
+      → finish (x ++ y) (ok st ms k) ≡ finish x (ok st ms k)
   unfolding finish
   finish-same x y st ms k p h = ap (λ ns. elim (eqb (st .kept) 0) [ true ↦ ok false [] k | false ↦ ok true (node 11 ns) k ])
       (elementMarks-same x y (st .common) (st .kept) (st .elements) (els-more (st .used) (length x) h (st .elements) p))

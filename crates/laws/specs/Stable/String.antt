@@ -45,18 +45,21 @@ escape-left b c cs y w =
     (λ q. pick (TurnWithin _ _) (eqb c 117) _ _ (λ r. unicode 4 cs (whole-tail c cs w) (nonempty c cs w (λ e. omega (arith, eqb-true c 117 r))))
     (λ r. pick (TurnWithin _ _) (eqb c 85) _ _ (λ t. unicode 6 cs (whole-tail c cs w) (nonempty c cs w (λ e. omega (arith, eqb-true c 85 t)))) (λ t. tt)))
   where
-    unicode : (len : ℕ) (ds : List ℕ) → Whole ds → 0 < length ds → TurnWithin {A = Unit {0}} (LeftAfter (b ∷ c ∷ ds)) (suc (suc (length ds))) (turnOf (after [] 2 (skipUnicodeEscapeSequence len (ds ++ y))))
+    unicode : (len : ℕ) (ds : List ℕ) → Whole ds → 0 < length ds
+        → TurnWithin {A = Unit {0}} (LeftAfter (b ∷ c ∷ ds)) (suc (suc (length ds))) (turnOf (after [] 2 (skipUnicodeEscapeSequence len (ds ++ y))))
     unicode len [] v h = absurd (not-suc-le-zero h)
     unicode len (d ∷ ds) v h = turnOf-left (b ∷ c ∷ d ∷ ds) (length ds) (skipUnicodeEscapeSequence len ((d ∷ ds) ++ y)) (escape-within len d ds y v) (omega arith)
 
-escape-kept : (b c : ℕ) (cs y : List ℕ) → Whole (c ∷ cs) → (N : ℕ → Type 0) → TurnCarries (LeftAfter (b ∷ c ∷ cs)) N (escapeTurn (b ∷ c ∷ cs) (c ∷ cs)) (escapeTurn ((b ∷ c ∷ cs) ++ y) ((c ∷ cs) ++ y))
+escape-kept : (b c : ℕ) (cs y : List ℕ) → Whole (c ∷ cs) → (N : ℕ → Type 0)
+    → TurnCarries (LeftAfter (b ∷ c ∷ cs)) N (escapeTurn (b ∷ c ∷ cs) (c ∷ cs)) (escapeTurn ((b ∷ c ∷ cs) ++ y) ((c ∷ cs) ++ y))
 unfolding escapeTurn fail
 escape-kept b c cs y w N =
     pick₂ (TurnCarries _ _) (eqb c 92 || (eqb c 123 || eqb c 34)) _ _ _ _ (λ q u. (refl, nonempty c cs w (escape-ends c q)))
     (λ q. pick₂ (TurnCarries _ _) (eqb c 117) _ _ _ _ (λ r. unicode 4 cs (whole-tail c cs w) (nonempty c cs w (λ e. omega (arith, eqb-true c 117 r))))
     (λ r. pick₂ (TurnCarries _ _) (eqb c 85) _ _ _ _ (λ t. unicode 6 cs (whole-tail c cs w) (nonempty c cs w (λ e. omega (arith, eqb-true c 85 t)))) (λ t. tt)))
   where
-    unicode : (len : ℕ) (ds : List ℕ) → Whole ds → 0 < length ds → TurnCarries {A = Unit {0}} (LeftAfter (b ∷ c ∷ ds)) N (turnOf (after [] 2 (skipUnicodeEscapeSequence len ds))) (turnOf (after [] 2 (skipUnicodeEscapeSequence len (ds ++ y))))
+    unicode : (len : ℕ) (ds : List ℕ) → Whole ds → 0 < length ds
+        → TurnCarries {A = Unit {0}} (LeftAfter (b ∷ c ∷ ds)) N (turnOf (after [] 2 (skipUnicodeEscapeSequence len ds))) (turnOf (after [] 2 (skipUnicodeEscapeSequence len (ds ++ y))))
     unicode len [] v h = absurd (not-suc-le-zero h)
     unicode len (d ∷ ds) v h = turnOf-kept (b ∷ c ∷ d ∷ ds) (length ds) N (skipUnicodeEscapeSequence len (d ∷ ds)) (skipUnicodeEscapeSequence len ((d ∷ ds) ++ y))
         (subst (λ z. Within (length ds) (skipUnicodeEscapeSequence len z)) (append-nil (d ∷ ds)) (escape-within len d ds [] v)) (omega arith) (escape-carries (λ k. N (2 + k)) len d ds y v)
