@@ -10,14 +10,15 @@ use lib.Seq.{drop-drop}
 use lib.Dec.{eqb, ltb}
 use borrow.Author.Tests.{eqb-true, eq-eqb, ne-eqb, le-ltb}
 use Rattle.syntax.specs.Bytes.{startsWith, starts, isLetter, spaces, eol, run}
-use Rattle.syntax.specs.Marks.{Mark, plain, placed, kindOf, moveUp, node, textNode}
+use Rattle.syntax.specs.Marks.{Mark, plain, placed, kindOf, moveUp, node}
 use Rattle.syntax.specs.declared.errors.ParserError.{ParserError}
 use Rattle.syntax.specs.Reader.{Out, ok, bad, deep, fail, next, _>>=_, after, loop, repeat}
 use Rattle.syntax.specs.Helper.{skipBlankBlock, blockTurn, getIdentifier}
 use Rattle.syntax.specs.Comment.{getComment}
 use Rattle.syntax.specs.Pattern.{Inside, usedBy}
-use Rattle.syntax.specs.Core.{fields, Entry, asMessage, asComment, getEntry, junkEnd, lineStartsAt, Error, upError, Reading, read, refused, following, isNamed, count, kindOfEntry, entries}
+use Rattle.syntax.specs.Core.{fields, Entry, asMessage, asComment, getEntry, lineStartsAt, Error, upError, Reading, read, refused, following, isNamed, count, kindOfEntry, entries}
 use Rattle.laws.specs.Bytes.{Whole, Fresh, Stop, byCase, clash, fresh-spaces, fresh-eol}
+use Rattle.laws.specs.File.{junk, entries-first, entries-far}
 use Rattle.laws.specs.Answers.{Holds, TurnHolds, loop-holds, sure-ok}
 use Rattle.laws.specs.Stable.Helper.{block-sure}
 use Rattle.laws.specs.Stable.Entry.{dotted}
@@ -140,6 +141,11 @@ pub weight-node : (k : ℕ) (ms : List Mark) → weight (node k ms) ≡ k + k + 
 unfolding node
 weight-node k ms = let h = weight-append ms (plain (100 + k) ∷ []) in omega arith
 
+some-error : (ms : List Mark) (x : Error) (k : ℕ) (r : Reading) (ns : List Mark) → following ms (x ∷ []) k r ≡ read ns [] → ⊥
+unfolding following
+some-error ms x k (read os es) ns h = let z : _≡_ {A = ℕ} 0 1 = cc in omega arith
+some-error ms x k (refused j) ns h = let z : _≡_ {A = ℕ} 0 1 = cc in omega arith
+
 module _ (sub : Inside) where
   pub entries-with : (n b : ℕ) (bs : List ℕ) (e : Entry) (ms : List Mark) (k c u : ℕ) (gs : List Mark) (r : List ℕ) → getEntry sub (b ∷ bs) ≡ ok e ms k
       → skipBlankBlock (drop k (b ∷ bs)) ≡ ok c gs u → drop (k + u) (b ∷ bs) ≡ r
@@ -150,17 +156,10 @@ module _ (sub : Inside) where
       ∙ ap (λ z. following (node (kindOfEntry e (ltb c 2 && isNamed (getEntry sub z))) ms) [] (k + u) (entries n sub z)) d)
 
   pub junk-free : (n b : ℕ) (bs : List ℕ) (ma : List Mark) (f : ParserError) (k : ℕ) → entries (suc n) sub (b ∷ bs) ≡ read ma [] → getEntry sub (b ∷ bs) ≡ bad f k → ⊥
-  unfolding entries following
-  junk-free n b bs ma f k e p = go (entries n sub (drop (junkEnd k (b ∷ bs) + usedBy (skipBlankBlock (drop (junkEnd k (b ∷ bs)) (b ∷ bs)))) (b ∷ bs))) (rw (p, entries) at e)
-    where
-      go : (r : Reading)
-          → following (textNode 7 0 (junkEnd k (b ∷ bs))) (record { fault = f; junkFrom = 0; junkTill = junkEnd k (b ∷ bs) } ∷ []) (junkEnd k (b ∷ bs) + usedBy (skipBlankBlock (drop (junkEnd k (b ∷ bs)) (b ∷ bs)))) r ≡ read ma [] → ⊥
-      go (read ns es) h = let z : _≡_ {A = ℕ} 0 1 = cc in omega arith
-      go (refused i) h = let z : _≡_ {A = ℕ} 0 1 = cc in omega arith
+  junk-free n b bs ma f k e p = some-error _ _ _ _ ma (sym (entries-first sub n (junk p)) ∙ e)
 
   pub not-deep : (n b : ℕ) (bs : List ℕ) (ma : List Mark) (es : List Error) (k : ℕ) → entries (suc n) sub (b ∷ bs) ≡ read ma es → getEntry sub (b ∷ bs) ≡ deep k → ⊥
-  unfolding entries
-  not-deep n b bs ma es k e p = let h : refused k ≡ read ma es = rw (p, entries) at e in let z : _≡_ {A = ℕ} 0 1 = cc in omega arith
+  not-deep n b bs ma es k e p = let q = entries-far sub n b bs p in let z : _≡_ {A = ℕ} 0 1 = cc in omega arith
 
   -- the first entry of a source that is read without junk
   pub record Step (n : ℕ) (s : List ℕ) (ma : List Mark) : Type 0 where
