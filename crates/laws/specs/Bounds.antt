@@ -1,6 +1,8 @@
 -- What a reader may answer on a rest s, with n openings still allowed.
 -- ok: it used no more than s; its marks are at most eight for each byte used, with c marks to spare, and make nodes (Balanced).
 -- bad: it stopped within s. deep: at a byte of s, with n bytes at least before it.
+-- Of a reader p with `b : Bounds n c p`: `ok-uses b s e`, `bad-within b s e` and `deep-within b s e` say it of the answer that e gives, as `e : p s ≡ ok a ms k`.
+-- Where what is nested is read at a level n, `level-bounds n` is the hypothesis that the readers of nesting ask for.
 pub mod Helper
 pub mod Comment
 pub mod Pattern

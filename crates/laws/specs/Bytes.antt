@@ -1,4 +1,4 @@
--- Bytes before a cut, and tests over them.
+-- Tests on bytes, and choices by them; how many bytes a run or a line end takes; sources that end in a newline, and what follows a cut.
 use Prim.Native.Nat.{ℕ, zero, suc, _≤_, _<_, suc-le-suc}
 use mathlib.Core.Path.{_≡_, refl, ap}
 use mathlib.Core.Bool.{Bool, true, false, _&&_}

@@ -1,4 +1,4 @@
--- The entries of a file, and its last line.
+-- What a theorem on a cut needs of a file: its last line, its entries where there is no junk, and the blank lines between them.
 use Prim.Native.Nat.{ℕ, zero, suc, _+_, _≤_, _<_}
 use native.Mathlib.Nat.{not-suc-le-zero, add-zero, zero-add}
 use native.Mathlib.Omega.{arith}
