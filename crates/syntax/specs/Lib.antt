@@ -2,6 +2,7 @@
 pub mod Byte
 pub mod Kind
 pub mod Errors
+pub mod Answer
 pub mod Marks
 pub mod Bytes
 pub mod Reader
@@ -11,4 +12,7 @@ pub mod Pattern
 pub mod Expression
 pub mod Core
 pub mod Serializer
+pub mod Reading
+pub mod Listing
+pub mod Table
 pub mod Cut
