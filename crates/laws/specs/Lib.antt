@@ -6,3 +6,6 @@ pub mod Entries
 pub mod Progress
 pub mod Balanced
 pub mod Lines
+pub mod Layout
+pub mod Call
+pub mod Shape

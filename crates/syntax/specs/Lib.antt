@@ -1,4 +1,5 @@
 -- The definitions that the contracts cite, a module for each file of the Rust.
+pub mod Limits
 pub mod Byte
 pub mod Kind
 pub mod Errors
@@ -12,7 +13,11 @@ pub mod Pattern
 pub mod Expression
 pub mod Core
 pub mod Serializer
+pub mod Layout
 pub mod Reading
+pub mod Shape
+pub mod ShapeTable
+pub mod Writing
 pub mod Listing
 pub mod Table
 pub mod Cut

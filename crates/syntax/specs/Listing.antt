@@ -8,7 +8,9 @@ use Rattle.syntax.specs.Byte as Byte
 use Rattle.syntax.specs.Answer.{numberOf, valueOf}
 use Rattle.syntax.specs.Marks.{Mark, kindOf, placeOf}
 use Rattle.syntax.specs.Core.{Error, Reading, read, refused, parse}
-use Rattle.syntax.specs.Reading.{maxOpen, group, errorNumber, answerOf}
+use Rattle.syntax.specs.Layout.{group, errorNumber}
+use Rattle.syntax.specs.Limits.{maxOpen}
+use Rattle.syntax.specs.Reading.{answerOf}
 
 -- a number's decimal digits, at most n of them, before others
 unfoldable pub digits : ℕ → ℕ → List ℕ → List ℕ
