@@ -4,3 +4,5 @@ pub mod Words
 pub mod Clean
 pub mod Tree
 pub mod Text
+pub mod Theorem
+pub mod Table
