@@ -1,11 +1,11 @@
--- `errors::put_pair` meets its contract: two stores in a row.
+-- `list::put_pair` meets its contract: two stores in a row.
 use native.Mathlib.Numerals.{add-one}
 use native.Mathlib.Omega.{arith}
 use mathlib.Core.Path.{ap}
 use lib.ListN.{set, length-set}
 use borrow.Author.Needs.{needs}
-use Rattle.parser.proofs.errors.put_pair.Statement.{statement}
-use Rattle.parser.proofs.errors.put_pair.Tie as tie
+use Rattle.parser.proofs.list.put_pair.Statement.{statement}
+use Rattle.parser.proofs.list.put_pair.Tie as tie
 
 cast-list : tie.Need-cast-list
 cast-list c = search needs

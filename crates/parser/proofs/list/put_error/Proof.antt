@@ -1,12 +1,12 @@
--- `errors::put_error` meets its contract: a kind, and three pairs of words.
+-- `list::put_error` meets its contract: a kind, and three pairs of words.
 use native.Mathlib.Omega.{arith}
 use mathlib.Core.Path.{refl, _∙_}
 use lib.ListN.{length-set}
 use Rattle.parser.specs.ErrorList.{withJunk}
 use Rattle.parser.proofs.ErrorRows.{error-written}
 use borrow.Author.Needs.{needs}
-use Rattle.parser.proofs.errors.put_error.Statement.{statement}
-use Rattle.parser.proofs.errors.put_error.Tie as tie
+use Rattle.parser.proofs.list.put_error.Statement.{statement}
+use Rattle.parser.proofs.list.put_error.Tie as tie
 
 kind-words-requires : tie.Need-kind-words-requires
 kind-words-requires c κs = search needs
