@@ -20,19 +20,20 @@ use Rattle.laws.specs.Bytes.{Whole, whole-drop, Fresh, byCase, clash}
 use Rattle.laws.specs.Stable.Expression.{level-law}
 use Rattle.laws.specs.Stable.Pattern.{span-same}
 use Rattle.laws.specs.Moving.{moveUp-zero}
-use Rattle.laws.specs.Balanced.{Upto, Good, good-up}
-use Rattle.laws.specs.Balanced.Readers.{level-marked}
+use Rattle.laws.specs.Balanced.{Upto, Good}
+use Rattle.laws.specs.Bounds.Expression.{level-bounds}
+use Rattle.laws.specs.File.{parse-read}
 use Rattle.laws.specs.Balanced.Nodes.{upNode, nodes-up, nodes-append, OkMarks, OkNodes, ok-nodes}
 use Rattle.cut.specs.Text.Source.{resource-same}
 use Rattle.cut.specs.Text.Piece.{Ends, resource-ends, wroteAll, wrote-ends, resource-append, Opening, opensNodes, opened-text}
-use Rattle.cut.specs.Text.Listing.{none-read, entries-good, entries-ends, ends-up, entries-opening}
+use Rattle.cut.specs.Text.Listing.{none-read, entries-ends, ends-up, entries-opening}
 use Rattle.cut.specs.Tree.{CutTree, cut-tree, start, from-start, from-length, first-part, second-part}
 use Rattle.syntax.specs.Cut.{opensFree, between, Readings, Parts}
 
 upto-ok : (k : ℕ) (ms : List Mark) → Upto k ms → OkMarks (λ p. p ≤ k) ms
 upto-ok k [] u = tt
-upto-ok k (plain i ∷ ms) u = (tt, upto-ok k ms u)
-upto-ok k (placed i p ∷ ms) u = (u .0, upto-ok k ms (u .1))
+upto-ok k (plain i ∷ ms) u = (tt, upto-ok k ms (u .1))
+upto-ok k (placed i p ∷ ms) u = (u .1, upto-ok k ms (u .2))
 
 any-ok : (ms : List Mark) → OkMarks (λ p. Unit {0}) ms
 any-ok [] = tt
@@ -62,10 +63,7 @@ module _ (n : ℕ) (A B : List ℕ) (ma mb mab : List Mark) (eb eab : List Error
   ma′ = first-part n A B ma mb mab eb eab r .0
 
   good : Good (length A) ma
-  unfolding from-start start ma′
-  good =
-      let g = entries-good (level n) (level-law n) (level-marked n) (suc (length A)) (from-start n A B ma mb mab eb eab r) ma′ (whole-drop (start n A B ma mb mab eb eab r) A (r .whole)) (first-part n A B ma mb mab eb eab r .1) in
-      subst (λ k. Good k ma) (from-length n A B ma mb mab eb eab r) (subst (Good (start n A B ma mb mab eb eab r + length (from-start n A B ma mb mab eb eab r))) (first-part n A B ma mb mab eb eab r .2) (good-up (start n A B ma mb mab eb eab r) (length (from-start n A B ma mb mab eb eab r)) ma′ g))
+  good = parse-read n A (r .first) .0 .good
 
   -- the first part has an entry, or nothing
   data First : Type 0 where
@@ -75,8 +73,8 @@ module _ (n : ℕ) (A B : List ℕ) (ma mb mab : List Mark) (eb eab : List Error
   first-is : First
   unfolding from-start ma′ moveUp
   first-is = byCase (ltb 0 (length (from-start n A B ma mb mab eb eab r)))
-      (λ q. go (entries-ends (level n) (level-law n) (level-marked n) A (suc (length A)) (from-start n A B ma mb mab eb eab r) ma′ (whole-drop (start n A B ma mb mab eb eab r) A (r .whole)) (first-part n A B ma mb mab eb eab r .1)) (ltb-true 0 (length (from-start n A B ma mb mab eb eab r)) q))
-      (λ q. nothing (sym (first-part n A B ma mb mab eb eab r .2) ∙ ap (moveUp (start n A B ma mb mab eb eab r)) (none-read (level n) (level-law n) (level-marked n) (suc (length A)) ma′ []
+      (λ q. go (entries-ends (level n) (level-bounds n) A (suc (length A)) (from-start n A B ma mb mab eb eab r) ma′ (whole-drop (start n A B ma mb mab eb eab r) A (r .whole)) (first-part n A B ma mb mab eb eab r .1)) (ltb-true 0 (length (from-start n A B ma mb mab eb eab r)) q))
+      (λ q. nothing (sym (first-part n A B ma mb mab eb eab r .2) ∙ ap (moveUp (start n A B ma mb mab eb eab r)) (none-read (level n) (level-bounds n) (suc (length A)) ma′ []
       (ap (entries (suc (length A)) (level n)) (sym (empty-of (from-start n A B ma mb mab eb eab r) (ltb-false 0 (length (from-start n A B ma mb mab eb eab r)) q))) ∙ first-part n A B ma mb mab eb eab r .1))))
     where
       empty-of : (z : List ℕ) → length z ≤ 0 → z ≡ []
@@ -88,7 +86,7 @@ module _ (n : ℕ) (A B : List ℕ) (ma mb mab : List Mark) (eb eab : List Error
           let (x, xs, q) = s h in
           let k = start n A B ma mb mab eb eab r in
           something (upNode k x) (map (upNode k) xs) (ap nodes (sym (first-part n A B ma mb mab eb eab r .2)) ∙ nodes-up k ma′ ∙ ap (map (upNode k)) q)
-          (ends-up (level n) (level-law n) (level-marked n) A k (x ∷ xs) (subst (Ends A) q e))
+          (ends-up (level n) (level-bounds n) A k (x ∷ xs) (subst (Ends A) q e))
 
   some-between : (x : Node) (xs : List Node) → nodes ma ≡ x ∷ xs → (ms : List Mark) → ma ≡ ms → between ma mb ≡ (elim (opensFree mb) [ true ↦ 10 ∷ [] | false ↦ [] ])
   unfolding between nodes nodesFrom
@@ -100,7 +98,7 @@ module _ (n : ℕ) (A B : List ℕ) (ma mb mab : List Mark) (eb eab : List Error
   cut-text same junk = by first-is
     where
       opening : Opening B (nodes mb) × (opensNodes B (nodes mb) ≡ opensFree mb)
-      opening = entries-opening (level n) (level-law n) (level-marked n) B (suc (length B)) B mb eb (second-part n A B ma mb mab eb eab r)
+      opening = entries-opening (level n) (level-bounds n) B (suc (length B)) B mb eb (second-part n A B ma mb mab eb eab r)
 
       whole : serialize (A ++ B) junk mab ≡ resource (A ++ B) junk false (nodes ma ++ nodes (moveUp (length A) mb)) 0 0
       whole = ap (serialize (A ++ B) junk) same ∙ ap (λ z. resource (A ++ B) junk false z 0 0) (nodes-append ma (moveUp (length A) mb) (good .0))

@@ -1,5 +1,4 @@
 -- The marks of an answer: every node that opens closes, and the places are within what was used.
-pub mod Readers
 pub mod Nodes
 use Prim.Native.Nat.{ℕ, zero, suc, _+_, _-_, _≤_, _<_, min}
 use native.Mathlib.Nat.{not-suc-le-zero, zero-add}
@@ -11,6 +10,7 @@ use mathlib.Core.Option.{Option, some, none}
 use lib.ListN.{drop, length, take, length-take}
 use lib.Dec.{eqb, ltb, leb}
 use borrow.Author.Tests.{eqb-true, eqb-false, ltb-true, ltb-false, le-ltb, lt-ltb}
+use Rattle.syntax.specs.Kind.{isText}
 use Rattle.syntax.specs.Marks.{Mark, plain, placed, kindOf, up, moveUp, node, textNode}
 use Rattle.syntax.specs.Reader.{Out, ok, bad, deep, Reader, after, next, _>>=_, _>>_, pure, fail, wrap, inNode, Turn, again, done, turnOf, loop, repeat}
 use Rattle.laws.specs.Bytes.{byCase, clash}
@@ -21,11 +21,15 @@ abbrev pub Levels : ℕ → List Mark → Type 0
 Levels d [] = d ≡ 0
 Levels d (m ∷ ms) = elim (ltb (kindOf m) 100) [ true ↦ Levels (suc d) ms | false ↦ (0 < d) × Levels (d - 1) ms ]
 
--- places up to k
+-- the kind of the node that a mark of the kind i opens or closes
+abbrev pub nodeKind : ℕ → ℕ
+nodeKind i = elim (ltb i 100) [ true ↦ i | false ↦ i - 100 ]
+
+-- a mark has a place if its kind is a T kind, and only then; the place is at most k
 abbrev pub Upto : ℕ → List Mark → Type 0
 Upto k [] = Unit {0}
-Upto k (plain i ∷ ms) = Upto k ms
-Upto k (placed i p ∷ ms) = (p ≤ k) × Upto k ms
+Upto k (plain i ∷ ms) = (isText (nodeKind i) ≡ false) × Upto k ms
+Upto k (placed i p ∷ ms) = (isText (nodeKind i) ≡ true) × (p ≤ k) × Upto k ms
 
 abbrev pub Good : ℕ → List Mark → Type 0
 Good k ms = Levels 0 ms × Upto k ms
@@ -53,19 +57,19 @@ levels-append d e (m ∷ ms) ns l r = by (ltb (kindOf m) 100) l (λ i g. levels-
 
 upto-append : (k : ℕ) (ms ns : List Mark) → Upto k ms → Upto k ns → Upto k (ms ++ ns)
 upto-append k [] ns u v = v
-upto-append k (plain i ∷ ms) ns u v = upto-append k ms ns u v
-upto-append k (placed i p ∷ ms) ns u v = (u .0, upto-append k ms ns (u .1) v)
+upto-append k (plain i ∷ ms) ns u v = (u .0, upto-append k ms ns (u .1) v)
+upto-append k (placed i p ∷ ms) ns u v = (u .0, u .1, upto-append k ms ns (u .2) v)
 
 upto-more : (k j : ℕ) → k ≤ j → (ms : List Mark) → Upto k ms → Upto j ms
 upto-more k j h [] u = tt
-upto-more k j h (plain i ∷ ms) u = upto-more k j h ms u
-upto-more k j h (placed i p ∷ ms) u = (omega (arith, u .0), upto-more k j h ms (u .1))
+upto-more k j h (plain i ∷ ms) u = (u .0, upto-more k j h ms (u .1))
+upto-more k j h (placed i p ∷ ms) u = (u .0, omega (arith, u .1), upto-more k j h ms (u .2))
 
 upto-up : (k j : ℕ) (ms : List Mark) → Upto j ms → Upto (k + j) (moveUp k ms)
 unfolding moveUp
 upto-up k j [] u = tt
-upto-up k j (plain i ∷ ms) u = upto-up k j ms u
-upto-up k j (placed i p ∷ ms) u = (omega (arith, u .0), upto-up k j ms (u .1))
+upto-up k j (plain i ∷ ms) u = (u .0, upto-up k j ms (u .1))
+upto-up k j (placed i p ∷ ms) u = (u .0, omega (arith, u .1), upto-up k j ms (u .2))
 
 pub good-nil : (k : ℕ) → Good k []
 good-nil k = (refl, tt)
@@ -82,74 +86,27 @@ good-join k ms ns g h = (levels-append 0 0 ms ns (g .0) (h .0), upto-append k ms
 pub good-append : (k j : ℕ) (ms ns : List Mark) → Good k ms → Good j ns → Good (k + j) (ms ++ moveUp k ns)
 good-append k j ms ns g h = good-join (k + j) ms (moveUp k ns) (good-more k (k + j) (omega arith) ms g) (good-up k j ns h)
 
-pub good-node : (k kind : ℕ) (ms : List Mark) → ltb kind 100 ≡ true → Good k ms → Good k (node kind ms)
+-- a node's kind: below 100, and a T kind or not
+abbrev pub Kind : Bool → ℕ → Type 0
+Kind v kind = (ltb kind 100 ≡ true) × (isText kind ≡ v)
+
+-- the kinds of the two marks of a node
+opens-kind : {v : Bool} (kind : ℕ) → Kind v kind → isText (nodeKind kind) ≡ v
+opens-kind kind q = rw (q .0, nodeKind) (q .1)
+
+closes : (kind : ℕ) → ltb (100 + kind) 100 ≡ false
+closes kind = le-ltb (100 + kind) 100 (omega arith)
+
+closes-kind : {v : Bool} (kind : ℕ) → Kind v kind → isText (nodeKind (100 + kind)) ≡ v
+closes-kind kind q = let z : 100 + kind - 100 ≡ kind = omega arith in rw (closes kind, nodeKind) (rw z (q .1))
+
+pub good-node : (k kind : ℕ) (ms : List Mark) → Kind false kind → Good k ms → Good k (node kind ms)
 unfolding node
-good-node k kind ms q g =
-    let c : ltb (100 + kind) 100 ≡ false = le-ltb (100 + kind) 100 (omega arith) in
-    (rw (q, Levels) (levels-append 0 1 ms (plain (100 + kind) ∷ []) (g .0) (rw (c, Levels) (omega arith, refl))), upto-append k ms (plain (100 + kind) ∷ []) (g .1) tt)
+good-node k kind ms q g = (
+  rw (q .0, Levels) (levels-append 0 1 ms (plain (100 + kind) ∷ []) (g .0) (rw (closes kind, Levels) (omega arith, refl))),
+  (opens-kind kind q, upto-append k ms (plain (100 + kind) ∷ []) (g .1) (closes-kind kind q, tt)),
+)
 
-pub good-text : (k kind a e : ℕ) → ltb kind 100 ≡ true → a ≤ k → e ≤ k → Good k (textNode kind a e)
+pub good-text : (k kind a e : ℕ) → Kind true kind → a ≤ k → e ≤ k → Good k (textNode kind a e)
 unfolding textNode
-good-text k kind a e q h l =
-    let c : ltb (100 + kind) 100 ≡ false = le-ltb (100 + kind) 100 (omega arith) in
-    (rw (q, Levels) (rw (c, Levels) (omega arith, refl)), (h, (l, tt)))
-
--- readers whose answers are good
-abbrev pub Marked : {A : Type 0} → Out A → Type 0
-Marked o = Holds (λ a ms k. Good k ms) o
-
-abbrev pub TurnMarked : {S A : Type 0} → Turn S A → Type 0
-TurnMarked (again st ms k) = Good k ms
-TurnMarked (done o) = Marked o
-
-pub after-marked : {A : Type 0} (ms : List Mark) (k : ℕ) (o : Out A) → Good k ms → Marked o → Marked (after ms k o)
-unfolding after
-after-marked ms k (ok a ns j) g h = good-append k j ms ns g h
-after-marked ms k (bad f j) g h = tt
-after-marked ms k (deep j) g h = tt
-
-pub next-marked : {A B : Type 0} (s : List ℕ) (q : A → Reader B) (o : Out A) → Marked o → ((a : A) (r : List ℕ) → Marked (q a r)) → Marked (next s q o)
-unfolding next
-next-marked s q (ok a ms k) h f = after-marked ms k (q a (drop k s)) h (f a (drop k s))
-next-marked s q (bad f k) h g = tt
-next-marked s q (deep k) h g = tt
-
-pub bind-marked : {A B : Type 0} (p : Reader A) (q : A → Reader B) → ((s : List ℕ) → Marked (p s)) → ((a : A) (r : List ℕ) → Marked (q a r)) → (s : List ℕ) → Marked ((p >>= q) s)
-unfolding _>>=_
-bind-marked p q h f s = next-marked s q (p s) (h s) f
-
-pub then-marked : {A B : Type 0} (p : Reader A) (q : Reader B) → ((s : List ℕ) → Marked (p s)) → ((r : List ℕ) → Marked (q r)) → (s : List ℕ) → Marked ((p >> q) s)
-unfolding _>>_
-then-marked p q h f s = next-marked s (λ _. q) (p s) (h s) (λ a r. f r)
-
-pub pure-marked : {A : Type 0} (a : A) (s : List ℕ) → Marked (pure a s)
-unfolding pure
-pure-marked a s = good-nil 0
-
-pub wrap-marked : {A : Type 0} (kind : ℕ) (o : Out A) → ltb kind 100 ≡ true → Marked o → Marked (wrap kind o)
-unfolding wrap
-wrap-marked kind (ok a ms k) q h = good-node k kind ms q h
-wrap-marked kind (bad f k) q h = tt
-wrap-marked kind (deep k) q h = tt
-
-pub turnOf-marked : (A : Type 0) {S : Type 0} (o : Out S) → Marked o → TurnMarked {A = A} (turnOf o)
-unfolding turnOf
-turnOf-marked A (ok a ms k) h = h
-turnOf-marked A (bad f k) h = tt
-turnOf-marked A (deep k) h = tt
-
-pub pick-marked : {A : Type 0} (v : Bool) (o u : Out A) → (v ≡ true → Marked o) → (v ≡ false → Marked u) → Marked {A = A} (elim v [ true ↦ o | false ↦ u ])
-pick-marked true o u f g = f refl
-pick-marked false o u f g = g refl
-
-pub pick-turn-marked : {S A : Type 0} (v : Bool) (o u : Turn S A) → (v ≡ true → TurnMarked o) → (v ≡ false → TurnMarked u) → TurnMarked {S = S} {A = A} (elim v [ true ↦ o | false ↦ u ])
-pick-turn-marked true o u f g = f refl
-pick-turn-marked false o u f g = g refl
-
-pub repeat-marked : {S A : Type 0} (t : S → List ℕ → Turn S A) → ((st : S) (s : List ℕ) → TurnMarked (t st s)) → (st : S) (s : List ℕ) → Marked (repeat t st s)
-unfolding repeat
-repeat-marked {S = S} {A = A} t h st s = loop-holds t (λ z r a ms k. Good k ms) (λ z r. go z r (t z r) (h z r)) (suc (length s)) st s
-  where
-    go : (z : S) (r : List ℕ) (w : Turn S A) → TurnMarked w → TurnHolds t (λ z r a ms k. Good k ms) z r w
-    go z r (again st′ ms k) g = λ a ns j x. good-append k j ms ns g x
-    go z r (done o) g = g
+good-text k kind a e q h l = (rw (q .0, Levels) (rw (closes kind, Levels) (omega arith, refl)), (opens-kind kind q, h, (closes-kind kind q, l, tt)))

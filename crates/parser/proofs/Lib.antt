@@ -2,3 +2,9 @@
 pub mod Steps
 pub mod Zeros
 pub mod ErrorRows
+pub mod Tests
+pub mod Run
+pub mod Places
+pub mod Lines
+pub mod Turns
+pub mod Slices

@@ -2,3 +2,5 @@
 pub mod Tree
 pub mod Slices
 pub mod ErrorList
+pub mod Place
+pub mod Slice

@@ -2,3 +2,7 @@
 pub mod list;
 pub mod marks;
 pub mod slices;
+pub mod bytes;
+pub mod errors;
+pub mod helper;
+pub mod text;
