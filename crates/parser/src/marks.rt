@@ -4,6 +4,15 @@ ghost use mathlib.Core.Path.{_≡_};
 ghost use mathlib.Core.List.{[], _∷_};
 ghost use Rattle.syntax.specs.Kind.{closing};
 ghost use Rattle.parser.specs.Tree.{word, Step, Fits};
+use syntax::errors::ParserError;
+
+// What a reader that writes marks answers: the place after what it read and the count of marks; an error and where it
+// stopped; or the place of an opening that nests too deep.
+pub enum Read {
+    Ok(usize, usize),
+    Bad(ParserError, usize),
+    Deep(usize),
+}
 
 // Writes a mark after n others.
 pub fn put(tree: &mut [u32], cap: usize, n: usize, kind: u32, place: usize) -> usize
