@@ -8,3 +8,5 @@ pub mod Places
 pub mod Lines
 pub mod Turns
 pub mod Slices
+pub mod Dids
+pub mod Insert

@@ -4,3 +4,4 @@ pub mod Slices
 pub mod ErrorList
 pub mod Place
 pub mod Slice
+pub mod Did
