@@ -1,8 +1,8 @@
 // The parser: bytes are read into marks and errors.
-pub mod list;
-pub mod marks;
-pub mod slices;
 pub mod bytes;
 pub mod errors;
 pub mod helper;
+pub mod layout;
+pub mod list;
+pub mod marks;
 pub mod text;

@@ -3,7 +3,7 @@ ghost use Prim.Native.Nat.{_+_, _-_, _*_, _≤_};
 ghost use mathlib.Core.Path.{_≡_};
 ghost use mathlib.Core.List.{_++_};
 ghost use lib.ListN.{length, take, drop, replicate};
-ghost use Rattle.parser.specs.Slices.{Laid, finished};
+ghost use Rattle.parser.specs.Laid.{Laid, finished};
 
 // Zeros from one index to another.
 pub fn zero(slice: &mut [u32], from: usize, to: usize)

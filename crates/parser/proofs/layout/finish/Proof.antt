@@ -1,12 +1,12 @@
--- `slices::finish` meets its contract: two sizes, and zeros behind both arrays.
+-- `layout::finish` meets its contract: two sizes, and zeros behind both arrays.
 use borrow.Author.Needs.{needs}
 use native.Mathlib.Omega.{arith}
 use Prim.Native.Nat.{_+_}
 use mathlib.Core.Path.{ap, _∙_}
 use lib.ListN.{set, length-set}
 use Rattle.parser.proofs.Zeros.{zeroed, zero-length, finish-is}
-use Rattle.parser.proofs.slices.finish.Statement.{statement}
-use Rattle.parser.proofs.slices.finish.Tie as tie
+use Rattle.parser.proofs.layout.finish.Statement.{statement}
+use Rattle.parser.proofs.layout.finish.Tie as tie
 
 cast-slice : tie.Need-cast-slice
 cast-slice c = search needs

@@ -1,12 +1,12 @@
--- `slices::zero` meets its contract: a turn writes one more zero.
+-- `layout::zero` meets its contract: a turn writes one more zero.
 use Prim.Native.Nat.{_-_, _≤_}
 use native.Mathlib.Omega.{arith}
 use mathlib.Core.Path.{_≡_, refl, sym, ap, _∙_}
 use lib.ListN.{length, set, length-set}
 use borrow.Author.Needs.{needs}
 use Rattle.parser.proofs.Zeros.{zeroed, zeroed-none, zeroed-more}
-use Rattle.parser.proofs.slices.zero.Statement.{statement}
-use Rattle.parser.proofs.slices.zero.Tie as tie
+use Rattle.parser.proofs.layout.zero.Statement.{statement}
+use Rattle.parser.proofs.layout.zero.Tie as tie
 
 abbrev Inv-loop : tie.InvT-loop
 Inv-loop slice₀ from to i₀ slice i = (from ≤ i) × (i ≤ to) × (slice ≡ zeroed from i slice₀) × (length slice ≡ length slice₀)
