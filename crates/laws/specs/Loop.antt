@@ -1,9 +1,9 @@
 -- Loops: `repeat` is one turn and then `repeat` from where it ends. As each turn uses a byte, the turns that are allowed never run out.
 pub mod Turns
-use Prim.Native.Nat.{ℕ, zero, suc, _+_, _≤_, _<_}
-use native.Mathlib.Nat.{not-suc-le-zero, le-of-suc-le-suc}
+use Prim.Native.Nat.{ℕ, zero, suc, _≤_, _<_}
+use native.Mathlib.Nat.{not-suc-le-zero}
 use native.Mathlib.Omega.{arith}
-use mathlib.Core.Path.{_≡_, refl, ap, _∙_, subst}
+use mathlib.Core.Path.{_≡_, refl, ap, subst}
 use mathlib.Core.List.{List}
 use lib.ListN.{drop, length, length-drop}
 use Rattle.syntax.specs.Marks.{Mark}

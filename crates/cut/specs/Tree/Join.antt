@@ -23,11 +23,12 @@ use Rattle.laws.specs.Stable.{Mode, loose, fresh, Within, Carries, Holds, Sure,
 use Rattle.laws.specs.Stable.Pattern.{InsideLaw, block-within, block-same}
 use Rattle.laws.specs.Stable.Helper.{block-sure}
 use Rattle.laws.specs.Stable.Entry.{dotted, Cut, entry-ends, entry-stops}
-use Rattle.laws.specs.Moving.{moveUp-append, moveUp-twice, moveUp-zero, moveUp-nil, upErrors-twice, upErrors-zero, following-twice}
+use Rattle.laws.specs.Moving.{moveUp-append, moveUp-twice, moveUp-zero, upErrors-twice, upErrors-zero}
 use Rattle.laws.specs.Stable.Comment.{after-ok, OneLine, starts-add, starts-later, Cutting, before, newline, end, Goes, GoesBy, cutting}
 use Rattle.laws.specs.Lines.Join.{Own, Other, own-or-other}
 use Rattle.laws.specs.Lines.Lands.{Lands, whole-lands, block-lands, entry-lands}
-use Rattle.laws.specs.Entries.{lastLine-at, lastLine-drop, Tail, tail-of, following-read, read-read, map-nil, weight, weight-append, weight-up, weight-node, entries-with, junk-free, not-deep, Step, step-of, entries-more, block-fresh, block-ten, block-two, block-one, entry-comment, hash-named, nil-named, nil-entry, not-dotted}
+use Rattle.laws.specs.File.{entries-more}
+use Rattle.laws.specs.Entries.{lastLine-at, lastLine-drop, Tail, tail-of, following-read, read-read, map-nil, weight, weight-append, weight-up, weight-node, entries-with, junk-free, not-deep, Step, step-of, block-fresh, block-ten, block-two, block-one, entry-comment, hash-named, nil-named, nil-entry, not-dotted}
 use Rattle.syntax.specs.Cut.{lastLine, hashes, Joins}
 
 pub asComment-ok : (o : Out ℕ) (e : Entry) (ms : List Mark) (k : ℕ) → asComment o ≡ ok e ms k → (l : ℕ) × (e ≡ comment l) × (o ≡ ok l ms k)

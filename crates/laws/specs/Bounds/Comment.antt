@@ -1,12 +1,12 @@
 -- comment.rs within bounds.
-use Prim.Native.Nat.{ℕ, zero, suc, _+_, _-_, _≤_, _<_, suc-le-suc}
+use Prim.Native.Nat.{ℕ, suc, _+_, _-_, _≤_, _<_, suc-le-suc}
 use native.Mathlib.Omega.{arith}
 use mathlib.Core.Path.{_≡_, refl}
-use mathlib.Core.Bool.{true, false, _&&_, _||_, not}
+use mathlib.Core.Bool.{true, false, _&&_, not}
 use mathlib.Core.List.{List, [], _∷_}
 use lib.ListN.{drop, length, length-drop}
 use lib.Dec.{eqb, ltb}
-use borrow.Author.Tests.{eqb-true, eqb-false, ltb-true}
+use borrow.Author.Tests.{eqb-true, eqb-false}
 use Rattle.syntax.specs.Bytes.{startsWith, run, eol}
 use Rattle.syntax.specs.Kind.{isText}
 use Rattle.syntax.specs.Reader.{ok, after, fail, done}

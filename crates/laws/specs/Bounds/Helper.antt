@@ -1,20 +1,19 @@
 -- helper.rs, and the identifier, within bounds.
-use Prim.Native.Nat.{ℕ, zero, suc, _+_, _≤_, _<_, min}
+use Prim.Native.Nat.{ℕ, suc, _+_, _≤_, _<_, min}
 use native.Mathlib.Omega.{arith}
 use mathlib.Core.Path.{_≡_, refl}
-use mathlib.Core.Bool.{Bool, true, false, _||_}
+use mathlib.Core.Bool.{Bool, true, false}
 use mathlib.Core.List.{List, [], _∷_}
 use lib.ListN.{drop, length, length-drop}
 use lib.Dec.{eqb, ltb}
 use borrow.Author.Tests.{eqb-false, ltb-true}
 use Rattle.syntax.specs.declared.errors.ErrorKind.the-variants.{ExpectedToken, ExpectedCharRange}
 use Rattle.syntax.specs.Bytes.{startsWith, starts, isLetter, isDigit, isNamePart, isHex, spaces, eol, run}
-use Rattle.syntax.specs.Marks.{textNode}
-use Rattle.syntax.specs.Reader.{Out, ok, bad, Reader, fail, _>>=_, _>>_, pure, again, done, repeat}
+use Rattle.syntax.specs.Reader.{Out, ok, again, done}
 use Rattle.syntax.specs.Helper.{skipBlankInline, skipEol, blankTurn, skipBlank, blockTurn, skipBlankBlock, takeByteIf, expectByte, skipDigits, fraction, number, asText, getNumberLiteral, getIdentifier, skipUnicodeEscapeSequence}
-use Rattle.laws.specs.Bytes.{byCase, clash, pick, run-le, spaces-le, eol-le, starts-some, startsWith-some}
+use Rattle.laws.specs.Bytes.{clash, pick, run-le, spaces-le, eol-le, startsWith-some}
 use Rattle.laws.specs.Balanced.{Kind}
-use Rattle.laws.specs.Bounds.{Uses, uses-nil, uses-text, Bounded, used, stopped, tooDeep, bounded-less, Bounds, bind, then, less, pure-bounds, fail-bounds, TurnBounded, goes, ends, TurnBounds, repeat-bounds}
+use Rattle.laws.specs.Bounds.{uses-nil, uses-text, Bounded, used, stopped, tooDeep, Bounds, bind, then, less, pure-bounds, fail-bounds, TurnBounded, goes, ends, TurnBounds, repeat-bounds}
 
 pub name-some : (s : List ℕ) → starts isLetter s ≡ true → 0 < run isNamePart s
 unfolding starts run isNamePart

@@ -1,7 +1,7 @@
 -- pattern.rs within bounds.
-use Prim.Native.Nat.{ℕ, zero, suc, _+_, _-_, _*_, _≤_, _<_, min}
+use Prim.Native.Nat.{ℕ, zero, suc, _+_, _-_, _*_, _≤_, _<_}
 use native.Mathlib.Omega.{arith}
-use mathlib.Core.Path.{_≡_, refl, sym, ap, subst}
+use mathlib.Core.Path.{_≡_, refl, sym, subst}
 use mathlib.Core.Bool.{Bool, true, false, _&&_, _||_, not}
 use mathlib.Core.List.{List, [], _∷_, _++_}
 use mathlib.Core.Option.{Option, some, none}
@@ -11,15 +11,15 @@ use borrow.Author.Tests.{eqb-true, eqb-false, ltb-true}
 use Rattle.syntax.specs.Bytes.{run, eol, spaces}
 use Rattle.syntax.specs.Kind.{isText}
 use Rattle.syntax.specs.Marks.{Mark, plain, moveUp, textNode, node}
-use Rattle.syntax.specs.Reader.{Out, ok, bad, deep, after, Turn, again, done, repeat}
+use Rattle.syntax.specs.Reader.{Out, ok, bad, deep, after, Turn, repeat}
 use Rattle.syntax.specs.Helper.{skipBlankBlock}
 use Rattle.syntax.specs.Pattern.{Inside, Role, initialLineStart, lineStart, continuation, Slice, isTextByte, endsInCr, lineSlice, sliceBy, getTextSlice, Element, placeable, text, State, isLineStart, roleAfter, withPlaceable, commonAfter, isElement, withText, goesOn, lineTurn, textTurn, patternTurn, trimmed, dedented, textMarks, elementMarks, finish, stateAt, usedBy, firstState, getPattern}
 use Rattle.laws.specs.Bytes.{byCase, clash, pick, run-le, spaces-le, eol-le}
 use Rattle.laws.specs.Moving.{moveUp-length}
 use Rattle.laws.specs.Stable.{Holds, TurnHolds, loop-holds}
 use Rattle.laws.specs.Stable.Pattern.{Sized, slice-sized}
-use Rattle.laws.specs.Balanced.{Good, good-nil, good-up, good-more, good-join, good-node, good-text}
-use Rattle.laws.specs.Bounds.{Uses, uses-nil, Bounded, used, stopped, tooDeep, bounded-less, after-bounded, Bounds, TurnBounded, goes, ends, TurnBounds, repeat-bounds}
+use Rattle.laws.specs.Balanced.{Forest, empty, forest-text, forest-node, forest-join, forest-more, forest-up}
+use Rattle.laws.specs.Bounds.{uses-nil, Bounded, used, stopped, tooDeep, after-bounded, Bounds, TurnBounded, goes, ends, TurnBounds, repeat-bounds}
 use Rattle.laws.specs.Bounds.Helper.{block-bounds}
 
 -- the readers inside: they are called at an opening byte
@@ -109,12 +109,12 @@ marksOf (text a e i l ∷ es) = 2 + marksOf es
 -- placeables are good, and texts in order, up to k
 abbrev Els : ℕ → List Element → Type 0
 Els k [] = Unit {0}
-Els k (placeable ms ∷ es) = Good k ms × Els k es
+Els k (placeable ms ∷ es) = Forest k ms × Els k es
 Els k (text a e i l ∷ es) = (a + i ≤ e) × (e ≤ k) × Els k es
 
 els-more : (k j : ℕ) → k ≤ j → (es : List Element) → Els k es → Els j es
 els-more k j h [] p = tt
-els-more k j h (placeable ms ∷ es) p = (good-more k j h ms (p .0), els-more k j h es (p .1))
+els-more k j h (placeable ms ∷ es) p = (forest-more h (p .0), els-more k j h es (p .1))
 els-more k j h (text a e i l ∷ es) p = (p .0, omega (arith, p .1), els-more k j h es (p .2))
 
 els-snoc : (k : ℕ) (es : List Element) (e : Element) → Els k es → Els k (e ∷ []) → Els k (es ++ (e ∷ []))
@@ -144,23 +144,23 @@ dedented-le c a i false = omega arith
 dedented-le none a i true = omega arith
 dedented-le (some c) a i true = omega arith
 
-textMarks-good : (s : List ℕ) (v : Bool) (a e k : ℕ) → a ≤ e → e ≤ k → Good k (textMarks s v a e)
+textMarks-forest : (s : List ℕ) (v : Bool) (a e k : ℕ) → a ≤ e → e ≤ k → Forest k (textMarks s v a e)
 unfolding textMarks isText
-textMarks-good s true a e k h l = good-text k 12 a (a + trimmed (take (e - a) (drop a s))) (refl, refl) (omega arith) (omega (arith, trimmed-le (take (e - a) (drop a s)), length-take (e - a) (drop a s)))
-textMarks-good s false a e k h l = good-text k 12 a e (refl, refl) (omega arith) l
+textMarks-forest s true a e k h l = forest-text 12 a (a + trimmed (take (e - a) (drop a s))) (refl, refl) (omega arith) (omega (arith, trimmed-le (take (e - a) (drop a s)), length-take (e - a) (drop a s)))
+textMarks-forest s false a e k h l = forest-text 12 a e (refl, refl) h l
 
 textMarks-length : (s : List ℕ) (v : Bool) (a e : ℕ) → length (textMarks s v a e) ≡ 2
 unfolding textMarks textNode
 textMarks-length s true a e = refl
 textMarks-length s false a e = refl
 
-elementMarks-good : (s : List ℕ) (c : Option ℕ) (k m : ℕ) (es : List Element) → Els k es → Good k (elementMarks s c m es)
+elementMarks-forest : (s : List ℕ) (c : Option ℕ) (k m : ℕ) (es : List Element) → Els k es → Forest k (elementMarks s c m es)
 unfolding elementMarks isText
-elementMarks-good s c k zero es p = good-nil k
-elementMarks-good s c k (suc m) [] p = good-nil k
-elementMarks-good s c k (suc m) (placeable ms ∷ es) p = good-join k (node 13 ms) (elementMarks s c m es) (good-node k 13 ms (refl, refl) (p .0)) (elementMarks-good s c k m es (p .1))
-elementMarks-good s c k (suc m) (text a e i l ∷ es) p = good-join k (textMarks s (eqb m 0) (dedented c a i l) e) (elementMarks s c m es)
-    (textMarks-good s (eqb m 0) (dedented c a i l) e k (omega (arith, dedented-le c a i l, p .0)) (p .1)) (elementMarks-good s c k m es (p .2))
+elementMarks-forest s c k zero es p = empty
+elementMarks-forest s c k (suc m) [] p = empty
+elementMarks-forest s c k (suc m) (placeable ms ∷ es) p = forest-join (forest-node 13 (refl, refl) (p .0)) (elementMarks-forest s c k m es (p .1))
+elementMarks-forest s c k (suc m) (text a e i l ∷ es) p = forest-join
+    (textMarks-forest s (eqb m 0) (dedented c a i l) e k (omega (arith, dedented-le c a i l, p .0)) (p .1)) (elementMarks-forest s c k m es (p .2))
 
 elementMarks-length : (s : List ℕ) (c : Option ℕ) (m : ℕ) (es : List Element) → length (elementMarks s c m es) ≤ marksOf es
 unfolding elementMarks node
@@ -242,7 +242,7 @@ module _ (sub : Inside) where
 
       new : Grown st → Grown past
       new g = record {
-        els = els-snoc (st .used + k) (st .elements) e (els-more (st .used) (st .used + k) (omega arith) (st .elements) (g .els)) (good-up (st .used) k ms (v .good), tt);
+        els = els-snoc (st .used + k) (st .elements) e (els-more (st .used) (st .used + k) (omega arith) (st .elements) (g .els)) (forest-up (st .used) (v .forest), tt);
         room = omega (arith, g .room, v .room, marks-snoc (st .elements) e, length-append (st .elements) (e ∷ []), moveUp-length (st .used) ms);
         kept = omega (arith, length-append (st .elements) (e ∷ []));
       }
@@ -274,7 +274,7 @@ finish-bounded {n} s (ok st ms k) (used u) (g, l) = pick (Bounded n spare s) (eq
     (λ q. used (record {
       within = u .within;
       room = omega (arith, g .room, g .kept, eqb-false (st .kept) 0 q, elementMarks-length s (st .common) (st .kept) (st .elements), length-append (elementMarks s (st .common) (st .kept) (st .elements)) (plain 111 ∷ []));
-      good = good-node k 11 (elementMarks s (st .common) (st .kept) (st .elements)) (refl, refl) (elementMarks-good s (st .common) k (st .kept) (st .elements) (els-more (st .used) k l (st .elements) (g .els)));
+      forest = forest-node 11 (refl, refl) (elementMarks-forest s (st .common) k (st .kept) (st .elements) (els-more (st .used) k l (st .elements) (g .els)));
     }))
 finish-bounded s (bad f k) (stopped j h) g = stopped j h
 finish-bounded s (deep k) (tooDeep j h i) g = tooDeep j h i

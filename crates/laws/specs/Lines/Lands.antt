@@ -1,27 +1,27 @@
 -- Entries end where a line starts, or at the end of the file.
-use Prim.Native.Nat.{ℕ, zero, suc, _+_, _-_, _≤_, _<_}
+use Prim.Native.Nat.{ℕ, suc, _+_, _≤_, _<_}
 use native.Mathlib.Nat.{not-suc-le-zero, add-zero, add-assoc}
 use native.Mathlib.Omega.{arith}
 use mathlib.Core.Path.{_≡_, refl, sym, ap, _∙_, subst}
 use mathlib.Core.Logic.{_⊎_, inl, inr}
 use mathlib.Core.Bool.{Bool, true, false, _&&_, _||_, not}
-use mathlib.Core.List.{List, [], _∷_, _++_}
+use mathlib.Core.List.{List, [], _∷_}
 use lib.ListN.{drop, length, take, length-drop, length-take}
 use lib.Seq.{drop-drop}
 use lib.Dec.{eqb, ltb}
 use borrow.Author.Tests.{eqb-true, eq-eqb, ltb-true, ltb-false}
 use Rattle.syntax.specs.Bytes.{startsWith, spaces, eol, run}
 use Rattle.syntax.specs.Marks.{Mark}
-use Rattle.syntax.specs.Reader.{Out, ok, bad, deep, Reader, _>>=_, _>>_, pure, fail, wrap, inNode, next, after, Turn, again, done, loop, repeat}
+use Rattle.syntax.specs.Reader.{Out, ok, bad, deep, Reader, _>>=_, _>>_, pure, fail, wrap, inNode, next, after, Turn, repeat}
 use Rattle.syntax.specs.Helper.{skipBlankBlock, blockTurn}
-use Rattle.syntax.specs.Pattern.{Inside, Ending, lineFeed, crlf, placeableStart, eof, Role, initialLineStart, lineStart, continuation, Slice, isTextByte, endsInCr, lineSlice, sliceBy, getTextSlice, State, isLineStart, roleAfter, withPlaceable, withText, goesOn, lineTurn, textTurn, patternTurn, finish, stateAt, usedBy, firstState, getPattern}
+use Rattle.syntax.specs.Pattern.{Inside, initialLineStart, Slice, isTextByte, endsInCr, lineSlice, sliceBy, getTextSlice, State, isLineStart, roleAfter, withPlaceable, withText, goesOn, lineTurn, textTurn, patternTurn, finish, stateAt, usedBy, firstState, getPattern}
 use Rattle.syntax.specs.Expression.{needsValue}
-use Rattle.syntax.specs.Core.{getAttribute, attributeBy, attributeTurn, getAttributes, Fields, fields, termFields, Entry, asMessage, asTerm, getEntry, toNextEntry, lineStartsAt, junkEnd}
+use Rattle.syntax.specs.Core.{getAttribute, attributeBy, attributeTurn, getAttributes, Fields, fields, termFields, asMessage, asTerm, getEntry, lineStartsAt}
 use Rattle.laws.specs.Bytes.{Whole, byCase, clash, pick, run-le}
 use Rattle.laws.specs.Stable.{Takes, Holds, TurnHolds, loop-holds, Sure}
 use Rattle.laws.specs.Stable.Helper.{block-sure}
 use Rattle.laws.specs.Stable.Comment.{starts-later, starts-add}
-use Rattle.laws.specs.Bounds.{TurnBounded, goes, ends}
+use Rattle.laws.specs.Bounds.{TurnBounded, goes}
 use Rattle.laws.specs.Bounds.Pattern.{text-bounded}
 
 -- unless all of s is used, a line starts k bytes on: past the start

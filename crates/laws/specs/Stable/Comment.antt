@@ -5,20 +5,20 @@ use native.Mathlib.Omega.{arith}
 use mathlib.Core.Path.{_≡_, refl, sym, ap, ap₂, _∙_, subst}
 use mathlib.Core.Bool.{Bool, true, false, _&&_, _||_, not}
 use mathlib.Core.List.{List, [], _∷_, _++_, append-nil}
-use lib.ListN.{drop, length, take, length-drop, length-append, drop-of-length-le}
-use lib.Seq.{drop-drop, drop-append-seam, drop-length}
+use lib.ListN.{drop, length, length-drop, length-append, drop-of-length-le}
+use lib.Seq.{drop-drop}
 use lib.Dec.{eqb, ltb}
-use borrow.Author.Tests.{eqb-true, eqb-false, ltb-true, ltb-false, eq-eqb, lt-ltb}
+use borrow.Author.Tests.{eqb-true, ltb-true, ltb-false}
 unfoldable pub use Rattle.syntax.specs.Bytes.{lineRun}
-use Rattle.syntax.specs.Bytes.{startsWith, starts, run, eol}
+use Rattle.syntax.specs.Bytes.{startsWith, run, eol}
 use Rattle.syntax.specs.declared.errors.ErrorKind.the-variants as Errors
 use Rattle.syntax.specs.Marks.{Mark, moveUp, textNode}
 use Rattle.syntax.specs.declared.errors.ParserError.{ParserError}
-use Rattle.syntax.specs.Reader.{Out, ok, bad, deep, Reader, fail, after, Turn, again, done, loop, repeat}
-use Rattle.syntax.specs.Comment.{lineLength, levelOf, lineEndUsed, lineRead, lineTurn, commentTurn, getComment}
+use Rattle.syntax.specs.Reader.{Out, ok, bad, deep, fail, after, Turn, again, done, loop}
+use Rattle.syntax.specs.Comment.{lineLength, levelOf, lineEndUsed, lineRead, lineTurn, commentTurn}
 use Rattle.syntax.specs.Core.{lineStartsAt}
-use Rattle.laws.specs.Moving.{after-after, moveUp-nil}
-use Rattle.laws.specs.Bytes.{Whole, whole-tail, whole-drop, nonempty, Fresh, isFresh, Stop, stop-fresh, byCase, clash, drop-app, run-whole, eol-whole, not-fresh}
+use Rattle.laws.specs.Moving.{after-after}
+use Rattle.laws.specs.Bytes.{Whole, whole-drop, byCase, clash, drop-app, run-whole, eol-whole}
 
 pub lineRun-whole : (b : ℕ) (bs y : List ℕ) → Whole (b ∷ bs) → (lineRun ((b ∷ bs) ++ y) ≡ lineRun (b ∷ bs)) × (lineRun (b ∷ bs) < suc (length bs))
 unfolding lineRun
