@@ -10,3 +10,4 @@ pub mod Turns
 pub mod Slices
 pub mod Dids
 pub mod Insert
+pub mod Strings

@@ -3,5 +3,6 @@ pub mod Tree
 pub mod Laid
 pub mod ErrorList
 pub mod Place
+pub mod Scan
 pub mod Slice
 pub mod Did
