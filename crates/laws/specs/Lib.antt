@@ -26,3 +26,9 @@ pub mod Lines
 pub mod Stable
 -- readings without junk, and the last line, at a cut
 pub mod Entries
+-- the words of a tree and of a list of errors, read back
+pub mod Layout
+-- a reading call that is accepted
+pub mod Call
+-- the shape of mark lists, its check and the verdict
+pub mod Shape

@@ -72,7 +72,7 @@ upKind-twice k j Errors.ExpectedInlineExpression = refl
 upKind-twice k j Errors.ExpectedSimpleExpressionAsSelector = refl
 upKind-twice k j Errors.ExpectedLiteral = refl
 
-upFault-twice : (k j : ℕ) (f : ParserError) → upFault k (upFault j f) ≡ upFault (k + j) f
+pub upFault-twice : (k j : ℕ) (f : ParserError) → upFault k (upFault j f) ≡ upFault (k + j) f
 upFault-twice k j f i = record { start = sym (add-assoc k j (f .start)) i; end = sym (add-assoc k j (f .end)) i; kind = upKind-twice k j (f .kind) i }
 
 upError-twice : (k j : ℕ) (e : Error) → upError k (upError j e) ≡ upError (k + j) e
@@ -91,7 +91,7 @@ after-after ms k ns j (ok a os i) = ap₂ (λ r n. ok a r n) (marks-after ms k n
 after-after ms k ns j (bad f i) = ap₂ (λ g n. bad g n) (upFault-twice k j f) (sym (add-assoc k j i))
 after-after ms k ns j (deep i) = ap deep (sym (add-assoc k j i))
 
-upKind-zero : (w : ErrorKind) → upKind 0 w ≡ w
+pub upKind-zero : (w : ErrorKind) → upKind 0 w ≡ w
 upKind-zero (Errors.ExpectedToken b) = refl
 upKind-zero (Errors.ExpectedCharRange b) = refl
 upKind-zero (Errors.ExpectedMessageField a e) = ap₂ Errors.ExpectedMessageField (zero-add a) (zero-add e)
