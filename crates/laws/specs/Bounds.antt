@@ -1,6 +1,8 @@
 -- What a reader may answer on a rest s, with n openings still allowed.
--- ok: it used no more than s; its marks are at most eight for each byte used, with c marks to spare, and are good (Balanced).
+-- ok: it used no more than s; its marks are at most eight for each byte used, with c marks to spare, and make nodes (Balanced).
 -- bad: it stopped within s. deep: at a byte of s, with n bytes at least before it.
+-- Of a reader p with `b : Bounds n c p`: `ok-uses b s e`, `bad-within b s e` and `deep-within b s e` say it of the answer that e gives, as `e : p s ≡ ok a ms k`.
+-- Where what is nested is read at a level n, `level-bounds n` is the hypothesis that the readers of nesting ask for.
 pub mod Helper
 pub mod Comment
 pub mod Pattern
@@ -19,12 +21,12 @@ use Rattle.syntax.specs.declared.errors.ParserError.{ParserError}
 use Rattle.syntax.specs.Reader.{Out, ok, bad, deep, Reader, after, next, _>>=_, _>>_, pure, fail, wrap, inNode, Turn, again, done, turnOf, loop, repeat}
 use Rattle.laws.specs.Moving.{moveUp-length}
 use Rattle.laws.specs.Loop.{Moved, Moves, repeat-again, repeat-done}
-use Rattle.laws.specs.Balanced.{Good, good-nil, good-append, good-node, good-text, Kind}
+use Rattle.laws.specs.Balanced.{Kind, Forest, empty, forest-text, forest-node, forest-append}
 
 pub record Uses (c : ℕ) (s : List ℕ) (ms : List Mark) (k : ℕ) : Type 0 where
   pub within : k ≤ length s
   pub room : c + length ms ≤ 8 * k
-  pub good : Good k ms
+  pub forest : Forest k ms
 
 -- the room to spare may depend on the value
 pub data Bounded {A : Type 0} (n : ℕ) (c : A → ℕ) (s : List ℕ) : Out A → Type 0 where
@@ -36,20 +38,20 @@ pub record Bounds {A : Type 0} (n : ℕ) (c : A → ℕ) (p : Reader A) : Type 0
   pub on : (s : List ℕ) → Bounded n c s (p s)
 
 pub uses-nil : {c : ℕ} {s : List ℕ} (k : ℕ) → k ≤ length s → c ≤ 8 * k → Uses c s [] k
-uses-nil k h l = record { within = h; room = omega arith; good = good-nil k }
+uses-nil k h l = record { within = h; room = omega arith; forest = empty }
 
-pub uses-text : {c : ℕ} {s : List ℕ} (k kind a e : ℕ) → Kind true kind → k ≤ length s → a ≤ k → e ≤ k → c + 2 ≤ 8 * k → Uses c s (textNode kind a e) k
+pub uses-text : {c : ℕ} {s : List ℕ} (k kind a e : ℕ) → Kind true kind → k ≤ length s → a ≤ e → e ≤ k → c + 2 ≤ 8 * k → Uses c s (textNode kind a e) k
 unfolding textNode
-uses-text k kind a e q h l g r = record { within = h; room = omega arith; good = good-text k kind a e q l g }
+uses-text k kind a e q h l g r = record { within = h; room = omega arith; forest = forest-text kind a e q l g }
 
 pub uses-less : {c d : ℕ} {s : List ℕ} {ms : List Mark} {k : ℕ} → d ≤ c → Uses c s ms k → Uses d s ms k
-uses-less l u = record { within = u .within; room = omega (arith, u .room); good = u .good }
+uses-less l u = record { within = u .within; room = omega (arith, u .room); forest = u .forest }
 
 pub uses-after : {c d : ℕ} {s : List ℕ} {ms ns : List Mark} {k j : ℕ} → Uses c s ms k → Uses d (drop k s) ns j → Uses (c + d) s (ms ++ moveUp k ns) (k + j)
 uses-after {s = s} {ms} {ns} {k} {j} u v = record {
   within = omega (arith, u .within, v .within, length-drop k s);
   room = omega (arith, u .room, v .room, length-append ms (moveUp k ns), moveUp-length k ns);
-  good = good-append k j ms ns (u .good) (v .good);
+  forest = forest-append (u .forest) (v .forest);
 }
 
 pub uses-node : {c : ℕ} {s : List ℕ} {ms : List Mark} {k : ℕ} (kind : ℕ) → Kind false kind → 2 ≤ c → Uses c s ms k → Uses (c - 2) s (node kind ms) k
@@ -57,7 +59,7 @@ unfolding node
 uses-node {ms = ms} {k} kind q l u = record {
   within = u .within;
   room = omega (arith, u .room, length-append ms (plain (100 + kind) ∷ []));
-  good = good-node k kind ms q (u .good);
+  forest = forest-node kind q (u .forest);
 }
 
 module _ {A : Type 0} {n : ℕ} {s : List ℕ} where
@@ -100,7 +102,8 @@ module _ {A B : Type 0} {n : ℕ} where
   then {q = q} bp bq = bind {q = λ _. q} bp (λ _. bq)
 
 -- what follows an opening byte may open one less
-pub then-inside : {A B : Type 0} {n c : ℕ} {d : B → ℕ} {p : Reader A} {q : Reader B} → 1 ≤ c → Bounds (suc n) (λ _. c) p → Bounds n d q → Bounds (suc n) (λ b. c + d b) (p >> q)
+pub then-inside : {A B : Type 0} {n c : ℕ} {d : B → ℕ} {p : Reader A} {q : Reader B} → 1 ≤ c → Bounds (suc n) (λ _. c) p → Bounds n d q
+    → Bounds (suc n) (λ b. c + d b) (p >> q)
 unfolding _>>_ next after
 then-inside {A} {B} {n} {c} {d} {p} {q} l bp bq = record { on = λ s. go s (p s) (bp .on s) }
   where

@@ -1,7 +1,7 @@
 -- pattern.rs within bounds.
-use Prim.Native.Nat.{ℕ, zero, suc, _+_, _-_, _*_, _≤_, _<_, min}
+use Prim.Native.Nat.{ℕ, zero, suc, _+_, _-_, _*_, _≤_, _<_}
 use native.Mathlib.Omega.{arith}
-use mathlib.Core.Path.{_≡_, refl, sym, ap, subst}
+use mathlib.Core.Path.{_≡_, refl, sym, subst}
 use mathlib.Core.Bool.{Bool, true, false, _&&_, _||_, not}
 use mathlib.Core.List.{List, [], _∷_, _++_}
 use mathlib.Core.Option.{Option, some, none}
@@ -11,15 +11,14 @@ use borrow.Author.Tests.{eqb-true, eqb-false, ltb-true}
 use Rattle.syntax.specs.Bytes.{run, eol, spaces}
 use Rattle.syntax.specs.Kind.{isText}
 use Rattle.syntax.specs.Marks.{Mark, plain, moveUp, textNode, node}
-use Rattle.syntax.specs.Reader.{Out, ok, bad, deep, after, Turn, again, done, repeat}
+use Rattle.syntax.specs.Reader.{Out, ok, bad, deep, after, Turn, repeat}
 use Rattle.syntax.specs.Helper.{skipBlankBlock}
 use Rattle.syntax.specs.Pattern.{Inside, Role, initialLineStart, lineStart, continuation, Slice, isTextByte, endsInCr, lineSlice, sliceBy, getTextSlice, Element, placeable, text, State, isLineStart, roleAfter, withPlaceable, commonAfter, isElement, withText, goesOn, lineTurn, textTurn, patternTurn, trimmed, dedented, textMarks, elementMarks, finish, stateAt, usedBy, firstState, getPattern}
 use Rattle.laws.specs.Bytes.{byCase, clash, pick, run-le, spaces-le, eol-le}
 use Rattle.laws.specs.Moving.{moveUp-length}
-use Rattle.laws.specs.Stable.{Holds, TurnHolds, loop-holds}
-use Rattle.laws.specs.Stable.Pattern.{Sized, slice-sized}
-use Rattle.laws.specs.Balanced.{Good, good-nil, good-up, good-more, good-join, good-node, good-text}
-use Rattle.laws.specs.Bounds.{Uses, uses-nil, Bounded, used, stopped, tooDeep, bounded-less, after-bounded, Bounds, TurnBounded, goes, ends, TurnBounds, repeat-bounds}
+use Rattle.laws.specs.Answers.{Holds, TurnHolds, loop-holds}
+use Rattle.laws.specs.Balanced.{Forest, empty, forest-text, forest-node, forest-join, forest-more, forest-up}
+use Rattle.laws.specs.Bounds.{uses-nil, Bounded, used, stopped, tooDeep, after-bounded, Bounds, TurnBounded, goes, ends, TurnBounds, repeat-bounds}
 use Rattle.laws.specs.Bounds.Helper.{block-bounds}
 
 -- the readers inside: they are called at an opening byte
@@ -60,7 +59,8 @@ module _ {n : ℕ} where
 
   -- ---- turns
 
-  withText-bounded : {c : ℕ} {s : List ℕ} {o : Out Slice} (st : State) (indent : ℕ) → indent ≤ length s → 1 ≤ c + indent → Bounded n (λ _. c) (drop indent s) o → TurnBounded n 1 0 s (withText st indent o)
+  withText-bounded : {c : ℕ} {s : List ℕ} {o : Out Slice} (st : State) (indent : ℕ) → indent ≤ length s → 1 ≤ c + indent → Bounded n (λ _. c) (drop indent s) o
+      → TurnBounded n 1 0 s (withText st indent o)
   unfolding withText after
   withText-bounded {s = s} st indent h l (used {k = k} u) = goes (uses-nil (indent + k) (omega (arith, u .within, length-drop indent s)) (omega (arith, u .room)))
   withText-bounded {s = s} st indent h l (stopped k g) = ends (stopped (indent + k) (omega (arith, length-drop indent s)))
@@ -107,14 +107,14 @@ marksOf (placeable ms ∷ es) = 2 + length ms + marksOf es
 marksOf (text a e i l ∷ es) = 2 + marksOf es
 
 -- placeables are good, and texts in order, up to k
-abbrev Els : ℕ → List Element → Type 0
+abbrev pub Els : ℕ → List Element → Type 0
 Els k [] = Unit {0}
-Els k (placeable ms ∷ es) = Good k ms × Els k es
+Els k (placeable ms ∷ es) = Forest k ms × Els k es
 Els k (text a e i l ∷ es) = (a + i ≤ e) × (e ≤ k) × Els k es
 
-els-more : (k j : ℕ) → k ≤ j → (es : List Element) → Els k es → Els j es
+pub els-more : (k j : ℕ) → k ≤ j → (es : List Element) → Els k es → Els j es
 els-more k j h [] p = tt
-els-more k j h (placeable ms ∷ es) p = (good-more k j h ms (p .0), els-more k j h es (p .1))
+els-more k j h (placeable ms ∷ es) p = (forest-more h (p .0), els-more k j h es (p .1))
 els-more k j h (text a e i l ∷ es) p = (p .0, omega (arith, p .1), els-more k j h es (p .2))
 
 els-snoc : (k : ℕ) (es : List Element) (e : Element) → Els k es → Els k (e ∷ []) → Els k (es ++ (e ∷ []))
@@ -144,23 +144,23 @@ dedented-le c a i false = omega arith
 dedented-le none a i true = omega arith
 dedented-le (some c) a i true = omega arith
 
-textMarks-good : (s : List ℕ) (v : Bool) (a e k : ℕ) → a ≤ e → e ≤ k → Good k (textMarks s v a e)
+textMarks-forest : (s : List ℕ) (v : Bool) (a e k : ℕ) → a ≤ e → e ≤ k → Forest k (textMarks s v a e)
 unfolding textMarks isText
-textMarks-good s true a e k h l = good-text k 12 a (a + trimmed (take (e - a) (drop a s))) (refl, refl) (omega arith) (omega (arith, trimmed-le (take (e - a) (drop a s)), length-take (e - a) (drop a s)))
-textMarks-good s false a e k h l = good-text k 12 a e (refl, refl) (omega arith) l
+textMarks-forest s true a e k h l = forest-text 12 a (a + trimmed (take (e - a) (drop a s))) (refl, refl) (omega arith) (omega (arith, trimmed-le (take (e - a) (drop a s)), length-take (e - a) (drop a s)))
+textMarks-forest s false a e k h l = forest-text 12 a e (refl, refl) h l
 
 textMarks-length : (s : List ℕ) (v : Bool) (a e : ℕ) → length (textMarks s v a e) ≡ 2
 unfolding textMarks textNode
 textMarks-length s true a e = refl
 textMarks-length s false a e = refl
 
-elementMarks-good : (s : List ℕ) (c : Option ℕ) (k m : ℕ) (es : List Element) → Els k es → Good k (elementMarks s c m es)
+elementMarks-forest : (s : List ℕ) (c : Option ℕ) (k m : ℕ) (es : List Element) → Els k es → Forest k (elementMarks s c m es)
 unfolding elementMarks isText
-elementMarks-good s c k zero es p = good-nil k
-elementMarks-good s c k (suc m) [] p = good-nil k
-elementMarks-good s c k (suc m) (placeable ms ∷ es) p = good-join k (node 13 ms) (elementMarks s c m es) (good-node k 13 ms (refl, refl) (p .0)) (elementMarks-good s c k m es (p .1))
-elementMarks-good s c k (suc m) (text a e i l ∷ es) p = good-join k (textMarks s (eqb m 0) (dedented c a i l) e) (elementMarks s c m es)
-    (textMarks-good s (eqb m 0) (dedented c a i l) e k (omega (arith, dedented-le c a i l, p .0)) (p .1)) (elementMarks-good s c k m es (p .2))
+elementMarks-forest s c k zero es p = empty
+elementMarks-forest s c k (suc m) [] p = empty
+elementMarks-forest s c k (suc m) (placeable ms ∷ es) p = forest-join (forest-node 13 (refl, refl) (p .0)) (elementMarks-forest s c k m es (p .1))
+elementMarks-forest s c k (suc m) (text a e i l ∷ es) p = forest-join
+    (textMarks-forest s (eqb m 0) (dedented c a i l) e k (omega (arith, dedented-le c a i l, p .0)) (p .1)) (elementMarks-forest s c k m es (p .2))
 
 elementMarks-length : (s : List ℕ) (c : Option ℕ) (m : ℕ) (es : List Element) → length (elementMarks s c m es) ≤ marksOf es
 unfolding elementMarks node
@@ -171,6 +171,23 @@ elementMarks-length s c (suc m) (placeable ms ∷ es) =
 elementMarks-length s c (suc m) (text a e i l ∷ es) =
     let t = textMarks s (eqb m 0) (dedented c a i l) e in
     omega (arith, elementMarks-length s c m es, length-append t (elementMarks s c m es), textMarks-length s (eqb m 0) (dedented c a i l) e)
+
+-- a text is in what was used
+abbrev Sized : Out Slice → Type 0
+Sized o = Holds (λ t ms k. t .size ≤ k) o
+
+lineSlice-sized : (t : List ℕ) → Sized (lineSlice t)
+unfolding lineSlice
+lineSlice-sized t = byCase (endsInCr t) (λ q. rw (q, lineSlice) (omega arith)) (λ q. rw (q, lineSlice) (omega arith))
+
+sliceBy-sized : (t r : List ℕ) → Sized (sliceBy t r)
+unfolding sliceBy
+sliceBy-sized t [] = omega arith
+sliceBy-sized t (d ∷ ds) = byCase (eqb d 125) (λ q. rw (q, sliceBy) tt) (λ q. rw (q, sliceBy) (byCase (eqb d 123) (λ r. rw r (omega arith)) (λ r. rw r (lineSlice-sized t))))
+
+slice-sized : (s : List ℕ) → Sized (getTextSlice s)
+unfolding getTextSlice
+slice-sized s = sliceBy-sized (take (run isTextByte s) s) (drop (run isTextByte s) s)
 
 -- the elements grow with what is used
 abbrev Grows : State → List ℕ → State → List Mark → ℕ → Type 0
@@ -242,7 +259,7 @@ module _ (sub : Inside) where
 
       new : Grown st → Grown past
       new g = record {
-        els = els-snoc (st .used + k) (st .elements) e (els-more (st .used) (st .used + k) (omega arith) (st .elements) (g .els)) (good-up (st .used) k ms (v .good), tt);
+        els = els-snoc (st .used + k) (st .elements) e (els-more (st .used) (st .used + k) (omega arith) (st .elements) (g .els)) (forest-up (st .used) (v .forest), tt);
         room = omega (arith, g .room, v .room, marks-snoc (st .elements) e, length-append (st .elements) (e ∷ []), moveUp-length (st .used) ms);
         kept = omega (arith, length-append (st .elements) (e ∷ []));
       }
@@ -274,7 +291,7 @@ finish-bounded {n} s (ok st ms k) (used u) (g, l) = pick (Bounded n spare s) (eq
     (λ q. used (record {
       within = u .within;
       room = omega (arith, g .room, g .kept, eqb-false (st .kept) 0 q, elementMarks-length s (st .common) (st .kept) (st .elements), length-append (elementMarks s (st .common) (st .kept) (st .elements)) (plain 111 ∷ []));
-      good = good-node k 11 (elementMarks s (st .common) (st .kept) (st .elements)) (refl, refl) (elementMarks-good s (st .common) k (st .kept) (st .elements) (els-more (st .used) k l (st .elements) (g .els)));
+      forest = forest-node 11 (refl, refl) (elementMarks-forest s (st .common) k (st .kept) (st .elements) (els-more (st .used) k l (st .elements) (g .els)));
     }))
 finish-bounded s (bad f k) (stopped j h) g = stopped j h
 finish-bounded s (deep k) (tooDeep j h i) g = tooDeep j h i
@@ -303,18 +320,20 @@ module _ {n : ℕ} {sub : Inside} (law : InsideBounds n sub) where
       (λ q. pick (Turned sub st (b ∷ bs)) (isLineStart (st .role)) _ _ (λ l. line-grows sub st (b ∷ bs) (spaces (b ∷ bs)) (drop (spaces (b ∷ bs)) (b ∷ bs)))
       (λ l. withText-grows sub st (b ∷ bs) 0 (getTextSlice (b ∷ bs)) (slice-sized (b ∷ bs))))
 
-  pub loop-grows : (st : State) (s : List ℕ) → Holds (Grows st s) (repeat (patternTurn sub) st s)
-  unfolding repeat
-  loop-grows st s = loop-holds (patternTurn sub) Grows turn-grows (suc (length s)) st s
+  -- at the end of a pattern's loop, as its source counts
+  pub pattern-grown : (s : List ℕ)
+      → let st = firstState s in Holds (λ st′ ms k. Grown st′ × (st′ .used ≤ k)) (after [] (st .used) (repeat (patternTurn sub) st (drop (st .used) s)))
+  unfolding repeat after
+  pattern-grown s = let st = firstState s in let r = drop (st .used) s in go st r (repeat (patternTurn sub) st r) (first-grown s .0) (loop-holds (patternTurn sub) Grows turn-grows (suc (length r)) st r)
+    where
+      go : (st : State) (r : List ℕ) (o : Out State) → Grown st → Holds (Grows st r) o → Holds (λ st′ ms k. Grown st′ × (st′ .used ≤ k)) (after [] (st .used) o)
+      go st r (ok st′ ms k) g h = h g
+      go st r (bad f k) g h = tt
+      go st r (deep k) g h = tt
 
   pub pattern-bounds : Bounds n spare (getPattern sub)
   unfolding getPattern
   pattern-bounds = record {
-    on = λ s. let st = firstState s in let (g, l) = first-grown s in
-        finish-bounded s _ (after-bounded {c = 0} (uses-nil (st .used) l (omega arith)) (repeat-bounds (patternTurn-bounds law) st .on (drop (st .used) s))) (after-grows st (drop (st .used) s) (repeat (patternTurn sub) st (drop (st .used) s)) g (loop-grows st (drop (st .used) s)));
+    on = λ s. let st = firstState s in
+        finish-bounded s _ (after-bounded {c = 0} (uses-nil (st .used) (first-grown s .1) (omega arith)) (repeat-bounds (patternTurn-bounds law) st .on (drop (st .used) s))) (pattern-grown s);
   }
-    where
-      after-grows : (st : State) (s : List ℕ) (o : Out State) → Grown st → Holds (Grows st s) o → Holds (λ st′ ms k. Grown st′ × (st′ .used ≤ k)) (after [] (st .used) o)
-      after-grows st s (ok st′ ms k) g h = unfold after in (h g)
-      after-grows st s (bad f k) g h = unfold after in tt
-      after-grows st s (deep k) g h = unfold after in tt
