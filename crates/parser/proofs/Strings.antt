@@ -19,9 +19,7 @@ use Rattle.syntax.specs.Reader.{ok, bad, fail, after, Turn, again, done, turnOf
 use Rattle.syntax.specs.Helper.{skipUnicodeEscapeSequence}
 use Rattle.syntax.specs.Expression.{escapeTurn, stringTurn}
 use Rattle.laws.specs.Bytes.{byCase, clash, run-le}
-use Rattle.laws.specs.Loop.{Moves}
-use Rattle.laws.specs.Bounds.{moves}
-use Rattle.laws.specs.Bounds.Expression.{stringTurn-bounds}
+use Rattle.laws.specs.Loop.Turns.{stringTurn-moves}
 use Rattle.parser.specs.Place.{Passed, Found}
 use Rattle.parser.specs.Scan.{isEscaped, isPlain, Onward, Ended, Turned}
 use Rattle.parser.specs.declared.helper.Place.{Place}
@@ -173,9 +171,6 @@ module _ (s : List ℕ) (at : ℕ) (l : at + 1 < length s) where
 
 -- ---- turns
 
-pub string-moves : Moves stringTurn
-string-moves = moves (stringTurn-bounds {n = 0})
-
 plain-turn : (x : List ℕ) → starts isPlain x ≡ true → stringTurn tt x ≡ again tt [] 1
 unfolding starts stringTurn isPlain
 plain-turn [] h = clash h refl
@@ -209,7 +204,7 @@ pass {s} {at} (suc k) i h t =
     let l : i < length s = omega (arith, h, run-le isPlain (drop i s), length-drop i s) in
     let e = run-more isPlain s i l q in
     let g : i + 1 + k ≡ i + suc k = omega arith in
-    rw (← g) (pass k (i + 1) (omega arith) (turning-more string-moves t (plain-turn (drop i s) q) refl (omega arith))))
+    rw (← g) (pass k (i + 1) (omega arith) (turning-more stringTurn-moves t (plain-turn (drop i s) q) refl (omega arith))))
     (λ q. absurd (omega (arith, h, run-none isPlain (drop i s) q)))
 
 -- past plain bytes
@@ -234,7 +229,7 @@ escape-ended {s} {i} {t = t} w h = subst (Turned s i t) h w
 
 module _ {s : List ℕ} {at i : ℕ} {r : Place} (g : Scanning s at i) (b : startsWith Byte.backslash (drop i s) ≡ true) (w : Turned s i (escapeTurn (drop i s) (drop (i + 1) s)) r) where
   pub scan-escape : {j k : ℕ} → r ≡ At j → Passed s j (run isPlain (drop j s)) k → Scanning s at k
-  scan-escape {j} h p = let o = escape-onward w h in scan-on (turning-more string-moves (g .turns) (escape-turn s i b ∙ o .turn) (omega (arith, o .onward)) (o .within)) p
+  scan-escape {j} h p = let o = escape-onward w h in scan-on (turning-more stringTurn-moves (g .turns) (escape-turn s i b ∙ o .turn) (omega (arith, o .onward)) (o .within)) p
 
   pub scan-fails : {e : ParserError} {j : ℕ} → r ≡ Bad e j → Found s at (repeat stringTurn tt (drop at s)) r
   scan-fails h = let o = escape-ended w h in rw h (found-turns (g .turns) (escape-turn s i b ∙ o .turn) (o .found))
