@@ -1,0 +1,152 @@
+-- What a parser that is put together answers, from what its parts answer.
+use Prim.Native.Nat.{ℕ, zero, suc, _+_, _<_}
+use native.Mathlib.Omega.{arith}
+use native.Mathlib.Nat.{add-assoc}
+use mathlib.Core.Path.{_≡_, refl, sym, ap, ap₂, _∙_}
+use mathlib.Core.Bool.{Bool, true, false}
+use mathlib.Core.List.{List, [], _∷_, _++_, append-nil}
+use lib.ListN.{drop, take}
+use lib.Dec.{eqb}
+use borrow.Author.Tests.{ne-eqb}
+use Rattle.syntax.specs.Bytes.{run, starts, startsWith}
+use Rattle.syntax.specs.Marks.{Mark, moveUp, node, textNode}
+use Rattle.laws.specs.Bytes.{byCase, clash}
+use Rattle.laws.specs.Moving.{moveUp-twice}
+use Rattle.standard.specs.Peg.{Answer, fits, fails, Parser, many, some, turns, one, byte, withFirst, after, next, pure, _>>=_, _>>_, _/_, opt, void, in-node, as-text}
+
+module _ {A B : Type 0} where
+  -- sequence
+  pub bind-fits : (p : Parser A) (q : A → Parser B) (s : List ℕ) {a : A} {ms : List Mark} {k : ℕ} → p s ≡ fits a ms k → (p >>= q) s ≡ after ms k (q a (drop k s))
+  unfolding _>>=_ next
+  bind-fits p q s e = rw (e, _>>=_) refl
+
+  pub bind-fails : (p : Parser A) (q : A → Parser B) (s : List ℕ) → p s ≡ fails → (p >>= q) s ≡ fails
+  unfolding _>>=_ next
+  bind-fails p q s e = rw (e, _>>=_) refl
+
+  pub then-fits : (p : Parser A) (q : Parser B) (s : List ℕ) {a : A} {ms : List Mark} {k : ℕ} → p s ≡ fits a ms k → (p >> q) s ≡ after ms k (q (drop k s))
+  unfolding _>>_ next
+  then-fits p q s e = rw (e, _>>_) refl
+
+  pub then-fails : (p : Parser A) (q : Parser B) (s : List ℕ) → p s ≡ fails → (p >> q) s ≡ fails
+  unfolding _>>_ next
+  then-fails p q s e = rw (e, _>>_) refl
+
+module _ {A : Type 0} where
+  -- choice
+  pub first : (p q : Parser A) (s : List ℕ) {a : A} {ms : List Mark} {k : ℕ} → p s ≡ fits a ms k → (p / q) s ≡ fits a ms k
+  unfolding _/_
+  first p q s e = rw (e, _/_) refl
+
+  pub second : (p q : Parser A) (s : List ℕ) → p s ≡ fails → (p / q) s ≡ q s
+  unfolding _/_
+  second p q s e = rw (e, _/_) refl
+
+  pub opt-fits : (x : A) (p : Parser A) (s : List ℕ) {a : A} {ms : List Mark} {k : ℕ} → p s ≡ fits a ms k → opt x p s ≡ fits a ms k
+  unfolding opt
+  opt-fits x p s e = first p (pure x) s e
+
+  pub opt-fails : (x : A) (p : Parser A) (s : List ℕ) → p s ≡ fails → opt x p s ≡ fits x [] 0
+  unfolding opt pure
+  opt-fails x p s e = second p (pure x) s e
+
+  -- repetition
+  pub turns-on : (n : ℕ) (p : Parser A) (s : List ℕ) {a : A} {ms : List Mark} {k : ℕ} {more : List A} {ns : List Mark} {j : ℕ} → p s ≡ fits a ms k → 0 < k
+      → turns n p (drop k s) ≡ fits more ns j → turns (suc n) p s ≡ fits (a ∷ more) (ms ++ moveUp k ns) (k + j)
+  unfolding turns withFirst after
+  turns-on n p s {a} {ms} {k} e z f = rw (e, turns) (rw (ne-eqb k 0 (λ y. omega arith)) (ap (λ o. withFirst a (after ms k o)) f))
+
+  pub turns-end : (n : ℕ) (p : Parser A) (s : List ℕ) → p s ≡ fails → turns n p s ≡ fits [] [] 0
+  unfolding turns
+  turns-end zero p s e = refl
+  turns-end (suc n) p s e = rw (e, turns) refl
+
+  pub turns-still : (n : ℕ) (p : Parser A) (s : List ℕ) {a : A} {ms : List Mark} → p s ≡ fits a ms 0 → turns n p s ≡ fits [] [] 0
+  unfolding turns
+  turns-still zero p s e = refl
+  turns-still (suc n) p s e = rw (e, turns) refl
+
+  pub some-fails : (p : Parser A) (s : List ℕ) → p s ≡ fails → some p s ≡ fails
+  unfolding some
+  some-fails p s e = bind-fails p (λ a. many p >>= λ more. pure (a ∷ more)) s e
+
+  pub some-fits : (p : Parser A) (s : List ℕ) {a : A} {ms : List Mark} {k : ℕ} {more : List A} {ns : List Mark} {j : ℕ} → p s ≡ fits a ms k
+      → many p (drop k s) ≡ fits more ns j → some p s ≡ fits (a ∷ more) (ms ++ moveUp k ns) (k + j)
+  unfolding some _>>=_ next after pure moveUp
+  some-fits p s {a} {ms} {k} {more} {ns} {j} e f = rw (e, some) (rw f (ap₂ (λ r n. fits (a ∷ more) (ms ++ moveUp k r) n) (append-nil ns) (omega arith)))
+
+  pub void-fits : (p : Parser A) (s : List ℕ) {a : A} {ms : List Mark} {k : ℕ} → p s ≡ fits a ms k → void p s ≡ fits tt ms k
+  unfolding void _>>_ next after pure moveUp
+  void-fits p s {a} {ms} {k} e = rw (e, void) (ap₂ (λ r n. fits tt r n) (append-nil ms) (omega arith))
+
+  pub void-fails : (p : Parser A) (s : List ℕ) → p s ≡ fails → void p s ≡ fails
+  unfolding void
+  void-fails p s e = then-fails p (pure tt) s e
+
+  -- marks in a node
+  pub node-fits : (kind : ℕ) (p : Parser A) (s : List ℕ) {a : A} {ms : List Mark} {k : ℕ} → p s ≡ fits a ms k → in-node kind p s ≡ fits a (node kind ms) k
+  unfolding in-node
+  node-fits kind p s e = rw (e, in-node) refl
+
+  pub node-fails : (kind : ℕ) (p : Parser A) (s : List ℕ) → p s ≡ fails → in-node kind p s ≡ fails
+  unfolding in-node
+  node-fails kind p s e = rw (e, in-node) refl
+
+  pub text-fits : (kind : ℕ) (p : Parser A) (s : List ℕ) {a : A} {ms : List Mark} {k : ℕ} → p s ≡ fits a ms k → as-text kind p s ≡ fits (take k s) (textNode kind 0 k) k
+  unfolding as-text
+  text-fits kind p s e = rw (e, as-text) refl
+
+  pub text-fails : (kind : ℕ) (p : Parser A) (s : List ℕ) → p s ≡ fails → as-text kind p s ≡ fails
+  unfolding as-text
+  text-fails kind p s e = rw (e, as-text) refl
+
+  -- answers that follow answers
+  pub after-fails : (ms : List Mark) (k : ℕ) {a : Answer A} → a ≡ fails → after ms k a ≡ fails
+  unfolding after
+  after-fails ms k e = ap (after ms k) e
+
+  pub after-skip : (ms : List Mark) (k j : ℕ) (a : Answer A) → after ms k (after [] j a) ≡ after ms (k + j) a
+  unfolding after
+  after-skip ms k j (fits a ns i) = ap₂ (λ r n. fits a (ms ++ r) n) (moveUp-twice k j ns) (sym (add-assoc k j i))
+  after-skip ms k j fails = refl
+
+-- n times nothing
+unfoldable pub units : ℕ → List (Unit {0})
+units zero = []
+units (suc n) = tt ∷ units n
+
+-- p* for a byte class p
+pub many-run : (p : ℕ → Bool) (s : List ℕ) → many (one p) s ≡ fits (units (run p s)) [] (run p s)
+unfolding many turns run units one starts withFirst after moveUp
+many-run p [] = refl
+many-run p (b ∷ bs) = byCase (p b)
+    (λ e. rw (turns, one, run, e, many-run p bs) (ap (fits (tt ∷ units (run p bs)) []) (omega arith)))
+    (λ e. rw (turns, one, run, e) refl)
+
+-- p+
+pub some-run : (p : ℕ → Bool) (s : List ℕ) → starts p s ≡ true → some (one p) s ≡ fits (units (run p s)) [] (run p s)
+unfolding some one starts run units _>>=_ next after pure moveUp
+some-run p [] e = clash e refl
+some-run p (b ∷ bs) e = rw (e, one, run) (rw (many-run p bs) (ap (fits (tt ∷ units (run p bs)) []) (omega arith)))
+
+-- a byte
+pub one-fits : (p : ℕ → Bool) (s : List ℕ) → starts p s ≡ true → one p s ≡ fits tt [] 1
+unfolding one
+one-fits p s e = rw (e, one) refl
+
+pub one-fails : (p : ℕ → Bool) (s : List ℕ) → starts p s ≡ false → one p s ≡ fails
+unfolding one
+one-fails p s e = rw (e, one) refl
+
+starts-byte : (b : ℕ) (s : List ℕ) → starts (λ x. eqb x b) s ≡ startsWith b s
+unfolding starts startsWith
+starts-byte b [] = refl
+starts-byte b (x ∷ xs) = refl
+
+pub byte-fits : (b : ℕ) (s : List ℕ) → startsWith b s ≡ true → byte b s ≡ fits tt [] 1
+unfolding byte
+byte-fits b s e = one-fits (λ x. eqb x b) s (starts-byte b s ∙ e)
+
+pub byte-fails : (b : ℕ) (s : List ℕ) → startsWith b s ≡ false → byte b s ≡ fails
+unfolding byte
+byte-fails b s e = one-fails (λ x. eqb x b) s (starts-byte b s ∙ e)
