@@ -17,7 +17,7 @@ use Rattle.syntax.specs.Helper.{blankTurn, skipBlank}
 use Rattle.laws.specs.Bytes.{byCase, clash}
 use Rattle.standard.specs.Peg as Peg
 use Rattle.standard.specs.Steps.{some-run, first, second, turns-on, turns-end, turns-still, opt-fits, opt-fails, void-fits, void-fails, some-fits, some-fails, byte-fits, byte-fails, then-fits, then-fails, after-fails}
-use Rattle.standard.specs.Peg.{fits, fails, _/_, opt, many, some, turns, one, byte, sized, void, eof, _>>=_, _>>_}
+use Rattle.standard.specs.Peg.{fits, fails, Parser, _/_, opt, many, some, turns, one, byte, sized, void, eof, _>>=_, _>>_}
 use Rattle.standard.specs.Lexical.{line-end, blank-inline, blank-inline?, blank, blank?}
 
 -- a byte that is a blank, by what follows it: a space, a newline, or a CR before a newline
@@ -214,3 +214,10 @@ over-over s k = rw (← drop-drop (blanks (drop k s)) k s) (omega (arith, no-bla
 pub drop-over : (s : List ℕ) (k : ℕ) → drop (blanks (drop k s)) (drop k s) ≡ drop (over s k) s
 unfolding over
 drop-over s k = drop-drop (blanks (drop k s)) k s
+
+pub reader-skips : {A : Type 0} (q : Reader.Reader A) (s : List ℕ) → (Reader._>>_ skipBlank q) s ≡ Reader.after [] (blanks s) (q (drop (blanks s) s))
+unfolding Reader._>>_ Reader.next
+reader-skips q s = rw (skipBlank-is s, Reader._>>_) refl
+
+pub parser-skips : {A : Type 0} (q : Parser A) (s : List ℕ) → (blank? >> q) s ≡ Peg.after [] (blanks s) (q (drop (blanks s) s))
+parser-skips q s = then-fits blank? q s (blank?-is s)

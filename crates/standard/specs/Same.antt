@@ -4,13 +4,14 @@ use Prim.Native.Nat.{ℕ, _+_}
 use native.Mathlib.Omega.{arith}
 use mathlib.Core.Path.{_≡_, refl, sym, ap, ap₂, _∙_, subst, subst₂}
 use mathlib.Core.Bool.{Bool, true, false}
-use mathlib.Core.List.{List, [], _∷_, _++_}
+use mathlib.Core.List.{List, [], _++_}
 use lib.ListN.{drop, take}
-use lib.Dec.{eqb}
 use Rattle.syntax.specs.Kind as Kind
-use Rattle.syntax.specs.Bytes.{starts, startsWith}
+use Rattle.syntax.specs.Bytes.{startsWith}
 use Rattle.syntax.specs.Marks.{Mark, moveUp}
 use Rattle.syntax.specs.declared.errors.ErrorKind.{ErrorKind}
+use Rattle.syntax.specs.declared.errors.ErrorKind.the-variants.{ExpectedToken}
+use Rattle.syntax.specs.Errors.{faultAt}
 use Rattle.syntax.specs.Reader as Reader
 use Rattle.syntax.specs.Reader.{Out, ok, bad, deep, Reader, wrap, inNode}
 use Rattle.syntax.specs.Helper.{skipBlank, skipBlankInline, expectByte, asText}
@@ -20,8 +21,8 @@ use Rattle.laws.specs.Bytes.{byCase}
 use Rattle.laws.specs.Moving.{moveUp-twice}
 use Rattle.standard.specs.Dialect.{rust}
 use Rattle.standard.specs.Peg as Peg
-use Rattle.standard.specs.Peg.{Answer, fits, fails, Parser, _/_, one, byte, in-node, as-text, ahead, void}
-use Rattle.standard.specs.Steps.{first, second, text-fits, text-fails}
+use Rattle.standard.specs.Peg.{Answer, fits, fails, Parser, _/_, byte, in-node, as-text, ahead, void}
+use Rattle.standard.specs.Steps.{byte-fits, byte-fails, first, second, text-fits, text-fails}
 use Rattle.standard.specs.Lexical.{line-end, blank?, blank-inline?, blank-block}
 use Rattle.standard.specs.Grammar as Grammar
 use Rattle.standard.specs.Blank.{blanks, skipBlank-is, blank?-is, blank-inline?-is}
@@ -96,14 +97,17 @@ pub same-fail : {A B : Type 0} (f : A → B) (k : ErrorKind) → Matches f (Read
 unfolding Reader.fail Peg.never
 same-fail f k = record { same = λ s. refl }
 
+pub expects : (b : ℕ) (s : List ℕ) → startsWith b s ≡ true → expectByte b s ≡ ok tt [] 1
+unfolding expectByte
+expects b s e = rw (e, expectByte) refl
+
+pub refuses : (b : ℕ) (s : List ℕ) → startsWith b s ≡ false → expectByte b s ≡ bad (faultAt (ExpectedToken b) 0) 0
+unfolding expectByte Reader.fail
+refuses b s e = rw (e, expectByte) refl
+
 -- a byte that has to be there
 pub same-byte : (b : ℕ) → Matches nothing (expectByte b) (byte b)
-unfolding expectByte byte one starts startsWith Reader.fail
-same-byte b = record { same = go }
-  where
-    go : (s : List ℕ) → Same nothing (expectByte b s) (byte b s)
-    go [] = refl
-    go (x ∷ xs) = byCase (eqb x b) (λ q. rw (q, expectByte, byte, one) refl) (λ q. rw (q, expectByte, byte, one) refl)
+same-byte b = record { same = λ s. byCase (startsWith b s) (λ e. rw (expects b s e) (byte-fits b s e)) (λ e. rw (refuses b s e) (byte-fails b s e)) }
 
 -- marks put in a node
 pub same-wrap : {A B : Type 0} (f : A → B) (kind : ℕ) (o : Out A) (p : Parser B) (s : List ℕ) → Same f o (p s) → Same f (wrap kind o) (in-node kind p s)

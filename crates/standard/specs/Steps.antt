@@ -1,7 +1,7 @@
 -- What a parser that is put together answers, from what its parts answer.
-use Prim.Native.Nat.{ℕ, zero, suc, _+_, _<_}
+use Prim.Native.Nat.{ℕ, zero, suc, _+_, _≤_, _<_}
 use native.Mathlib.Omega.{arith}
-use native.Mathlib.Nat.{add-assoc}
+use native.Mathlib.Nat.{add-assoc, zero-add, not-suc-le-zero}
 use mathlib.Core.Path.{_≡_, refl, sym, ap, ap₂, _∙_}
 use mathlib.Core.Bool.{Bool, true, false}
 use mathlib.Core.List.{List, [], _∷_, _++_, append-nil}
@@ -11,8 +11,8 @@ use borrow.Author.Tests.{ne-eqb}
 use Rattle.syntax.specs.Bytes.{run, starts, startsWith}
 use Rattle.syntax.specs.Marks.{Mark, moveUp, node, textNode}
 use Rattle.laws.specs.Bytes.{byCase, clash}
-use Rattle.laws.specs.Moving.{moveUp-twice}
-use Rattle.standard.specs.Peg.{Answer, fits, fails, Parser, many, some, turns, one, byte, withFirst, after, next, pure, _>>=_, _>>_, _/_, opt, void, in-node, as-text}
+use Rattle.laws.specs.Moving.{moveUp-twice, moveUp-zero}
+use Rattle.standard.specs.Peg.{Answer, fits, fails, Parser, many, some, turns, times, one, byte, withFirst, after, next, pure, _>>=_, _>>_, _/_, opt, void, in-node, as-text}
 
 module _ {A B : Type 0} where
   -- sequence
@@ -51,10 +51,14 @@ module _ {A : Type 0} where
   opt-fails x p s e = second p (pure x) s e
 
   -- repetition
+  pub turns-more : (n : ℕ) (p : Parser A) (s : List ℕ) {a : A} {ms : List Mark} {k : ℕ} → p s ≡ fits a ms k → 0 < k → turns (suc n) p s ≡ withFirst a (after ms k (turns n p (drop k s)))
+  unfolding turns
+  turns-more n p s {a} {ms} {k} e z = rw (e, turns) (rw (ne-eqb k 0 (λ y. omega arith)) refl)
+
   pub turns-on : (n : ℕ) (p : Parser A) (s : List ℕ) {a : A} {ms : List Mark} {k : ℕ} {more : List A} {ns : List Mark} {j : ℕ} → p s ≡ fits a ms k → 0 < k
       → turns n p (drop k s) ≡ fits more ns j → turns (suc n) p s ≡ fits (a ∷ more) (ms ++ moveUp k ns) (k + j)
-  unfolding turns withFirst after
-  turns-on n p s {a} {ms} {k} e z f = rw (e, turns) (rw (ne-eqb k 0 (λ y. omega arith)) (ap (λ o. withFirst a (after ms k o)) f))
+  unfolding withFirst after
+  turns-on n p s {a} {ms} {k} e z f = turns-more n p s e z ∙ ap (λ o. withFirst a (after ms k o)) f
 
   pub turns-end : (n : ℕ) (p : Parser A) (s : List ℕ) → p s ≡ fails → turns n p s ≡ fits [] [] 0
   unfolding turns
@@ -110,6 +114,11 @@ module _ {A : Type 0} where
   after-skip ms k j (fits a ns i) = ap₂ (λ r n. fits a (ms ++ r) n) (moveUp-twice k j ns) (sym (add-assoc k j i))
   after-skip ms k j fails = refl
 
+  pub after-none : (a : Answer A) → after [] 0 a ≡ a
+  unfolding after
+  after-none (fits a ns i) = ap₂ (λ r n. fits a r n) (moveUp-zero ns) (zero-add i)
+  after-none fails = refl
+
 -- n times nothing
 unfoldable pub units : ℕ → List (Unit {0})
 units zero = []
@@ -128,6 +137,23 @@ pub some-run : (p : ℕ → Bool) (s : List ℕ) → starts p s ≡ true → som
 unfolding some one starts run units _>>=_ next after pure moveUp
 some-run p [] e = clash e refl
 some-run p (b ∷ bs) e = rw (e, one, run) (rw (many-run p bs) (ap (fits (tt ∷ units (run p bs)) []) (omega arith)))
+
+-- p{n}
+pub times-fits : (n : ℕ) (p : ℕ → Bool) (s : List ℕ) → n ≤ run p s → times n (one p) s ≡ fits tt [] n
+unfolding times run one starts _>>_ next after pure moveUp
+times-fits zero p s h = refl
+times-fits (suc n) p [] h = absurd (not-suc-le-zero h)
+times-fits (suc n) p (b ∷ bs) h = byCase (p b)
+    (λ e. rw (e, times, one) (rw (times-fits n p bs (omega (arith, rw (e, run) at h))) (ap (fits tt []) (omega arith))))
+    (λ e. absurd (not-suc-le-zero (rw (e, run) at h)))
+
+pub times-fails : (n : ℕ) (p : ℕ → Bool) (s : List ℕ) → run p s < n → times n (one p) s ≡ fails
+unfolding times run one starts _>>_ next after
+times-fails zero p s h = absurd (not-suc-le-zero h)
+times-fails (suc n) p [] h = refl
+times-fails (suc n) p (b ∷ bs) h = byCase (p b)
+    (λ e. rw (e, times, one) (rw (times-fails n p bs (omega (arith, rw (e, run) at h))) refl))
+    (λ e. rw (e, times, one) refl)
 
 -- a byte
 pub one-fits : (p : ℕ → Bool) (s : List ℕ) → starts p s ≡ true → one p s ≡ fits tt [] 1

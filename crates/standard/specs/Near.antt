@@ -1,0 +1,119 @@
+-- Answers that agree up to the blanks that are skipped next. Where the reader gives an error, the grammar may also have left what begins with "(" or ".",
+-- behind blanks: nothing that may follow starts so.
+use Prim.Native.Nat.{ℕ, _+_}
+use native.Mathlib.Nat.{add-zero, add-assoc}
+use mathlib.Core.Path.{_≡_, refl, sym, ap, _∙_, subst}
+use mathlib.Core.Bool.{Bool, true, _||_}
+use mathlib.Core.List.{List, []}
+use lib.ListN.{drop, take}
+use lib.Seq.{drop-drop}
+use lib.Dec.{eqb}
+use Rattle.syntax.specs.Bytes.{starts}
+use Rattle.syntax.specs.Marks.{Mark}
+use Rattle.syntax.specs.Reader as Reader
+use Rattle.syntax.specs.Reader.{Out, ok, bad, deep, Reader}
+use Rattle.syntax.specs.Helper.{skipBlank, asText}
+use Rattle.standard.specs.Peg as Peg
+use Rattle.standard.specs.Peg.{Answer, fits, fails, Parser, in-node, as-text}
+use Rattle.standard.specs.Lexical.{blank?}
+use Rattle.standard.specs.Steps.{text-fits, text-fails, node-fits, node-fails, after-fails}
+use Rattle.standard.specs.Blank.{blanks, over, drop-over, reader-skips, parser-skips}
+use Rattle.standard.specs.Same.{Same, same-skip}
+
+unfoldable pub isOpening : ℕ → Bool
+isOpening b = eqb b 40 || eqb b 46
+
+abbrev pub Opens : List ℕ → Type 0
+Opens s = starts isOpening s ≡ true
+
+-- a failure, or an answer that leaves such a rest
+abbrev pub Left : {B : Type 0} → List ℕ → Answer B → Type 0
+Left s (fits y ms j) = Opens (drop (over s j) s)
+Left s fails = Unit {0}
+
+-- the same, or an error
+abbrev pub Nearly : {A B : Type 0} → (A → B) → List ℕ → Out A → Answer B → Type 0
+Nearly f s (ok x ms k) a = a ≡ fits (f x) ms k
+Nearly f s (bad e k) a = Left s a
+Nearly f s (deep k) a = Unit {0}
+
+-- the same up to blanks, or an error
+abbrev pub Near : {A B : Type 0} → (A → B) → List ℕ → Out A → Answer B → Type 0
+Near f s (ok x ms k) a = (j : ℕ) × (a ≡ fits (f x) ms j) × (over s j ≡ over s k)
+Near f s (bad e k) a = Left s a
+Near f s (deep k) a = Unit {0}
+
+module _ {A B : Type 0} (f : A → B) where
+  pub nearly-near : (s : List ℕ) (o : Out A) (a : Answer B) → Nearly f s o a → Near f s o a
+  nearly-near s (ok x ms k) a h = (k, h, refl)
+  nearly-near s (bad e k) a h = h
+  nearly-near s (deep k) a h = tt
+
+  pub same-nearly : (s : List ℕ) (o : Out A) (a : Answer B) → Same f o a → Nearly f s o a
+  same-nearly s (ok x ms k) a h = h
+  same-nearly s (bad e k) a h = rw h tt
+  same-nearly s (deep k) a h = tt
+
+-- k bytes on
+left-after : {B : Type 0} (s : List ℕ) (ms : List Mark) (k : ℕ) (a : Answer B) → Left (drop k s) a → Left s (Peg.after ms k a)
+unfolding Peg.after over
+left-after s ms k (fits y ns j) h =
+    subst Opens (drop-drop (j + blanks (drop j (drop k s))) k s ∙ ap (λ n. drop n s) (sym (add-assoc k j (blanks (drop j (drop k s)))) ∙ ap (λ r. k + j + blanks r) (drop-drop j k s))) h
+left-after s ms k fails h = tt
+
+module _ {A B C D : Type 0} (f : A → B) (g : C → D) where
+  pub nearly-after : (s : List ℕ) (ms : List Mark) (k : ℕ) (o : Out C) (a : Answer D) → Nearly g (drop k s) o a → Nearly g s (Reader.after ms k o) (Peg.after ms k a)
+  unfolding Reader.after Peg.after
+  nearly-after s ms k (ok x ns j) a h = ap (Peg.after ms k) h
+  nearly-after s ms k (bad e j) a h = left-after s ms k a h
+  nearly-after s ms k (deep j) a h = tt
+
+  -- a sequence whose last part agrees so
+  pub nearly-next : (s : List ℕ) (q : A → Reader C) (q′ : B → Parser D) (o : Out A) (a : Answer B)
+      → Same f o a → ((x : A) (r : List ℕ) → Nearly g r (q x r) (q′ (f x) r)) → Nearly g s (Reader.next s q o) (Peg.next s q′ a)
+  unfolding Reader.next Peg.next
+  nearly-next s q q′ (ok x ms k) a h l = rw h (nearly-after s ms k (q x (drop k s)) (q′ (f x) (drop k s)) (l x (drop k s)))
+  nearly-next s q q′ (bad e k) a h l = rw h tt
+  nearly-next s q q′ (deep k) a h l = tt
+
+  -- blanks, and what fails at such a rest
+  pub near-next : (s : List ℕ) (q : A → Reader C) (q′ : B → Parser D) (o : Out A) (a : Answer B) → Near f s o a
+      → ((x : A) (r : List ℕ) → Same g (q x r) (q′ (f x) r)) → ((y : B) (r : List ℕ) → Opens r → q′ y r ≡ fails)
+      → Same g (Reader.next s (λ x. Reader._>>_ skipBlank (q x)) o) (Peg.next s (λ y. Peg._>>_ blank? (q′ y)) a)
+  unfolding Reader.next Peg.next Reader._>>_ Peg._>>_ over
+  near-next s q q′ (ok x ms k) a (j , e , h) l d =
+      let r : drop (blanks (drop k s)) (drop k s) ≡ drop (blanks (drop j s)) (drop j s) = drop-over s k ∙ ap (λ n. drop n s) (sym h) ∙ sym (drop-over s j) in
+      rw (e, reader-skips (q x) (drop k s), parser-skips (q′ (f x)) (drop j s))
+      (same-skip g ms k (blanks (drop k s)) j (blanks (drop j s)) (q x (drop (blanks (drop k s)) (drop k s))) (q′ (f x) (drop (blanks (drop j s)) (drop j s))) (sym h)
+      (subst (λ z. Same g (q x (drop (blanks (drop k s)) (drop k s))) (q′ (f x) z)) r (l x (drop (blanks (drop k s)) (drop k s)))))
+  near-next s q q′ (bad e k) (fits y ms j) h l d = after-fails ms j (parser-skips (q′ y) (drop j s) ∙ after-fails [] (blanks (drop j s)) (d y (drop (blanks (drop j s)) (drop j s)) (subst Opens (sym (drop-over s j)) h)))
+  near-next s q q′ (bad e k) fails h l d = refl
+  near-next s q q′ (deep k) a h l d = tt
+
+-- in a node, and as a text
+left-node : {B : Type 0} (s : List ℕ) (kind : ℕ) (p : Parser B) (a : Answer B) → p s ≡ a → Left s a → Left s (in-node kind p s)
+left-node s kind p (fits y ms j) e h = rw (node-fits kind p s e) h
+left-node s kind p fails e h = rw (node-fails kind p s e) tt
+
+left-text : {B : Type 0} (s : List ℕ) (kind : ℕ) (p : Parser B) (a : Answer B) → p s ≡ a → Left s a → Left s (as-text kind p s)
+left-text s kind p (fits y ms j) e h = rw (text-fits kind p s e) h
+left-text s kind p fails e h = rw (text-fails kind p s e) tt
+
+pub nearly-text : {B : Type 0} (f : Unit {0} → B) (kind : ℕ) (s : List ℕ) (o : Out (Unit {0})) (p : Parser B) → Nearly f s o (p s) → Nearly (λ k. take k s) s (asText kind o) (as-text kind p s)
+unfolding asText
+nearly-text f kind s (ok u ms k) p h = text-fits kind p s h
+nearly-text f kind s (bad e k) p h = left-text s kind p (p s) refl h
+nearly-text f kind s (deep k) p h = tt
+
+-- another value
+left-pure : {B D : Type 0} (s : List ℕ) (y : D) (a : Answer B) → Left s a → Left s (Peg.next s (λ _. Peg.pure y) a)
+unfolding Peg.next Peg.pure Peg.after
+left-pure s y (fits x ms j) h = rw (add-zero j) h
+left-pure s y fails h = tt
+
+pub nearly-pure : {A B C D : Type 0} (f : A → B) (g : C → D) (y : C) (s : List ℕ) (o : Out A) (a : Answer B) → Nearly f s o a
+    → Nearly g s (Reader.next s (λ _. Reader.pure y) o) (Peg.next s (λ _. Peg.pure (g y)) a)
+unfolding Reader.next Reader.pure Reader.after Peg.next Peg.pure Peg.after
+nearly-pure f g y s (ok x ms k) a h = rw h refl
+nearly-pure f g y s (bad e k) a h = left-pure s (g y) a h
+nearly-pure f g y s (deep k) a h = tt
