@@ -11,3 +11,4 @@ pub mod Blank
 pub mod Same
 pub mod Near
 pub mod Words
+pub mod Inline

@@ -4,19 +4,20 @@ use Prim.Native.Nat.{ℕ, _+_}
 use native.Mathlib.Nat.{add-zero, add-assoc}
 use mathlib.Core.Path.{_≡_, refl, sym, ap, _∙_, subst}
 use mathlib.Core.Bool.{Bool, true, _||_}
-use mathlib.Core.List.{List, []}
+use mathlib.Core.List.{List, [], _∷_, _++_}
 use lib.ListN.{drop, take}
 use lib.Seq.{drop-drop}
 use lib.Dec.{eqb}
-use Rattle.syntax.specs.Bytes.{starts}
-use Rattle.syntax.specs.Marks.{Mark}
+use borrow.Author.Tests.{eqb-true}
+use Rattle.syntax.specs.Bytes.{starts, startsWith}
+use Rattle.syntax.specs.Marks.{Mark, moveUp}
 use Rattle.syntax.specs.Reader as Reader
-use Rattle.syntax.specs.Reader.{Out, ok, bad, deep, Reader}
+use Rattle.syntax.specs.Reader.{Out, ok, bad, deep, Reader, wrap}
 use Rattle.syntax.specs.Helper.{skipBlank, asText}
 use Rattle.standard.specs.Peg as Peg
-use Rattle.standard.specs.Peg.{Answer, fits, fails, Parser, in-node, as-text}
+use Rattle.standard.specs.Peg.{Answer, fits, fails, Parser, _/_, in-node, as-text}
 use Rattle.standard.specs.Lexical.{blank?}
-use Rattle.standard.specs.Steps.{text-fits, text-fails, node-fits, node-fails, after-fails}
+use Rattle.standard.specs.Steps.{text-fits, text-fails, node-fits, node-fails, after-fails, first, second}
 use Rattle.standard.specs.Blank.{blanks, over, drop-over, reader-skips, parser-skips}
 use Rattle.standard.specs.Same.{Same, same-skip}
 
@@ -25,6 +26,11 @@ isOpening b = eqb b 40 || eqb b 46
 
 abbrev pub Opens : List ℕ → Type 0
 Opens s = starts isOpening s ≡ true
+
+pub opens-by : (b : ℕ) (s : List ℕ) → isOpening b ≡ true → startsWith b s ≡ true → Opens s
+unfolding startsWith starts
+opens-by b [] e h = h
+opens-by b (x ∷ xs) e h = rw (eqb-true x b h) e
 
 -- a failure, or an answer that leaves such a rest
 abbrev pub Left : {B : Type 0} → List ℕ → Answer B → Type 0
@@ -117,3 +123,66 @@ unfolding Reader.next Reader.pure Reader.after Peg.next Peg.pure Peg.after
 nearly-pure f g y s (ok x ms k) a h = rw h refl
 nearly-pure f g y s (bad e k) a h = left-pure s (g y) a h
 nearly-pure f g y s (deep k) a h = tt
+
+pub near-pure : {A B C D : Type 0} (f : A → B) (g : C → D) (y : C) (s : List ℕ) (o : Out A) (a : Answer B) → Near f s o a
+    → Near g s (Reader.next s (λ _. Reader.pure y) o) (Peg.next s (λ _. Peg.pure (g y)) a)
+unfolding Reader.next Reader.pure Reader.after Peg.next Peg.pure Peg.after moveUp
+near-pure f g y s (ok x ms k) a (j , e , h) = (j, rw e (ap (fits (g y) (ms ++ [])) (add-zero j)), h ∙ ap (over s) (sym (add-zero k)))
+near-pure f g y s (bad e k) a h = left-pure s (g y) a h
+near-pure f g y s (deep k) a h = tt
+
+-- k bytes on
+over-after : (s : List ℕ) (k j : ℕ) → over s (k + j) ≡ k + over (drop k s) j
+unfolding over
+over-after s k j = ap (λ r. k + j + blanks r) (sym (drop-drop j k s)) ∙ add-assoc k j (blanks (drop j (drop k s)))
+
+module _ {A B C D : Type 0} (f : A → B) (g : C → D) where
+  pub near-after : (s : List ℕ) (ms : List Mark) (k : ℕ) (o : Out C) (a : Answer D) → Near g (drop k s) o a → Near g s (Reader.after ms k o) (Peg.after ms k a)
+  unfolding Reader.after Peg.after
+  near-after s ms k (ok x ns i) a (j , e , h) = (k + j, ap (Peg.after ms k) e, over-after s k j ∙ ap (λ n. k + n) h ∙ sym (over-after s k i))
+  near-after s ms k (bad e j) a h = left-after s ms k a h
+  near-after s ms k (deep j) a h = tt
+
+  pub near-then : (s : List ℕ) (q : A → Reader C) (q′ : B → Parser D) (o : Out A) (a : Answer B)
+      → Same f o a → ((x : A) (r : List ℕ) → Near g r (q x r) (q′ (f x) r)) → Near g s (Reader.next s q o) (Peg.next s q′ a)
+  unfolding Reader.next Peg.next
+  near-then s q q′ (ok x ms k) a h l = rw h (near-after s ms k (q x (drop k s)) (q′ (f x) (drop k s)) (l x (drop k s)))
+  near-then s q q′ (bad e k) a h l = rw h tt
+  near-then s q q′ (deep k) a h l = tt
+
+module _ {A B : Type 0} (f : A → B) where
+  pub near-wrap : (kind : ℕ) (s : List ℕ) (o : Out A) (p : Parser B) → Near f s o (p s) → Near f s (wrap kind o) (in-node kind p s)
+  unfolding wrap
+  near-wrap kind s (ok x ms k) p (j , e , h) = (j, node-fits kind p s e, h)
+  near-wrap kind s (bad e k) p h = left-node s kind p (p s) refl h
+  near-wrap kind s (deep k) p h = tt
+
+  -- choice
+  left-first : (s : List ℕ) (p q : Parser B) (a : Answer B) → p s ≡ a → Left s a → q s ≡ fails → Left s ((p / q) s)
+  left-first s p q (fits y ms j) e h l = rw (first p q s e) h
+  left-first s p q fails e h l = rw (second p q s e, l) tt
+
+  pub near-first : (s : List ℕ) (o : Out A) (p q : Parser B) → Near f s o (p s) → q s ≡ fails → Near f s o ((p / q) s)
+  near-first s (ok x ms k) p q (j , e , h) l = (j, first p q s e, h)
+  near-first s (bad e k) p q h l = left-first s p q (p s) refl h l
+  near-first s (deep k) p q h l = tt
+
+  pub near-second : (s : List ℕ) (o : Out A) (p q : Parser B) → p s ≡ fails → Near f s o (q s) → Near f s o ((p / q) s)
+  near-second s o p q e h = subst (Near f s o) (sym (second p q s e)) h
+
+-- an error, and such a rest
+abbrev pub Wrong : {A : Type 0} → Out A → Type 0
+Wrong (ok x ms k) = ⊥
+Wrong (bad e k) = Unit {0}
+Wrong (deep k) = Unit {0}
+
+pub wrong-after : {A : Type 0} (ms : List Mark) (k : ℕ) (o : Out A) → Wrong o → Wrong (Reader.after ms k o)
+unfolding Reader.after
+wrong-after ms k (ok x ns j) h = h
+wrong-after ms k (bad e j) h = tt
+wrong-after ms k (deep j) h = tt
+
+pub wrong-near : {A B : Type 0} (f : A → B) (s : List ℕ) (o : Out A) (a : Answer B) → Wrong o → Left s a → Near f s o a
+wrong-near f s (ok x ms k) a h l = absurd h
+wrong-near f s (bad e k) a h l = l
+wrong-near f s (deep k) a h l = tt

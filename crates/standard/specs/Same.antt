@@ -2,9 +2,10 @@
 -- says that a whole file is refused, so that nothing is asked of the grammar there.
 use Prim.Native.Nat.{ℕ, _+_}
 use native.Mathlib.Omega.{arith}
+use native.Mathlib.Nat.{add-zero}
 use mathlib.Core.Path.{_≡_, refl, sym, ap, ap₂, _∙_, subst, subst₂}
 use mathlib.Core.Bool.{Bool, true, false}
-use mathlib.Core.List.{List, [], _++_}
+use mathlib.Core.List.{List, [], _++_, append-nil}
 use lib.ListN.{drop, take}
 use Rattle.syntax.specs.Kind as Kind
 use Rattle.syntax.specs.Bytes.{startsWith}
@@ -96,6 +97,25 @@ same-pure f a = record { same = λ s. refl }
 pub same-fail : {A B : Type 0} (f : A → B) (k : ErrorKind) → Matches f (Reader.fail k) Peg.never
 unfolding Reader.fail Peg.never
 same-fail f k = record { same = λ s. refl }
+
+-- readers step by step
+module _ {A B : Type 0} where
+  pub reads-then : (p : Reader A) (q : Reader B) (s : List ℕ) {a : A} {ms : List Mark} {k : ℕ} → p s ≡ ok a ms k → (Reader._>>_ p q) s ≡ Reader.after ms k (q (drop k s))
+  unfolding Reader._>>_ Reader.next
+  reads-then p q s e = rw (e, Reader._>>_) refl
+
+  pub reads-bind : (p : Reader A) (q : A → Reader B) (s : List ℕ) {a : A} {ms : List Mark} {k : ℕ} → p s ≡ ok a ms k → (Reader._>>=_ p q) s ≡ Reader.after ms k (q a (drop k s))
+  unfolding Reader._>>=_ Reader.next
+  reads-bind p q s e = rw (e, Reader._>>=_) refl
+
+-- another value
+pub ok-pure : {A : Type 0} (x : A) (ms : List Mark) (k : ℕ) → Reader.after ms k (ok x [] 0) ≡ ok x ms k
+unfolding Reader.after moveUp
+ok-pure x ms k = ap₂ (ok x) (append-nil ms) (add-zero k)
+
+pub fits-pure : {A : Type 0} (x : A) (ms : List Mark) (k : ℕ) → Peg.after ms k (fits x [] 0) ≡ fits x ms k
+unfolding Peg.after moveUp
+fits-pure x ms k = ap₂ (fits x) (append-nil ms) (add-zero k)
 
 pub expects : (b : ℕ) (s : List ℕ) → startsWith b s ≡ true → expectByte b s ≡ ok tt [] 1
 unfolding expectByte

@@ -7,12 +7,12 @@ use mathlib.Core.Bool.{Bool, true, false}
 use mathlib.Core.List.{List, [], _∷_, _++_, append-nil}
 use lib.ListN.{drop, take}
 use lib.Dec.{eqb}
-use borrow.Author.Tests.{ne-eqb}
+use borrow.Author.Tests.{ne-eqb, eqb-true}
 use Rattle.syntax.specs.Bytes.{run, starts, startsWith}
 use Rattle.syntax.specs.Marks.{Mark, moveUp, node, textNode}
 use Rattle.laws.specs.Bytes.{byCase, clash}
 use Rattle.laws.specs.Moving.{moveUp-twice, moveUp-zero}
-use Rattle.standard.specs.Peg.{Answer, fits, fails, Parser, many, some, turns, times, one, byte, withFirst, after, next, pure, _>>=_, _>>_, _/_, opt, void, in-node, as-text}
+use Rattle.standard.specs.Peg.{Answer, fits, fails, Parser, many, some, turns, times, one, byte, withFirst, after, next, pure, _>>=_, _>>_, _/_, opt, void, in-node, as-text, only, never}
 
 module _ {A B : Type 0} where
   -- sequence
@@ -119,6 +119,17 @@ module _ {A : Type 0} where
   after-none (fits a ns i) = ap₂ (λ r n. fits a r n) (moveUp-zero ns) (zero-add i)
   after-none fails = refl
 
+  -- abstract rules
+  pub only-passes : (v : Bool) (q : Parser A) (s : List ℕ) → v ≡ true → (only v >> q) s ≡ q s
+  unfolding only pure
+  only-passes true q s e = then-fits (only true) q s refl ∙ after-none (q s)
+  only-passes false q s e = clash e refl
+
+  pub only-forbids : (v : Bool) (q : Parser A) (s : List ℕ) → v ≡ false → (only v >> q) s ≡ fails
+  unfolding only never
+  only-forbids true q s e = clash refl e
+  only-forbids false q s e = then-fails (only false) q s refl
+
 -- n times nothing
 unfoldable pub units : ℕ → List (Unit {0})
 units zero = []
@@ -176,3 +187,8 @@ byte-fits b s e = one-fits (λ x. eqb x b) s (starts-byte b s ∙ e)
 pub byte-fails : (b : ℕ) (s : List ℕ) → startsWith b s ≡ false → byte b s ≡ fails
 unfolding byte
 byte-fails b s e = one-fails (λ x. eqb x b) s (starts-byte b s ∙ e)
+
+pub starts-other : (b c : ℕ) (s : List ℕ) → startsWith b s ≡ true → eqb b c ≡ false → startsWith c s ≡ false
+unfolding startsWith
+starts-other b c [] e h = refl
+starts-other b c (x ∷ xs) e h = rw (eqb-true x b e) h
