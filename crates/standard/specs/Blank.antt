@@ -1,6 +1,6 @@
 -- Blanks, by counts: what the reading and the grammar skip, and that to skip twice is to skip once.
 use Prim.Native.Nat.{ℕ, zero, suc, _+_, _≤_, _<_}
-use native.Mathlib.Nat.{not-suc-le-zero}
+use native.Mathlib.Nat.{not-suc-le-zero, zero-add}
 use native.Mathlib.Omega.{arith}
 use mathlib.Core.Path.{_≡_, refl, sym, ap, _∙_, subst}
 use mathlib.Core.Bool.{Bool, true, false, _||_}
@@ -221,3 +221,11 @@ reader-skips q s = rw (skipBlank-is s, Reader._>>_) refl
 
 pub parser-skips : {A : Type 0} (q : Parser A) (s : List ℕ) → (blank? >> q) s ≡ Peg.after [] (blanks s) (q (drop (blanks s) s))
 parser-skips q s = then-fits blank? q s (blank?-is s)
+
+pub over-none : (s : List ℕ) → over s 0 ≡ blanks s
+unfolding over
+over-none s = zero-add (blanks s)
+
+pub over-blanks : (s : List ℕ) → over s (blanks s) ≡ blanks s
+unfolding over
+over-blanks s = omega (arith, no-blanks s)

@@ -28,11 +28,11 @@ use Rattle.standard.specs.Abstract.{A8}
 use Rattle.standard.specs.Lexical.{Identifier, NumberLiteral, UnsignedLiteral, AttributeAccessor, VariableReference, blank?, digits, unsigned}
 use Rattle.standard.specs.Grammar as Grammar
 use Rattle.standard.specs.Grammar.{StringLiteral, MessageReference, FunctionReference, TermReference, InlineExpression, literal}
-use Rattle.standard.specs.Steps.{one-fits, one-fails, byte-fits, byte-fails, then-fits, then-fails, bind-fits, bind-fails, void-fits, void-fails, opt-fits, opt-fails, first, second, node-fits, node-fails, after-fails, only-passes, only-forbids, starts-other}
-use Rattle.standard.specs.Blank.{blanks, isBlankAt, over, over-over, drop-over, no-blanks, reader-skips, parser-skips}
-use Rattle.standard.specs.Same.{Same, nothing, Agree, reads-then, reads-bind, ok-pure, fits-pure, same-next, same-wrap, expects, refuses}
-use Rattle.standard.specs.Near.{isOpening, Opens, opens-by, Left, Nearly, Near, nearly-near, same-nearly, near-pure, near-after, near-then, near-wrap, near-first, near-second, Wrong, wrong-after, wrong-near}
-use Rattle.standard.specs.Words.{letter-names, nameOf, reads-name, parses-name, no-name, same-name, number-literal, unsigned-literal, formOf, string-literal}
+use Rattle.standard.specs.Steps.{one-fits, one-fails, byte-fits, byte-fails, then-fits, then-fails, bind-fits, bind-fails, void-fits, void-fails, opt-fits, opt-fails, first, second, node-fits, node-fails, after-fails, only-passes, only-forbids, starts-other, choice-assoc}
+use Rattle.standard.specs.Blank.{blanks, isBlankAt, over, over-over, drop-over, no-blanks, over-none, over-blanks, reader-skips, parser-skips}
+use Rattle.standard.specs.Same.{Same, nothing, Agree, reads-then, reads-bind, ok-pure, fits-pure, same-next, same-wrap, same-byte, expects, refuses}
+use Rattle.standard.specs.Near.{isOpening, Opens, opens-by, Left, Nearly, Near, nearly-near, same-near, near-pure, near-after, near-then, near-wrap, near-pick, near-first, near-second, Wrong, wrong-after, wrong-near}
+use Rattle.standard.specs.Words.{letter-names, nameOf, reads-name, parses-name, no-name, same-name, no-number, no-negative, no-unsigned-literal, number-literal, unsigned-literal, formOf, string-literal}
 
 -- AttributeAccessor ---------------------------------------------------------------------------------------------------------------------------
 
@@ -93,6 +93,14 @@ pub letter-no-digit : (b : ℕ) → isLetter b ≡ true → isDigit b ≡ false
 unfolding isLetter isDigit
 letter-no-digit b e = byCase (isDigit b) (λ q. let h : b ≤ 57 = leb-true b 57 (both (leb 48 b) (leb b 57) q .1) in
     clash e (rw (lt-leb 65 b (omega arith), lt-leb 97 b (omega arith)) refl)) (λ q. q)
+
+pub digit-no-letter : (b : ℕ) → isDigit b ≡ true → isLetter b ≡ false
+digit-no-letter b e = byCase (isLetter b) (λ q. clash e (letter-no-digit b q)) (λ q. q)
+
+letters-no-digits : (s : List ℕ) → starts isLetter s ≡ true → starts isDigit s ≡ false
+unfolding starts
+letters-no-digits [] e = refl
+letters-no-digits (b ∷ bs) e = letter-no-digit b e
 
 -- a name that may be called
 A8-is : (s : List ℕ) → starts isLetter s ≡ true → A8 (take (nameOf s) s) ≡ allBytes isCalleePart (take (nameOf s) s)
@@ -221,3 +229,250 @@ module _ {sub₁ : Pattern.Inside} {sub₂ : Grammar.Inside} (agree : Agree sub�
         plain (ok false ms k) o (m , z , h) r f = rw (read-message r o) (nameOf s + 0, second (FunctionReference rust sub₂) (MessageReference rust) s f ∙ message-plain (spaced-fails past h) ∙ ap (λ l. fits Abstract.messageReference (node 23 (named l)) (nameOf s + 0)) (sym (ap (moveUp (blanks past)) m ∙ moveUp-nil (blanks past))), past-blanks k z)
         plain (bad e k) o (d , h) r f = rw (read-on r, o) (leaves 46 refl d f (spaced-fails past h))
         plain (deep k) o h r f = rw (read-on r, o) tt
+
+  -- arguments that need not be there
+  maybe-arguments : (r : List ℕ) → Near nothing r (getCallArguments sub₁ r) (opt tt (sub₂ .CallArguments) r)
+  unfolding truly isOpening
+  maybe-arguments r = byCase (startsWith 40 (behind r)) (λ e. rw (call-read r e) (go e ((Reader._>>_ skipBlank (sub₁ .parenthesised)) r) (agree .arguments r)))
+      (λ e. rw (no-call-read r e) (0, opt-fails tt (sub₂ .CallArguments) r (agree .no-parenthesis r e), over-none r ∙ sym (over-blanks r)))
+    where
+      go : startsWith 40 (behind r) ≡ true → (o : Out (Unit {0})) → Same nothing o (sub₂ .CallArguments r) → Near nothing r (truly o) (opt tt (sub₂ .CallArguments) r)
+      go e (ok u ms k) h = (k, opt-fits tt (sub₂ .CallArguments) r h, refl)
+      go e (bad f k) h = rw (opt-fails tt (sub₂ .CallArguments) r h) (rw (over-none r) (opens-by 40 (behind r) refl e))
+      go e (deep k) h = tt
+
+  -- what follows a term's name
+  attribute : Parser Bool
+  attribute = opt false (AttributeAccessor >> Peg.pure true)
+
+  term-end : Bool → Parser Abstract.Form
+  term-end a = opt tt (sub₂ .CallArguments) >> Peg.pure (Abstract.termReference a)
+
+  reads-end : Bool → Reader Inline
+  reads-end a = Reader._>>_ (getCallArguments sub₁) (Reader.pure (term a))
+
+  arguments-near : (a : Bool) (r : List ℕ) → Near formOf r (reads-end a r) (term-end a r)
+  unfolding Reader._>>_ _>>_ formOf term-end reads-end
+  arguments-near a r = near-pure nothing formOf (term a) r (getCallArguments sub₁ r) (opt tt (sub₂ .CallArguments) r) (maybe-arguments r)
+
+  dot-left : (r : List ℕ) → startsWith 46 r ≡ true → AttributeAccessor r ≡ fails → Left r ((attribute >>= term-end) r)
+  unfolding attribute term-end Peg.pure Peg.after moveUp isOpening
+  dot-left r d h =
+      let b : behind r ≡ r = ap (λ n. drop n r) (dot-first r d) in
+      let c : sub₂ .CallArguments r ≡ fails = agree .no-parenthesis r (rw b (starts-other 46 40 r d refl)) in
+      let t : (attribute >>= term-end) r ≡ fits (Abstract.termReference false) [] 0 =
+          bind-fits attribute term-end r (opt-fails false (AttributeAccessor >> Peg.pure true) r (then-fails AttributeAccessor (Peg.pure true) r h))
+          ∙ ap (Peg.after [] 0) (then-fits (opt tt (sub₂ .CallArguments)) (Peg.pure (Abstract.termReference false)) r (opt-fails tt (sub₂ .CallArguments) r c)) in
+      rw t (rw (over-none r) (rw b (opens-by 46 r refl d)))
+
+  term-rest : (r : List ℕ) → Near formOf r ((Reader._>>=_ getAttributeAccessor reads-end) r) ((attribute >>= term-end) r)
+  unfolding Reader._>>=_ Reader.next attribute Peg.pure
+  term-rest r = go (getAttributeAccessor r) (accessor r)
+    where
+      go : (o : Out Bool) → Access r o (AttributeAccessor r) → Near formOf r (Reader.next r reads-end o) ((attribute >>= term-end) r)
+      go (ok true ms k) h = rw (bind-fits attribute term-end r (opt-fits false (AttributeAccessor >> Peg.pure true) r (then-fits AttributeAccessor (Peg.pure true) r h ∙ fits-pure true ms k)))
+          (near-after formOf r ms k (reads-end true (drop k r)) (term-end true (drop k r)) (arguments-near true (drop k r)))
+      go (ok false ms k) (m , z , h) = subst₂ (λ ns j. Near formOf r (Reader.after ns j (reads-end false (drop j r))) ((attribute >>= term-end) r)) (sym m) (sym z)
+          (rw (bind-fits attribute term-end r (opt-fails false (AttributeAccessor >> Peg.pure true) r (then-fails AttributeAccessor (Peg.pure true) r h)))
+          (near-after formOf r [] 0 (reads-end false r) (term-end false r) (arguments-near false r)))
+      go (bad e k) (d , h) = dot-left r d h
+      go (deep k) h = tt
+
+  -- the kind of what is read
+  kinded : (kind : ℕ) (o : Out Inline) → Holds (λ x ms k. inlineKind x ≡ kind) o → asInline o ≡ wrap kind o
+  unfolding asInline wrap
+  kinded kind (ok x ms k) h = ap (λ n. ok x (node n ms) k) h
+  kinded kind (bad e k) h = refl
+  kinded kind (deep k) h = refl
+
+  abbrev OfKind : ℕ → Inline → Type 0
+  OfKind kind x = inlineKind x ≡ kind
+
+  term-kind : (s : List ℕ) → Holds (λ x ms k. OfKind 24 x) (Reading.termReference sub₁ s)
+  unfolding Reading.termReference Reader._>>_ Reader._>>=_ Reader.pure inlineKind
+  term-kind s = plain-next (OfKind 24) s _ (expectByte 45 s) (λ a r. plain-next (OfKind 24) r _ (getIdentifier 9 r) (λ a r. plain-next (OfKind 24) r _ (getAttributeAccessor r) (λ a r. plain-next (OfKind 24) r _ (getCallArguments sub₁ r) (λ a r. refl))))
+
+  term-near : (s : List ℕ) → Near formOf s (asInline (Reading.termReference sub₁ s)) (TermReference rust sub₂ s)
+  unfolding Reading.termReference TermReference attribute term-end reads-end Reader._>>_ _>>_
+  term-near s = rw (kinded 24 (Reading.termReference sub₁ s) (term-kind s))
+      (near-wrap formOf 24 s (Reading.termReference sub₁ s) (byte 45 >> (Identifier 9 >> (attribute >>= term-end)))
+      (near-then nothing formOf s (λ _. Reader._>>_ (getIdentifier 9) (Reader._>>=_ getAttributeAccessor reads-end)) (λ _. Identifier 9 >> (attribute >>= term-end)) (expectByte 45 s) (byte 45 s) (same-byte 45 .same s)
+      (λ x r. near-then (λ n. take n r) formOf r (λ _. Reader._>>=_ getAttributeAccessor reads-end) (λ _. attribute >>= term-end) (getIdentifier 9 r) (Identifier 9 r) (same-name 9 r) (λ x r. term-rest r))))
+
+  -- VariableReference
+  variable-kind : (s : List ℕ) → Holds (λ x ms k. OfKind 21 x) (variableReference s)
+  unfolding variableReference Reader._>>_ Reader.pure inlineKind
+  variable-kind s = plain-next (OfKind 21) s _ (expectByte 36 s) (λ a r. plain-next (OfKind 21) r _ (getIdentifier 9 r) (λ a r. refl))
+
+  variable-same : (s : List ℕ) → Same formOf (asInline (variableReference s)) (VariableReference s)
+  unfolding variableReference VariableReference Reader._>>_ _>>_ Reader.pure Peg.pure formOf
+  variable-same s = rw (kinded 21 (variableReference s) (variable-kind s)) (same-wrap formOf 21 (variableReference s) (byte 36 >> (Identifier 9 >> Peg.pure Abstract.variable)) s
+      (same-next nothing formOf s (λ _. Reader._>>_ (getIdentifier 9) (Reader.pure variable)) (λ _. Identifier 9 >> Peg.pure Abstract.variable) (expectByte 36 s) (byte 36 s) (same-byte 36 .same s)
+      (λ x r. same-next (λ n. take n r) formOf r (λ _. Reader.pure variable) (λ _. Peg.pure Abstract.variable) (getIdentifier 9 r) (Identifier 9 r) (same-name 9 r) (λ x r. refl))))
+
+  -- a placeable
+  placeable-same : (s : List ℕ) → Same formOf (asInline (Reading.nestedPlaceable sub₁ s)) ((sub₂ .inline-placeable >> Peg.pure Abstract.nestedPlaceable) s)
+  unfolding Reading.nestedPlaceable Reader._>>_ _>>_ Reader.next Reader.pure Peg.next Peg.pure wrap asInline inlineKind formOf
+  placeable-same s = go (sub₁ .braced s) (agree .placeables s)
+    where
+      go : (o : Out (Unit {0})) → Same nothing (wrap 13 o) (sub₂ .inline-placeable s) → Same formOf (asInline (Reader.next s (λ _. Reader.pure inner) o)) (Peg.next s (λ _. Peg.pure Abstract.nestedPlaceable) (sub₂ .inline-placeable s))
+      go (ok u ms k) h = rw (h, ok-pure inner ms k) (fits-pure Abstract.nestedPlaceable (node 13 ms) k)
+      go (bad e k) h = rw h refl
+      go (deep k) h = tt
+
+  -- InlineExpression ----------------------------------------------------------------------------------------------------------------------------
+
+  abbrev NearAt : List ℕ → Out Inline → Parser Abstract.Form → Type 0
+  NearAt s o p = Near formOf s o (p s)
+
+  -- what fails by its first byte
+  no-string : (s : List ℕ) → startsWith 34 s ≡ false → StringLiteral rust s ≡ fails
+  unfolding StringLiteral
+  no-string s e = then-fails (byte 34) _ s (byte-fails 34 s e)
+
+  no-reference : (s : List ℕ) → starts isLetter s ≡ false → (FunctionReference rust sub₂ / MessageReference rust) s ≡ fails
+  unfolding FunctionReference MessageReference
+  no-reference s e = second (FunctionReference rust sub₂) (MessageReference rust) s (node-fails 22 _ s (bind-fails (Identifier 9) _ s (no-name 9 s e))) ∙ node-fails 23 _ s (then-fails (Identifier 9) _ s (no-name 9 s e))
+
+  no-term : (s : List ℕ) → startsWith 45 s ≡ false → TermReference rust sub₂ s ≡ fails
+  unfolding TermReference
+  no-term s e = node-fails 24 _ s (then-fails (byte 45) _ s (byte-fails 45 s e))
+
+  no-variable : (s : List ℕ) → startsWith 36 s ≡ false → VariableReference s ≡ fails
+  unfolding VariableReference
+  no-variable s e = node-fails 21 _ s (then-fails (byte 36) _ s (byte-fails 36 s e))
+
+  no-placeable : (s : List ℕ) → startsWith 123 s ≡ false → (sub₂ .inline-placeable >> Peg.pure Abstract.nestedPlaceable) s ≡ fails
+  no-placeable s e = then-fails (sub₂ .inline-placeable) (Peg.pure Abstract.nestedPlaceable) s (agree .no-brace s e)
+
+  no-term-name : (s : List ℕ) → startsWith 45 s ≡ true → starts isLetter (drop 1 s) ≡ false → TermReference rust sub₂ s ≡ fails
+  unfolding TermReference
+  no-term-name s e h = node-fails 24 _ s (then-fits (byte 45) _ s (byte-fits 45 s e) ∙ after-fails [] 1 (then-fails (Identifier 9) _ (drop 1 s) (no-name 9 (drop 1 s) h)))
+
+  -- the alternatives from one on
+  abbrev from-placeable : Parser Abstract.Form
+  from-placeable = sub₂ .inline-placeable >> Peg.pure Abstract.nestedPlaceable
+
+  abbrev from-variable : Parser Abstract.Form
+  from-variable = VariableReference / from-placeable
+
+  abbrev from-term : Parser Abstract.Form
+  from-term = TermReference rust sub₂ / from-variable
+
+  abbrev from-reference : Parser Abstract.Form
+  from-reference = FunctionReference rust sub₂ / (MessageReference rust / from-term)
+
+  abbrev from-number : Parser Abstract.Form
+  from-number = NumberLiteral 20 / from-reference
+
+  no-variables : (s : List ℕ) → startsWith 36 s ≡ false → startsWith 123 s ≡ false → from-variable s ≡ fails
+  no-variables s e h = second VariableReference from-placeable s (no-variable s e) ∙ no-placeable s h
+
+  no-terms : (s : List ℕ) → TermReference rust sub₂ s ≡ fails → startsWith 36 s ≡ false → startsWith 123 s ≡ false → from-term s ≡ fails
+  no-terms s f e h = second (TermReference rust sub₂) from-variable s f ∙ no-variables s e h
+
+  past-references : (s : List ℕ) → starts isLetter s ≡ false → from-reference s ≡ from-term s
+  past-references s e = choice-assoc (FunctionReference rust sub₂) (MessageReference rust) from-term s ∙ second (FunctionReference rust sub₂ / MessageReference rust) from-term s (no-reference s e)
+
+  -- from one alternative to the next
+  past-string : (s : List ℕ) (o : Out Inline) → startsWith 34 s ≡ false → NearAt s o from-number → NearAt s o (StringLiteral rust / from-number)
+  past-string s o e h = near-second formOf s o (StringLiteral rust) from-number (no-string s e) h
+
+  past-number : (s : List ℕ) (o : Out Inline) → NumberLiteral 20 s ≡ fails → NearAt s o from-reference → NearAt s o from-number
+  past-number s o e h = near-second formOf s o (NumberLiteral 20) from-reference e h
+
+  past-reference : (s : List ℕ) (o : Out Inline) → starts isLetter s ≡ false → NearAt s o from-term → NearAt s o from-reference
+  past-reference s o e h = subst (Near formOf s o) (sym (past-references s e)) h
+
+  past-term : (s : List ℕ) (o : Out Inline) → TermReference rust sub₂ s ≡ fails → NearAt s o from-variable → NearAt s o from-term
+  past-term s o e h = near-second formOf s o (TermReference rust sub₂) from-variable e h
+
+  -- the reading of each
+  string-at : (s : List ℕ) (q : Parser Abstract.Form) → q s ≡ fails → NearAt s (Reading.asString (Reading.stringLiteral s)) (StringLiteral rust / q)
+  string-at s q e = near-first formOf s (Reading.asString (Reading.stringLiteral s)) (StringLiteral rust) q
+      (same-near formOf s (Reading.asString (Reading.stringLiteral s)) (StringLiteral rust s) (string-literal s)) e
+
+  number-at : (s : List ℕ) (q : Parser Abstract.Form) → q s ≡ fails → NearAt s (Reading.numberLiteral s) (NumberLiteral 20 / q)
+  unfolding Reading.numberLiteral formOf
+  number-at s q e = near-first formOf s (Reading.numberLiteral s) (NumberLiteral 20) q (nearly-near formOf s (Reading.numberLiteral s) (NumberLiteral 20 s) (number-literal 20 number formOf s refl)) e
+
+  reference-at : (s : List ℕ) → starts isLetter s ≡ true → from-term s ≡ fails → NearAt s (asInline (reference sub₁ s)) from-reference
+  reference-at s l e = subst (Near formOf s (asInline (reference sub₁ s))) (sym (choice-assoc (FunctionReference rust sub₂) (MessageReference rust) from-term s))
+      (near-first formOf s (asInline (reference sub₁ s)) (FunctionReference rust sub₂ / MessageReference rust) from-term (reference-near s l) e)
+
+  term-at : (s : List ℕ) → from-variable s ≡ fails → NearAt s (asInline (Reading.termReference sub₁ s)) from-term
+  term-at s e = near-first formOf s (asInline (Reading.termReference sub₁ s)) (TermReference rust sub₂) from-variable (term-near s) e
+
+  variable-at : (s : List ℕ) → from-placeable s ≡ fails → NearAt s (asInline (variableReference s)) from-variable
+  variable-at s e = near-first formOf s (asInline (variableReference s)) VariableReference from-placeable (same-near formOf s (asInline (variableReference s)) (VariableReference s) (variable-same s)) e
+
+  placeable-at : (s : List ℕ) → startsWith 36 s ≡ false → NearAt s (asInline (Reading.nestedPlaceable sub₁ s)) from-variable
+  placeable-at s e = near-second formOf s (asInline (Reading.nestedPlaceable sub₁ s)) VariableReference from-placeable (no-variable s e)
+      (same-near formOf s (asInline (Reading.nestedPlaceable sub₁ s)) (from-placeable s) (placeable-same s))
+
+  none-at : (s : List ℕ) (o : Out Inline) → Wrong o → startsWith 34 s ≡ false → starts isDigit s ≡ false → starts isLetter s ≡ false → startsWith 45 s ≡ false → startsWith 36 s ≡ false → startsWith 123 s ≡ false
+      → NearAt s o (StringLiteral rust / from-number)
+  none-at s o w a b c d e f = wrong-near formOf s o ((StringLiteral rust / from-number) s) w (rw (second (StringLiteral rust) from-number s (no-string s a) ∙ second (NumberLiteral 20) from-reference s (no-number 20 s d b)
+      ∙ past-references s c ∙ no-terms s (no-term s d) e f) tt)
+
+  past-term-at : (s : List ℕ) (o : Out Inline) → startsWith 34 s ≡ false → starts isDigit s ≡ false → starts isLetter s ≡ false → startsWith 45 s ≡ false → NearAt s o from-variable → NearAt s o (StringLiteral rust / from-number)
+  past-term-at s o q d l m h = past-string s o q (past-number s o (no-number 20 s m d) (past-reference s o l (past-term s o (no-term s m) h)))
+
+  pub inline-near : (s : List ℕ) → Near formOf s (getInlineExpression sub₁ false s) (InlineExpression rust sub₂ s)
+  unfolding InlineExpression getInlineExpression nonLiteral noInline Reader.fail starts startsWith isLetter isDigit
+  inline-near [] = none-at [] (noInline false []) tt refl refl refl refl refl refl
+  inline-near (b ∷ bs) =
+      let s = b ∷ bs in
+      let inline = InlineExpression rust sub₂ s in
+      near-pick formOf s (eqb b 34) _ _ inline (λ q. string-at s from-number (quote-fails (eqb-true b 34 q)))
+      (λ q. near-pick formOf s (isDigit b) _ _ inline
+          (λ d. past-string s (Reading.numberLiteral s) q (number-at s from-reference (past-references s (digit-no-letter b d) ∙ no-terms s (no-term s (apart isDigit b 45 d refl)) (apart isDigit b 36 d refl) (apart isDigit b 123 d refl))))
+      (λ d. near-pick formOf s (isLetter b) _ _ inline
+          (λ l. past-string s (asInline (reference sub₁ s)) q (past-number s (asInline (reference sub₁ s)) (no-number 20 s (apart isLetter b 45 l refl) d) (reference-at s l (no-terms s (no-term s (apart isLetter b 45 l refl)) (apart isLetter b 36 l refl) (apart isLetter b 123 l refl)))))
+      (λ l. near-pick formOf s (eqb b 45) _ _ inline
+          (λ m. near-pick formOf s (starts isLetter bs) _ _ inline
+            (λ t. past-string s (asInline (Reading.termReference sub₁ s)) q (past-number s (asInline (Reading.termReference sub₁ s)) (no-negative 20 s m (letters-no-digits bs t)) (past-reference s (asInline (Reading.termReference sub₁ s)) l (term-at s (no-variables s (starts-other 45 36 s m refl) (starts-other 45 123 s m refl))))))
+            (λ t. past-string s (Reading.numberLiteral s) q (number-at s from-reference (past-references s l ∙ no-terms s (no-term-name s m t) (starts-other 45 36 s m refl) (starts-other 45 123 s m refl)))))
+      (λ m. near-pick formOf s (eqb b 36) _ _ inline
+          (λ v. past-term-at s (asInline (variableReference s)) q d l m (variable-at s (no-placeable s (starts-other 36 123 s v refl))))
+      (λ v. near-pick formOf s (eqb b 123) _ _ inline
+          (λ p. past-term-at s (asInline (Reading.nestedPlaceable sub₁ s)) q d l m (placeable-at s v))
+          (λ p. none-at s (noInline false s) tt q d l m v p))))))
+    where
+      quote-fails : b ≡ 34 → from-number (b ∷ bs) ≡ fails
+      quote-fails e = subst (λ x. from-number (x ∷ bs) ≡ fails) (sym e)
+          (second (NumberLiteral 20) from-reference (34 ∷ bs) (no-number 20 (34 ∷ bs) refl refl) ∙ past-references (34 ∷ bs) refl ∙ no-terms (34 ∷ bs) (no-term (34 ∷ bs) refl) refl refl)
+
+  -- the value of a named argument
+  abbrev from-literal : Parser Abstract.Form
+  from-literal = UnsignedLiteral / (FunctionReference rust sub₂ / MessageReference rust)
+
+  no-literals : (s : List ℕ) → starts isDigit s ≡ false → starts isLetter s ≡ false → from-literal s ≡ fails
+  no-literals s d l = second UnsignedLiteral (FunctionReference rust sub₂ / MessageReference rust) s (no-unsigned-literal s d) ∙ no-reference s l
+
+  unsigned-at : (s : List ℕ) → startsWith 45 s ≡ false → starts isLetter s ≡ false → NearAt s (Reading.numberLiteral s) from-literal
+  unfolding Reading.numberLiteral formOf
+  unsigned-at s m l = near-first formOf s (Reading.numberLiteral s) UnsignedLiteral (FunctionReference rust sub₂ / MessageReference rust)
+      (subst (Near formOf s (Reading.numberLiteral s)) (sym (unsigned-literal s m)) (nearly-near formOf s (Reading.numberLiteral s) (NumberLiteral 20 s) (number-literal 20 number formOf s refl))) (no-reference s l)
+
+  past-strings : (s : List ℕ) (o : Out Inline) → startsWith 34 s ≡ false → NearAt s o from-literal → NearAt s o (StringLiteral rust / from-literal)
+  past-strings s o e h = near-second formOf s o (StringLiteral rust) from-literal (no-string s e) h
+
+  no-literal-at : (s : List ℕ) (o : Out Inline) → Wrong o → startsWith 34 s ≡ false → starts isDigit s ≡ false → starts isLetter s ≡ false → NearAt s o (StringLiteral rust / from-literal)
+  no-literal-at s o w q d l = wrong-near formOf s o ((StringLiteral rust / from-literal) s) w (rw (second (StringLiteral rust) from-literal s (no-string s q) ∙ no-literals s d l) tt)
+
+  literal-is : (s : List ℕ) → literal rust sub₂ s ≡ (StringLiteral rust / from-literal) s
+  unfolding literal pick given rust all
+  literal-is s = refl
+
+  pub literal-near : (s : List ℕ) → Near formOf s (getInlineExpression sub₁ true s) (literal rust sub₂ s)
+  unfolding getInlineExpression noInline Reader.fail starts startsWith isLetter isDigit
+  literal-near [] = rw (literal-is []) (no-literal-at [] (noInline true []) tt refl refl refl)
+  literal-near (b ∷ bs) =
+      let s = b ∷ bs in
+      let value = (StringLiteral rust / from-literal) s in
+      rw (literal-is s) (near-pick formOf s (eqb b 34) _ _ value (λ q. string-at s from-literal (subst (λ x. from-literal (x ∷ bs) ≡ fails) (sym (eqb-true b 34 q)) (no-literals (34 ∷ bs) refl refl)))
+      (λ q. near-pick formOf s (isDigit b) _ _ value (λ d. past-strings s (Reading.numberLiteral s) q (unsigned-at s (apart isDigit b 45 d refl) (digit-no-letter b d)))
+      (λ d. near-pick formOf s (isLetter b) _ _ value
+          (λ l. past-strings s (asInline (reference sub₁ s)) q (near-second formOf s (asInline (reference sub₁ s)) UnsignedLiteral (FunctionReference rust sub₂ / MessageReference rust) (no-unsigned-literal s d) (reference-near s l)))
+          (λ l. no-literal-at s (noInline true s) tt q d l))))

@@ -3,7 +3,7 @@
 use Prim.Native.Nat.{ℕ, _+_}
 use native.Mathlib.Nat.{add-zero, add-assoc}
 use mathlib.Core.Path.{_≡_, refl, sym, ap, _∙_, subst}
-use mathlib.Core.Bool.{Bool, true, _||_}
+use mathlib.Core.Bool.{Bool, true, false, _||_}
 use mathlib.Core.List.{List, [], _∷_, _++_}
 use lib.ListN.{drop, take}
 use lib.Seq.{drop-drop}
@@ -59,6 +59,9 @@ module _ {A B : Type 0} (f : A → B) where
   same-nearly s (ok x ms k) a h = h
   same-nearly s (bad e k) a h = rw h tt
   same-nearly s (deep k) a h = tt
+
+  pub same-near : (s : List ℕ) (o : Out A) (a : Answer B) → Same f o a → Near f s o a
+  same-near s o a h = nearly-near s o a (same-nearly s o a h)
 
 -- k bytes on
 left-after : {B : Type 0} (s : List ℕ) (ms : List Mark) (k : ℕ) (a : Answer B) → Left (drop k s) a → Left s (Peg.after ms k a)
@@ -136,17 +139,17 @@ over-after : (s : List ℕ) (k j : ℕ) → over s (k + j) ≡ k + over (drop k 
 unfolding over
 over-after s k j = ap (λ r. k + j + blanks r) (sym (drop-drop j k s)) ∙ add-assoc k j (blanks (drop j (drop k s)))
 
-module _ {A B C D : Type 0} (f : A → B) (g : C → D) where
-  pub near-after : (s : List ℕ) (ms : List Mark) (k : ℕ) (o : Out C) (a : Answer D) → Near g (drop k s) o a → Near g s (Reader.after ms k o) (Peg.after ms k a)
-  unfolding Reader.after Peg.after
-  near-after s ms k (ok x ns i) a (j , e , h) = (k + j, ap (Peg.after ms k) e, over-after s k j ∙ ap (λ n. k + n) h ∙ sym (over-after s k i))
-  near-after s ms k (bad e j) a h = left-after s ms k a h
-  near-after s ms k (deep j) a h = tt
+pub near-after : {A B : Type 0} (f : A → B) (s : List ℕ) (ms : List Mark) (k : ℕ) (o : Out A) (a : Answer B) → Near f (drop k s) o a → Near f s (Reader.after ms k o) (Peg.after ms k a)
+unfolding Reader.after Peg.after
+near-after f s ms k (ok x ns i) a (j , e , h) = (k + j, ap (Peg.after ms k) e, over-after s k j ∙ ap (λ n. k + n) h ∙ sym (over-after s k i))
+near-after f s ms k (bad e j) a h = left-after s ms k a h
+near-after f s ms k (deep j) a h = tt
 
+module _ {A B C D : Type 0} (f : A → B) (g : C → D) where
   pub near-then : (s : List ℕ) (q : A → Reader C) (q′ : B → Parser D) (o : Out A) (a : Answer B)
       → Same f o a → ((x : A) (r : List ℕ) → Near g r (q x r) (q′ (f x) r)) → Near g s (Reader.next s q o) (Peg.next s q′ a)
   unfolding Reader.next Peg.next
-  near-then s q q′ (ok x ms k) a h l = rw h (near-after s ms k (q x (drop k s)) (q′ (f x) (drop k s)) (l x (drop k s)))
+  near-then s q q′ (ok x ms k) a h l = rw h (near-after g s ms k (q x (drop k s)) (q′ (f x) (drop k s)) (l x (drop k s)))
   near-then s q q′ (bad e k) a h l = rw h tt
   near-then s q q′ (deep k) a h l = tt
 
@@ -156,6 +159,10 @@ module _ {A B : Type 0} (f : A → B) where
   near-wrap kind s (ok x ms k) p (j , e , h) = (j, node-fits kind p s e, h)
   near-wrap kind s (bad e k) p h = left-node s kind p (p s) refl h
   near-wrap kind s (deep k) p h = tt
+
+  pub near-pick : (s : List ℕ) (v : Bool) (o o′ : Out A) (a : Answer B) → (v ≡ true → Near f s o a) → (v ≡ false → Near f s o′ a) → Near {A = A} f s (elim v [ true ↦ o | false ↦ o′ ]) a
+  near-pick s true o o′ a h l = h refl
+  near-pick s false o o′ a h l = l refl
 
   -- choice
   left-first : (s : List ℕ) (p q : Parser B) (a : Answer B) → p s ≡ a → Left s a → q s ≡ fails → Left s ((p / q) s)

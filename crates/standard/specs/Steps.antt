@@ -42,6 +42,17 @@ module _ {A : Type 0} where
   unfolding _/_
   second p q s e = rw (e, _/_) refl
 
+  pub choice-assoc : (p q r : Parser A) (s : List ℕ) → (p / (q / r)) s ≡ ((p / q) / r) s
+  unfolding _/_
+  choice-assoc p q r s = go (p s)
+    where
+      or : Answer A → Answer A → Answer A
+      or a b = elim a [ fits x ms k ↦ fits x ms k | fails ↦ b ]
+
+      go : (a : Answer A) → or a ((q / r) s) ≡ or (or a (q s)) (r s)
+      go (fits x ms k) = refl
+      go fails = refl
+
   pub opt-fits : (x : A) (p : Parser A) (s : List ℕ) {a : A} {ms : List Mark} {k : ℕ} → p s ≡ fits a ms k → opt x p s ≡ fits a ms k
   unfolding opt
   opt-fits x p s e = first p (pure x) s e

@@ -18,7 +18,7 @@ use Rattle.syntax.specs.Expression.{Inline, string, number, variable, function,
 use Rattle.laws.specs.Bytes.{byCase, clash}
 use Rattle.standard.specs.Dialect.{rust, all}
 use Rattle.standard.specs.Peg as Peg
-use Rattle.standard.specs.Peg.{Answer, fits, fails, Parser, opt, many, some, turns, times, withFirst, given, eof, sized, bar, _but_, one, byte, as-text, _/_, _>>_, _>>=_}
+use Rattle.standard.specs.Peg.{Answer, fits, fails, Parser, opt, many, some, turns, times, withFirst, given, eof, sized, bar, _but_, one, byte, void, as-text, _/_, _>>_, _>>=_}
 use Rattle.standard.specs.Abstract as Abstract
 use Rattle.standard.specs.Lexical.{digits, unsigned, Identifier, NumberLiteral, UnsignedLiteral, line-end, any-char, special-quoted-char, unicode-escape}
 use Rattle.standard.specs.Grammar.{special-escape, quoted-char, StringLiteral}
@@ -109,6 +109,25 @@ pub number-literal : (kind : ℕ) {C : Type 0} (y : C) (f : C → Abstract.Form)
 unfolding Reader._>>_ NumberLiteral _>>_ getNumberLiteral
 number-literal kind y f s e = subst (λ v. Nearly f s ((Reader._>>_ (getNumberLiteral kind) (Reader.pure y)) s) ((as-text kind (opt tt (byte 45) >> unsigned) >> Peg.pure v) s)) e
     (nearly-pure (λ k. take k s) f y s (asText kind (readNumber s)) (as-text kind (opt tt (byte 45) >> unsigned) s) (nearly-text nothing kind s (readNumber s) (opt tt (byte 45) >> unsigned) (number-nearly s)))
+
+-- where there is none
+no-unsigned : (s : List ℕ) → starts isDigit s ≡ false → unsigned s ≡ fails
+unfolding unsigned digits
+no-unsigned s e = then-fails (void (some (one isDigit))) (opt tt (byte 46 >> digits)) s (void-fails (some (one isDigit)) s (some-fails (one isDigit) s (one-fails isDigit s e)))
+
+pub no-number : (kind : ℕ) (s : List ℕ) → startsWith 45 s ≡ false → starts isDigit s ≡ false → NumberLiteral kind s ≡ fails
+unfolding NumberLiteral
+no-number kind s e h = then-fails (as-text kind (opt tt (byte 45) >> unsigned)) (Peg.pure Abstract.number) s (text-fails kind (opt tt (byte 45) >> unsigned) s
+    (then-fits (opt tt (byte 45)) unsigned s (opt-fails tt (byte 45) s (byte-fails 45 s e)) ∙ after-fails [] 0 (no-unsigned s h)))
+
+pub no-negative : (kind : ℕ) (s : List ℕ) → startsWith 45 s ≡ true → starts isDigit (drop 1 s) ≡ false → NumberLiteral kind s ≡ fails
+unfolding NumberLiteral
+no-negative kind s e h = then-fails (as-text kind (opt tt (byte 45) >> unsigned)) (Peg.pure Abstract.number) s (text-fails kind (opt tt (byte 45) >> unsigned) s
+    (then-fits (opt tt (byte 45)) unsigned s (opt-fits tt (byte 45) s (byte-fits 45 s e)) ∙ after-fails [] 1 (no-unsigned (drop 1 s) h)))
+
+pub no-unsigned-literal : (s : List ℕ) → starts isDigit s ≡ false → UnsignedLiteral s ≡ fails
+unfolding UnsignedLiteral
+no-unsigned-literal s e = then-fails (as-text 20 unsigned) (Peg.pure Abstract.number) s (text-fails 20 unsigned s (no-unsigned s e))
 
 -- the number of a named argument
 pub unsigned-literal : (s : List ℕ) → startsWith 45 s ≡ false → UnsignedLiteral s ≡ NumberLiteral 20 s
