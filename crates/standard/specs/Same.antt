@@ -7,6 +7,7 @@ use mathlib.Core.Path.{_≡_, refl, sym, ap, ap₂, _∙_, subst, subst₂}
 use mathlib.Core.Bool.{Bool, true, false}
 use mathlib.Core.List.{List, [], _++_, append-nil}
 use lib.ListN.{drop, take}
+use lib.Seq.{drop-drop}
 use Rattle.syntax.specs.Kind as Kind
 use Rattle.syntax.specs.Bytes.{startsWith}
 use Rattle.syntax.specs.Marks.{Mark, moveUp}
@@ -19,11 +20,11 @@ use Rattle.syntax.specs.Helper.{skipBlank, skipBlankInline, expectByte, asText}
 use Rattle.syntax.specs.Pattern as Pattern
 use Rattle.syntax.specs.Pattern.{getPattern}
 use Rattle.laws.specs.Bytes.{byCase}
-use Rattle.laws.specs.Moving.{moveUp-twice}
+use Rattle.laws.specs.Moving.{after-after, moveUp-twice}
 use Rattle.standard.specs.Dialect.{rust}
 use Rattle.standard.specs.Peg as Peg
 use Rattle.standard.specs.Peg.{Answer, fits, fails, Parser, _/_, byte, in-node, as-text, ahead, void}
-use Rattle.standard.specs.Steps.{byte-fits, byte-fails, first, second, text-fits, text-fails}
+use Rattle.standard.specs.Steps.{Uses, byte-fits, byte-fails, first, second, text-fits, text-fails}
 use Rattle.standard.specs.Lexical.{line-end, blank?, blank-inline?, blank-block}
 use Rattle.standard.specs.Grammar as Grammar
 use Rattle.standard.specs.Blank.{blanks, skipBlank-is, blank?-is, blank-inline?-is}
@@ -42,10 +43,11 @@ nothing a = tt
 pub record Matches {A B : Type 0} (f : A → B) (p : Reader A) (q : Parser B) : Type 0 where
   pub same : (s : List ℕ) → Same f (p s) (q s)
 
--- Agreement of what stands in one more "{" or "(". Parsers fail where there is none
+-- Agreement of what stands in one more "{" or "(". Parsers fail where there is none, and use a byte
 pub record Agree (sub₁ : Pattern.Inside) (sub₂ : Grammar.Inside) : Type 0 where
   pub placeables : (s : List ℕ) → Same nothing (wrap Kind.placeable (sub₁ .braced s)) (sub₂ .inline-placeable s)
   pub arguments : (s : List ℕ) → Same nothing ((Reader._>>_ skipBlank (sub₁ .parenthesised)) s) (sub₂ .CallArguments s)
+  pub uses-brace : (s : List ℕ) → Uses (sub₂ .inline-placeable s)
   pub no-brace : (s : List ℕ) → startsWith 123 s ≡ false → sub₂ .inline-placeable s ≡ fails
   pub no-parenthesis : (s : List ℕ) → startsWith 40 (drop (blanks s) s) ≡ false → sub₂ .CallArguments s ≡ fails
 
@@ -107,6 +109,12 @@ module _ {A B : Type 0} where
   pub reads-bind : (p : Reader A) (q : A → Reader B) (s : List ℕ) {a : A} {ms : List Mark} {k : ℕ} → p s ≡ ok a ms k → (Reader._>>=_ p q) s ≡ Reader.after ms k (q a (drop k s))
   unfolding Reader._>>=_ Reader.next
   reads-bind p q s e = rw (e, Reader._>>=_) refl
+
+  pub reads-after : (s : List ℕ) (q : A → Reader B) (ms : List Mark) (k : ℕ) (o : Out A) → Reader.next s q (Reader.after ms k o) ≡ Reader.after ms k (Reader.next (drop k s) q o)
+  unfolding Reader.next Reader.after
+  reads-after s q ms k (ok a ns j) = ap (λ r. Reader.after (ms ++ moveUp k ns) (k + j) (q a r)) (sym (drop-drop j k s)) ∙ sym (after-after ms k ns j (q a (drop j (drop k s))))
+  reads-after s q ms k (bad e j) = refl
+  reads-after s q ms k (deep j) = refl
 
 -- another value
 pub ok-pure : {A : Type 0} (x : A) (ms : List Mark) (k : ℕ) → Reader.after ms k (ok x [] 0) ≡ ok x ms k

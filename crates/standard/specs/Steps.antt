@@ -6,12 +6,13 @@ use mathlib.Core.Path.{_≡_, refl, sym, ap, ap₂, _∙_}
 use mathlib.Core.Bool.{Bool, true, false}
 use mathlib.Core.List.{List, [], _∷_, _++_, append-nil}
 use lib.ListN.{drop, take}
+use lib.Seq.{drop-drop}
 use lib.Dec.{eqb}
 use borrow.Author.Tests.{ne-eqb, eqb-true}
 use Rattle.syntax.specs.Bytes.{run, starts, startsWith}
 use Rattle.syntax.specs.Marks.{Mark, moveUp, node, textNode}
 use Rattle.laws.specs.Bytes.{byCase, clash}
-use Rattle.laws.specs.Moving.{moveUp-twice, moveUp-zero}
+use Rattle.laws.specs.Moving.{marks-after, moveUp-twice, moveUp-zero}
 use Rattle.standard.specs.Peg.{Answer, fits, fails, Parser, many, some, turns, times, one, byte, withFirst, after, next, pure, _>>=_, _>>_, _/_, opt, void, in-node, as-text, only, never}
 
 module _ {A B : Type 0} where
@@ -130,6 +131,11 @@ module _ {A : Type 0} where
   after-none (fits a ns i) = ap₂ (λ r n. fits a r n) (moveUp-zero ns) (zero-add i)
   after-none fails = refl
 
+  pub after-twice : (ms : List Mark) (k : ℕ) (ns : List Mark) (j : ℕ) (a : Answer A) → after ms k (after ns j a) ≡ after (ms ++ moveUp k ns) (k + j) a
+  unfolding after
+  after-twice ms k ns j (fits a os i) = ap₂ (fits a) (marks-after ms k ns j os) (sym (add-assoc k j i))
+  after-twice ms k ns j fails = refl
+
   -- abstract rules
   pub only-passes : (v : Bool) (q : Parser A) (s : List ℕ) → v ≡ true → (only v >> q) s ≡ q s
   unfolding only pure
@@ -140,6 +146,16 @@ module _ {A : Type 0} where
   unfolding only never
   only-forbids true q s e = clash refl e
   only-forbids false q s e = then-fails (only false) q s refl
+
+  pub only-fails : (v : Bool) (q : Parser A) (s : List ℕ) → q s ≡ fails → (only v >> q) s ≡ fails
+  only-fails true q s e = only-passes true q s refl ∙ e
+  only-fails false q s e = only-forbids false q s refl
+
+-- reading on after marks and bytes
+pub next-after : {A B : Type 0} (s : List ℕ) (q : A → Parser B) (ms : List Mark) (k : ℕ) (a : Answer A) → next s q (after ms k a) ≡ after ms k (next (drop k s) q a)
+unfolding next after
+next-after s q ms k (fits a ns j) = ap (λ r. after (ms ++ moveUp k ns) (k + j) (q a r)) (sym (drop-drop j k s)) ∙ sym (after-twice ms k ns j (q a (drop j (drop k s))))
+next-after s q ms k fails = refl
 
 -- n times nothing
 unfoldable pub units : ℕ → List (Unit {0})
@@ -203,3 +219,59 @@ pub starts-other : (b c : ℕ) (s : List ℕ) → startsWith b s ≡ true → eq
 unfolding startsWith
 starts-other b c [] e h = refl
 starts-other b c (x ∷ xs) e h = rw (eqb-true x b e) h
+
+-- Answers that use a byte ---------------------------------------------------------------------------------------------------------------------
+
+abbrev pub Uses : {A : Type 0} → Answer A → Type 0
+Uses (fits a ms k) = 0 < k
+Uses fails = Unit {0}
+
+pub uses-after : {A : Type 0} (ms : List Mark) (k : ℕ) (a : Answer A) → Uses a → Uses (after ms k a)
+unfolding after
+uses-after ms k (fits a ns j) h = omega arith
+uses-after ms k fails h = tt
+
+pub uses-past : {A : Type 0} (ms : List Mark) (k : ℕ) (a : Answer A) → 0 < k → Uses (after ms k a)
+unfolding after
+uses-past ms k (fits a ns j) h = omega arith
+uses-past ms k fails h = tt
+
+module _ {A B : Type 0} where
+  -- the first part of a sequence uses one, or the rest
+  pub uses-first : (s : List ℕ) (q : A → Parser B) (a : Answer A) → Uses a → Uses (next s q a)
+  unfolding next
+  uses-first s q (fits a ms k) h = uses-past ms k (q a (drop k s)) h
+  uses-first s q fails h = tt
+
+  pub uses-rest : (s : List ℕ) (q : A → Parser B) (a : Answer A) → ((x : A) (r : List ℕ) → Uses (q x r)) → Uses (next s q a)
+  unfolding next
+  uses-rest s q (fits a ms k) h = uses-after ms k (q a (drop k s)) (h a (drop k s))
+  uses-rest s q fails h = tt
+
+module _ {A : Type 0} where
+  pub uses-choice : (p q : Parser A) (s : List ℕ) → Uses (p s) → Uses (q s) → Uses ((p / q) s)
+  unfolding _/_
+  uses-choice p q s h l = go (p s) h
+    where
+      go : (a : Answer A) → Uses a → Uses {A = A} (elim a [ fits x ms k ↦ fits x ms k | fails ↦ q s ])
+      go (fits x ms k) u = u
+      go fails u = l
+
+  pub uses-node : (kind : ℕ) (p : Parser A) (s : List ℕ) → Uses (p s) → Uses (in-node kind p s)
+  unfolding in-node
+  uses-node kind p s h = go (p s) h
+    where
+      go : (a : Answer A) → Uses a → Uses {A = A} (elim a [ fits x ms k ↦ fits x (node kind ms) k | fails ↦ fails ])
+      go (fits x ms k) u = u
+      go fails u = tt
+
+  pub uses-text : (kind : ℕ) (p : Parser A) (s : List ℕ) → Uses (p s) → Uses (as-text kind p s)
+  unfolding as-text
+  uses-text kind p s h = go (p s) h
+    where
+      go : (a : Answer A) → Uses a → Uses {A = List ℕ} (elim a [ fits x ms k ↦ fits (take k s) (textNode kind 0 k) k | fails ↦ fails ])
+      go (fits x ms k) u = u
+      go fails u = tt
+
+pub uses-one : (p : ℕ → Bool) (s : List ℕ) → Uses (one p s)
+uses-one p s = byCase (starts p s) (λ e. rw (one-fits p s e) (omega arith)) (λ e. rw (one-fails p s e) tt)
