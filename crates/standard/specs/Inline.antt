@@ -28,11 +28,11 @@ use Rattle.standard.specs.Abstract.{A8}
 use Rattle.standard.specs.Lexical.{Identifier, NumberLiteral, UnsignedLiteral, AttributeAccessor, VariableReference, blank?, digits, unsigned}
 use Rattle.standard.specs.Grammar as Grammar
 use Rattle.standard.specs.Grammar.{StringLiteral, MessageReference, FunctionReference, TermReference, InlineExpression, literal}
-use Rattle.standard.specs.Steps.{one-fits, one-fails, byte-fits, byte-fails, then-fits, then-fails, bind-fits, bind-fails, void-fits, void-fails, opt-fits, opt-fails, first, second, node-fits, node-fails, after-fails, only-passes, only-forbids, starts-other, choice-assoc}
+use Rattle.standard.specs.Steps.{one-fits, one-fails, byte-fits, byte-fails, then-fits, then-fails, bind-fits, bind-fails, void-fits, void-fails, opt-fits, opt-fails, first, second, node-fits, node-fails, after-fails, only-passes, only-forbids, starts-other, choice-assoc, Uses, uses-first, uses-choice, uses-node, uses-byte}
 use Rattle.standard.specs.Blank.{blanks, isBlankAt, over, over-over, drop-over, no-blanks, over-none, over-blanks, reader-skips, parser-skips}
 use Rattle.standard.specs.Same.{Same, nothing, Agree, reads-then, reads-bind, ok-pure, fits-pure, same-next, same-wrap, same-byte, expects, refuses}
 use Rattle.standard.specs.Near.{isOpening, Opens, opens-by, Left, Nearly, Near, nearly-near, same-near, near-pure, near-after, near-then, near-wrap, near-pick, near-first, near-second, Wrong, wrong-after, wrong-near}
-use Rattle.standard.specs.Words.{letter-names, nameOf, reads-name, parses-name, no-name, same-name, no-number, no-negative, no-unsigned-literal, number-literal, unsigned-literal, formOf, string-literal}
+use Rattle.standard.specs.Words.{letter-names, nameOf, reads-name, parses-name, no-name, same-name, no-number, no-negative, no-unsigned-literal, number-literal, unsigned-literal, formOf, string-literal, uses-name, uses-number}
 
 -- AttributeAccessor ---------------------------------------------------------------------------------------------------------------------------
 
@@ -78,6 +78,10 @@ unfolding given
 spaced-fails r e = second (blank? >> AttributeAccessor) AttributeAccessor r (parser-skips AttributeAccessor r ∙ after-fails [] (blanks r) e)
     ∙ byCase (startsWith 46 r) (λ q. subst (λ n. AttributeAccessor (drop n r) ≡ fails) (dot-first r q) e) (λ q. no-dot r q)
 
+-- what stands behind the blanks of r
+abbrev pub behind : List ℕ → List ℕ
+behind r = drop (blanks r) r
+
 -- References ----------------------------------------------------------------------------------------------------------------------------------
 
 -- a byte of a class is no byte outside of it
@@ -109,10 +113,6 @@ A8-is [] e = clash e refl
 A8-is (b ∷ bs) e = rw (letter-names b e, run) (byCase (isUpper b) (λ q. rw q refl) (λ q. rw q (rw (letter-no-digit b e) (rw (apart isLetter b 45 e refl) (rw (apart isLetter b 95 e refl) refl)))))
 
 module _ {sub₁ : Pattern.Inside} {sub₂ : Grammar.Inside} (agree : Agree sub₁ sub₂) where
-  -- what stands behind the blanks of r
-  abbrev behind : List ℕ → List ℕ
-  behind r = drop (blanks r) r
-
   truly : Out (Unit {0}) → Out Bool
   truly (ok u ms k) = ok true ms k
   truly (bad f k) = bad f k
@@ -410,10 +410,13 @@ module _ {sub₁ : Pattern.Inside} {sub₂ : Grammar.Inside} (agree : Agree sub�
   placeable-at s e = near-second formOf s (asInline (Reading.nestedPlaceable sub₁ s)) VariableReference from-placeable (no-variable s e)
       (same-near formOf s (asInline (Reading.nestedPlaceable sub₁ s)) (from-placeable s) (placeable-same s))
 
+  pub no-inline : (s : List ℕ) → startsWith 34 s ≡ false → starts isDigit s ≡ false → starts isLetter s ≡ false → startsWith 45 s ≡ false → startsWith 36 s ≡ false → startsWith 123 s ≡ false → InlineExpression rust sub₂ s ≡ fails
+  unfolding InlineExpression
+  no-inline s a b c d e f = second (StringLiteral rust) from-number s (no-string s a) ∙ second (NumberLiteral 20) from-reference s (no-number 20 s d b) ∙ past-references s c ∙ no-terms s (no-term s d) e f
+
   none-at : (s : List ℕ) (o : Out Inline) → Wrong o → startsWith 34 s ≡ false → starts isDigit s ≡ false → starts isLetter s ≡ false → startsWith 45 s ≡ false → startsWith 36 s ≡ false → startsWith 123 s ≡ false
-      → NearAt s o (StringLiteral rust / from-number)
-  none-at s o w a b c d e f = wrong-near formOf s o ((StringLiteral rust / from-number) s) w (rw (second (StringLiteral rust) from-number s (no-string s a) ∙ second (NumberLiteral 20) from-reference s (no-number 20 s d b)
-      ∙ past-references s c ∙ no-terms s (no-term s d) e f) tt)
+      → NearAt s o (InlineExpression rust sub₂)
+  none-at s o w a b c d e f = wrong-near formOf s o (InlineExpression rust sub₂ s) w (rw (no-inline s a b c d e f) tt)
 
   past-term-at : (s : List ℕ) (o : Out Inline) → startsWith 34 s ≡ false → starts isDigit s ≡ false → starts isLetter s ≡ false → startsWith 45 s ≡ false → NearAt s o from-variable → NearAt s o (StringLiteral rust / from-number)
   past-term-at s o q d l m h = past-string s o q (past-number s o (no-number 20 s m d) (past-reference s o l (past-term s o (no-term s m) h)))
@@ -476,3 +479,117 @@ module _ {sub₁ : Pattern.Inside} {sub₂ : Grammar.Inside} (agree : Agree sub�
       (λ d. near-pick formOf s (isLetter b) _ _ value
           (λ l. past-strings s (asInline (reference sub₁ s)) q (near-second formOf s (asInline (reference sub₁ s)) UnsignedLiteral (FunctionReference rust sub₂ / MessageReference rust) (no-unsigned-literal s d) (reference-near s l)))
           (λ l. no-literal-at s (noInline true s) tt q d l))))
+
+  -- each uses a byte
+  pub uses-inline : (s : List ℕ) → Uses (InlineExpression rust sub₂ s)
+  unfolding InlineExpression StringLiteral FunctionReference MessageReference TermReference VariableReference _>>_ _>>=_
+  uses-inline s = uses-choice (StringLiteral rust) from-number s (uses-first s _ (byte 34 s) (uses-byte 34 s))
+      (uses-choice (NumberLiteral 20) from-reference s (uses-number 20 s)
+      (uses-choice (FunctionReference rust sub₂) (MessageReference rust / from-term) s (uses-node 22 _ s (uses-first s _ (Identifier 9 s) (uses-name 9 s)))
+      (uses-choice (MessageReference rust) from-term s (uses-node 23 _ s (uses-first s _ (Identifier 9 s) (uses-name 9 s)))
+      (uses-choice (TermReference rust sub₂) from-variable s (uses-node 24 _ s (uses-first s _ (byte 45 s) (uses-byte 45 s)))
+      (uses-choice VariableReference from-placeable s (uses-node 21 _ s (uses-first s _ (byte 36 s) (uses-byte 36 s))) (uses-first s _ (sub₂ .inline-placeable s) (agree .uses-brace s)))))))
+
+  -- What an argument asks of a reference --------------------------------------------------------------------------------------------------------
+
+  reads-reference : (s : List ℕ) → starts isLetter s ≡ true → getInlineExpression sub₁ false s ≡ asInline (reference sub₁ s)
+  unfolding getInlineExpression starts isLetter
+  reads-reference [] l = clash l refl
+  reads-reference (b ∷ bs) l = rw (apart isLetter b 34 l refl, getInlineExpression) (rw (letter-no-digit b l) (rw l refl))
+
+  no-access : (s : List ℕ) → startsWith 46 s ≡ false → getAttributeAccessor s ≡ ok false [] 0
+  unfolding getAttributeAccessor
+  no-access s e = rw (e, getAttributeAccessor) refl
+
+  -- a name before ":"
+  pub colon-reference : (s : List ℕ) → starts isLetter s ≡ true → startsWith 58 (behind (drop (nameOf s) s)) ≡ true
+      → getInlineExpression sub₁ false s ≡ ok (message (nameOf s) false) (node 23 (textNode 9 0 (nameOf s) ++ moveUp (nameOf s) (moveUp (blanks (drop (nameOf s) s)) []))) (nameOf s + (blanks (drop (nameOf s) s) + 0))
+  unfolding asInline inlineKind
+  colon-reference s l e = reads-reference s l
+      ∙ ap asInline (read-message s l (no-call-read (drop (nameOf s) s) (starts-other 58 40 _ e refl)) (no-access (behind (drop (nameOf s) s)) (starts-other 58 46 _ e refl)))
+
+  -- other names have none
+  abbrev pub Uncoloned : List ℕ → Inline → ℕ → Type 0
+  Uncoloned s (message n false) k = startsWith 58 (drop (over s k) s) ≡ false
+  Uncoloned s (message n true) k = Unit {0}
+  Uncoloned s string k = Unit {0}
+  Uncoloned s number k = Unit {0}
+  Uncoloned s variable k = Unit {0}
+  Uncoloned s function k = Unit {0}
+  Uncoloned s inner k = Unit {0}
+  Uncoloned s (term a) k = Unit {0}
+
+  abbrev Free : List ℕ → Out Inline → Type 0
+  Free s o = Holds (λ x ms k. Uncoloned s x k) o
+
+  wrong-free : (s : List ℕ) (o : Out Inline) → Wrong o → Free s o
+  wrong-free s (ok x ms k) h = absurd h
+  wrong-free s (bad e k) h = tt
+  wrong-free s (deep k) h = tt
+
+  pick-free : (s : List ℕ) (v : Bool) (o o′ : Out Inline) → (v ≡ true → Free s o) → (v ≡ false → Free s o′) → Free s (elim v [ true ↦ o | false ↦ o′ ])
+  pick-free s true o o′ f g = f refl
+  pick-free s false o o′ f g = g refl
+
+  -- what is no message reference
+  other-free : (s : List ℕ) (kind : ℕ) → (kind ≡ 23 → ⊥) → (o : Out Inline) → Holds (λ x ms k. OfKind kind x) o → Free s (asInline o)
+  unfolding asInline inlineKind
+  other-free s kind z (ok (message n false) ms k) h = absurd (z (sym h))
+  other-free s kind z (ok (message n true) ms k) h = tt
+  other-free s kind z (ok string ms k) h = tt
+  other-free s kind z (ok number ms k) h = tt
+  other-free s kind z (ok variable ms k) h = tt
+  other-free s kind z (ok function ms k) h = tt
+  other-free s kind z (ok inner ms k) h = tt
+  other-free s kind z (ok (term a) ms k) h = tt
+  other-free s kind z (bad e k) h = tt
+  other-free s kind z (deep k) h = tt
+
+  string-free : (s : List ℕ) (o : Out (Unit {0})) → Free s (Reading.asString o)
+  unfolding Reading.asString
+  string-free s (ok u ms k) = tt
+  string-free s (bad e k) = tt
+  string-free s (deep k) = tt
+
+  number-free : (s : List ℕ) → Free s (Reading.numberLiteral s)
+  unfolding Reading.numberLiteral Reader._>>_ Reader.next Reader.pure Reader.after
+  number-free s = go (getNumberLiteral 20 s)
+    where
+      go : (o : Out ℕ) → Free s (Reader.next s (λ _. Reader.pure number) o)
+      go (ok n ms k) = tt
+      go (bad e k) = tt
+      go (deep k) = tt
+
+  nested-kind : (s : List ℕ) → Holds (λ x ms k. OfKind 13 x) (Reading.nestedPlaceable sub₁ s)
+  unfolding Reading.nestedPlaceable Reader._>>_ Reader.pure inlineKind
+  nested-kind s = plain-next (OfKind 13) s _ (sub₁ .braced s) (λ a r. refl)
+
+  reference-free : (s : List ℕ) → starts isLetter s ≡ true → startsWith 58 (behind (drop (nameOf s) s)) ≡ false → Free s (asInline (reference sub₁ s))
+  unfolding asInline truly Reader.next Reader.after referenceBy messageReference Reader._>>=_
+  reference-free s l h = byCase (startsWith 40 (behind (drop (nameOf s) s)))
+      (λ e. call ((Reader._>>_ skipBlank (sub₁ .parenthesised)) (drop (nameOf s) s)) (call-read (drop (nameOf s) s) e))
+      (λ e. plain (getAttributeAccessor (behind (drop (nameOf s) s))) refl (accessor (behind (drop (nameOf s) s))) (no-call-read (drop (nameOf s) s) e))
+    where
+      call : (o : Out (Unit {0})) → getCallArguments sub₁ (drop (nameOf s) s) ≡ truly o → Free s (asInline (reference sub₁ s))
+      call (ok u ms k) r = byCase (allBytes isCalleePart (take (nameOf s) s)) (λ c. rw (read-function s l r c) tt) (λ c. wrong-free s (asInline (reference sub₁ s)) (read-forbidden s l r c))
+      call (bad f k) r = rw (read-on s l r) tt
+      call (deep k) r = rw (read-on s l r) tt
+
+      plain : (o : Out Bool) → getAttributeAccessor (behind (drop (nameOf s) s)) ≡ o → Access (behind (drop (nameOf s) s)) o (AttributeAccessor (behind (drop (nameOf s) s)))
+          → getCallArguments sub₁ (drop (nameOf s) s) ≡ ok false [] (blanks (drop (nameOf s) s)) → Free s (asInline (reference sub₁ s))
+      plain (ok true ms k) o a r = rw (read-message s l r o) tt
+      plain (ok false ms k) o (m , z , a) r = rw (read-message s l r o) (rw (sym (past-blanks s l k z) ∙ ap (over s) (add-zero (nameOf s))) (rw (← drop-over s (nameOf s)) h))
+      plain (bad e k) o a r = rw (read-on s l r, o) tt
+      plain (deep k) o a r = rw (read-on s l r, o) tt
+
+  pub uncoloned : (s : List ℕ) → (starts isLetter s ≡ true → startsWith 58 (behind (drop (nameOf s) s)) ≡ false) → Holds (λ x ms k. Uncoloned s x k) (getInlineExpression sub₁ false s)
+  unfolding getInlineExpression nonLiteral noInline Reader.fail starts
+  uncoloned [] h = tt
+  uncoloned (b ∷ bs) h =
+      let s = b ∷ bs in
+      pick-free s (eqb b 34) _ _ (λ q. string-free s (Reading.stringLiteral s))
+      (λ q. pick-free s (isDigit b) _ _ (λ d. number-free s)
+      (λ d. pick-free s (isLetter b) _ _ (λ l. reference-free s l (h l))
+      (λ l. pick-free s (eqb b 45) _ _ (λ m. pick-free s (starts isLetter bs) _ _ (λ t. other-free s 24 (λ z. omega arith) (Reading.termReference sub₁ s) (term-kind s)) (λ t. number-free s))
+      (λ m. pick-free s (eqb b 36) _ _ (λ v. other-free s 21 (λ z. omega arith) (variableReference s) (variable-kind s))
+      (λ v. pick-free s (eqb b 123) _ _ (λ p. other-free s 13 (λ z. omega arith) (Reading.nestedPlaceable sub₁ s) (nested-kind s)) (λ p. tt))))))

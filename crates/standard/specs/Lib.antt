@@ -12,3 +12,4 @@ pub mod Same
 pub mod Near
 pub mod Words
 pub mod Inline
+pub mod Arguments

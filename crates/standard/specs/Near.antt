@@ -135,7 +135,7 @@ near-pure f g y s (bad e k) a h = left-pure s (g y) a h
 near-pure f g y s (deep k) a h = tt
 
 -- k bytes on
-over-after : (s : List ℕ) (k j : ℕ) → over s (k + j) ≡ k + over (drop k s) j
+pub over-after : (s : List ℕ) (k j : ℕ) → over s (k + j) ≡ k + over (drop k s) j
 unfolding over
 over-after s k j = ap (λ r. k + j + blanks r) (sym (drop-drop j k s)) ∙ add-assoc k j (blanks (drop j (drop k s)))
 

@@ -5,12 +5,12 @@ use native.Mathlib.Omega.{arith}
 use native.Mathlib.Nat.{add-zero}
 use mathlib.Core.Path.{_≡_, refl, sym, ap, ap₂, _∙_, subst, subst₂}
 use mathlib.Core.Bool.{Bool, true, false}
-use mathlib.Core.List.{List, [], _++_, append-nil}
+use mathlib.Core.List.{List, [], _∷_, _++_, append-nil}
 use lib.ListN.{drop, take}
 use lib.Seq.{drop-drop}
 use Rattle.syntax.specs.Kind as Kind
 use Rattle.syntax.specs.Bytes.{startsWith}
-use Rattle.syntax.specs.Marks.{Mark, moveUp}
+use Rattle.syntax.specs.Marks.{Mark, plain, up, moveUp, node}
 use Rattle.syntax.specs.declared.errors.ErrorKind.{ErrorKind}
 use Rattle.syntax.specs.declared.errors.ErrorKind.the-variants.{ExpectedToken}
 use Rattle.syntax.specs.Errors.{faultAt}
@@ -20,7 +20,7 @@ use Rattle.syntax.specs.Helper.{skipBlank, skipBlankInline, expectByte, asText}
 use Rattle.syntax.specs.Pattern as Pattern
 use Rattle.syntax.specs.Pattern.{getPattern}
 use Rattle.laws.specs.Bytes.{byCase}
-use Rattle.laws.specs.Moving.{after-after, moveUp-twice}
+use Rattle.laws.specs.Moving.{map-append, after-after, moveUp-twice, moveUp-nil}
 use Rattle.standard.specs.Dialect.{rust}
 use Rattle.standard.specs.Peg as Peg
 use Rattle.standard.specs.Peg.{Answer, fits, fails, Parser, _/_, byte, in-node, as-text, ahead, void}
@@ -116,6 +116,9 @@ module _ {A B : Type 0} where
   reads-after s q ms k (bad e j) = refl
   reads-after s q ms k (deep j) = refl
 
+pub reads-skip : {A : Type 0} (ms : List Mark) (k j : ℕ) (o : Out A) → Reader.after ms k (Reader.after [] j o) ≡ Reader.after ms (k + j) o
+reads-skip ms k j o = after-after ms k [] j o ∙ ap (λ ns. Reader.after (ms ++ ns) (k + j) o) (moveUp-nil k) ∙ ap (λ ns. Reader.after ns (k + j) o) (append-nil ms)
+
 -- another value
 pub ok-pure : {A : Type 0} (x : A) (ms : List Mark) (k : ℕ) → Reader.after ms k (ok x [] 0) ≡ ok x ms k
 unfolding Reader.after moveUp
@@ -143,6 +146,17 @@ unfolding wrap in-node
 same-wrap f kind (ok x ms k) p s h = rw (h, in-node) refl
 same-wrap f kind (bad e k) p s h = rw (h, in-node) refl
 same-wrap f kind (deep k) p s h = tt
+
+-- a node k bytes on
+pub node-up : (k kind : ℕ) (ms : List Mark) → moveUp k (node kind ms) ≡ node kind (moveUp k ms)
+unfolding node moveUp
+node-up k kind ms = ap (λ r. plain kind ∷ r) (map-append (up k) ms (plain (Kind.closing kind) ∷ []))
+
+pub wrap-after : {A : Type 0} (k kind : ℕ) (o : Out A) → Reader.after [] k (wrap kind o) ≡ wrap kind (Reader.after [] k o)
+unfolding Reader.after wrap
+wrap-after k kind (ok x ms j) = ap (λ r. ok x r (k + j)) (node-up k kind ms)
+wrap-after k kind (bad e j) = refl
+wrap-after k kind (deep j) = refl
 
 pub inside-node : {A B : Type 0} {f : A → B} {p : Reader A} {q : Parser B} (kind : ℕ) → Matches f p q → Matches f (inNode kind p) (in-node kind q)
 unfolding inNode

@@ -275,3 +275,7 @@ module _ {A : Type 0} where
 
 pub uses-one : (p : ℕ → Bool) (s : List ℕ) → Uses (one p s)
 uses-one p s = byCase (starts p s) (λ e. rw (one-fits p s e) (omega arith)) (λ e. rw (one-fails p s e) tt)
+
+pub uses-byte : (b : ℕ) (s : List ℕ) → Uses (byte b s)
+unfolding byte
+uses-byte b s = uses-one (λ x. eqb x b) s

@@ -22,7 +22,7 @@ use Rattle.standard.specs.Peg.{Answer, fits, fails, Parser, opt, many, s
 use Rattle.standard.specs.Abstract as Abstract
 use Rattle.standard.specs.Lexical.{digits, unsigned, Identifier, NumberLiteral, UnsignedLiteral, line-end, any-char, special-quoted-char, unicode-escape}
 use Rattle.standard.specs.Grammar.{special-escape, quoted-char, StringLiteral}
-use Rattle.standard.specs.Steps.{many-run, some-run, one-fits, one-fails, byte-fits, byte-fails, then-fits, then-fails, void-fits, void-fails, some-fails, opt-fits, opt-fails, text-fits, text-fails, turns-more, turns-on, turns-end, times-fits, times-fails, after-fails, after-none}
+use Rattle.standard.specs.Steps.{many-run, some-run, one-fits, one-fails, byte-fits, byte-fails, then-fits, then-fails, void-fits, void-fails, some-fails, opt-fits, opt-fails, text-fits, text-fails, turns-more, turns-on, turns-end, times-fits, times-fails, after-fails, after-none, Uses, uses-first, uses-rest, uses-text, uses-one}
 use Rattle.standard.specs.Blank.{blanks, isBlankAt, over, lineEnds, no-line-end}
 use Rattle.standard.specs.Same.{Same, nothing, Matches, expects, refuses}
 use Rattle.standard.specs.Near.{isOpening, Opens, Nearly, nearly-next, nearly-text, nearly-pure}
@@ -56,6 +56,10 @@ no-name kind s e = text-fails kind (one isLetter >> many (one isNamePart)) s (th
 pub same-name : (kind : ℕ) (s : List ℕ) → Same (λ n. take n s) (getIdentifier kind s) (Identifier kind s)
 unfolding getIdentifier Reader.fail
 same-name kind s = byCase (starts isLetter s) (λ e. rw (reads-name kind s e) (parses-name kind s e)) (λ e. rw (e, getIdentifier) (no-name kind s e))
+
+pub uses-name : (kind : ℕ) (s : List ℕ) → Uses (Identifier kind s)
+unfolding Identifier _>>_
+uses-name kind s = uses-text kind (one isLetter >> many (one isNamePart)) s (uses-first s (λ _. many (one isNamePart)) (one isLetter s) (uses-one isLetter s))
 
 -- NumberLiteral -------------------------------------------------------------------------------------------------------------------------------
 
@@ -128,6 +132,11 @@ no-negative kind s e h = then-fails (as-text kind (opt tt (byte 45) >> unsigned)
 pub no-unsigned-literal : (s : List ℕ) → starts isDigit s ≡ false → UnsignedLiteral s ≡ fails
 unfolding UnsignedLiteral
 no-unsigned-literal s e = then-fails (as-text 20 unsigned) (Peg.pure Abstract.number) s (text-fails 20 unsigned s (no-unsigned s e))
+
+pub uses-number : (kind : ℕ) (s : List ℕ) → Uses (NumberLiteral kind s)
+unfolding NumberLiteral unsigned digits void some _>>_ _>>=_
+uses-number kind s = uses-first s _ (as-text kind (opt tt (byte 45) >> unsigned) s) (uses-text kind (opt tt (byte 45) >> unsigned) s (uses-rest s _ (opt tt (byte 45) s)
+    (λ x r. uses-first r _ (digits r) (uses-first r _ (some (one isDigit) r) (uses-first r _ (one isDigit r) (uses-one isDigit r))))))
 
 -- the number of a named argument
 pub unsigned-literal : (s : List ℕ) → startsWith 45 s ≡ false → UnsignedLiteral s ≡ NumberLiteral 20 s
