@@ -13,3 +13,4 @@ pub mod Near
 pub mod Words
 pub mod Inline
 pub mod Arguments
+pub mod Select

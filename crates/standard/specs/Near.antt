@@ -19,7 +19,7 @@ use Rattle.standard.specs.Peg.{Answer, fits, fails, Parser, _/_, in-node
 use Rattle.standard.specs.Lexical.{blank?}
 use Rattle.standard.specs.Steps.{text-fits, text-fails, node-fits, node-fails, after-fails, first, second}
 use Rattle.standard.specs.Blank.{blanks, over, drop-over, reader-skips, parser-skips}
-use Rattle.standard.specs.Same.{Same, same-skip}
+use Rattle.standard.specs.Same.{Same, same-skip, fits-pure}
 
 unfoldable pub isOpening : ℕ → Bool
 isOpening b = eqb b 40 || eqb b 46
@@ -126,6 +126,13 @@ unfolding Reader.next Reader.pure Reader.after Peg.next Peg.pure Peg.after
 nearly-pure f g y s (ok x ms k) a h = rw h refl
 nearly-pure f g y s (bad e k) a h = left-pure s (g y) a h
 nearly-pure f g y s (deep k) a h = tt
+
+-- another value on the grammar's side alone
+pub nearly-void : {A B D : Type 0} (f : A → B) (y : D) (s : List ℕ) (o : Out A) (a : Answer B) → Nearly f s o a → Nearly (λ x. y) s o (Peg.next s (λ _. Peg.pure y) a)
+unfolding Peg.next Peg.pure
+nearly-void f y s (ok x ms k) a h = rw h (fits-pure y ms k)
+nearly-void f y s (bad e k) a h = left-pure s y a h
+nearly-void f y s (deep k) a h = tt
 
 pub near-pure : {A B C D : Type 0} (f : A → B) (g : C → D) (y : C) (s : List ℕ) (o : Out A) (a : Answer B) → Near f s o a
     → Near g s (Reader.next s (λ _. Reader.pure y) o) (Peg.next s (λ _. Peg.pure (g y)) a)

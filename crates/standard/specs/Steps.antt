@@ -215,6 +215,11 @@ pub byte-fails : (b : ℕ) (s : List ℕ) → startsWith b s ≡ false → byte 
 unfolding byte
 byte-fails b s e = one-fails (λ x. eqb x b) s (starts-byte b s ∙ e)
 
+pub starts-apart : (p : ℕ → Bool) (c : ℕ) (s : List ℕ) → starts p s ≡ true → p c ≡ false → startsWith c s ≡ false
+unfolding starts startsWith
+starts-apart p c [] e h = refl
+starts-apart p c (x ∷ xs) e h = byCase (eqb x c) (λ q. clash e (ap p (eqb-true x c q) ∙ h)) (λ q. q)
+
 pub starts-other : (b c : ℕ) (s : List ℕ) → startsWith b s ≡ true → eqb b c ≡ false → startsWith c s ≡ false
 unfolding startsWith
 starts-other b c [] e h = refl

@@ -25,7 +25,7 @@ use Rattle.standard.specs.Grammar.{special-escape, quoted-char, StringLi
 use Rattle.standard.specs.Steps.{many-run, some-run, one-fits, one-fails, byte-fits, byte-fails, then-fits, then-fails, void-fits, void-fails, some-fails, opt-fits, opt-fails, text-fits, text-fails, turns-more, turns-on, turns-end, times-fits, times-fails, after-fails, after-none, Uses, uses-first, uses-rest, uses-text, uses-one}
 use Rattle.standard.specs.Blank.{blanks, isBlankAt, over, lineEnds, no-line-end}
 use Rattle.standard.specs.Same.{Same, nothing, Matches, expects, refuses}
-use Rattle.standard.specs.Near.{isOpening, Opens, Nearly, nearly-next, nearly-text, nearly-pure}
+use Rattle.standard.specs.Near.{isOpening, Opens, Nearly, nearly-next, nearly-text, nearly-void, nearly-pure}
 
 -- Identifier ----------------------------------------------------------------------------------------------------------------------------------
 
@@ -107,12 +107,22 @@ number-nearly : (s : List ℕ) → Nearly nothing s (readNumber s) ((opt tt (byt
 unfolding readNumber Reader._>>_ _>>_
 number-nearly s = nearly-next nothing nothing s (λ _. unsignedNumber) (λ _. unsigned) (takeByteIf 45 s) (opt tt (byte 45) s) (minus-same s) (λ x r. unsigned-nearly r)
 
+number-text : (kind : ℕ) (s : List ℕ) → Nearly (λ k. take k s) s (getNumberLiteral kind s) (as-text kind (opt tt (byte 45) >> unsigned) s)
+unfolding getNumberLiteral
+number-text kind s = nearly-text nothing kind s (readNumber s) (opt tt (byte 45) >> unsigned) (number-nearly s)
+
+-- without its value
+pub number-void : (kind : ℕ) (s : List ℕ) → Nearly nothing s (getNumberLiteral kind s) (void (NumberLiteral kind) s)
+unfolding NumberLiteral void _>>_
+number-void kind s = nearly-void (λ n. Abstract.number) tt s (getNumberLiteral kind s) (NumberLiteral kind s)
+    (nearly-void (λ k. take k s) Abstract.number s (getNumberLiteral kind s) (as-text kind (opt tt (byte 45) >> unsigned) s) (number-text kind s))
+
 -- with its value
 pub number-literal : (kind : ℕ) {C : Type 0} (y : C) (f : C → Abstract.Form) (s : List ℕ) → f y ≡ Abstract.number
     → Nearly f s ((Reader._>>_ (getNumberLiteral kind) (Reader.pure y)) s) (NumberLiteral kind s)
-unfolding Reader._>>_ NumberLiteral _>>_ getNumberLiteral
+unfolding Reader._>>_ NumberLiteral _>>_
 number-literal kind y f s e = subst (λ v. Nearly f s ((Reader._>>_ (getNumberLiteral kind) (Reader.pure y)) s) ((as-text kind (opt tt (byte 45) >> unsigned) >> Peg.pure v) s)) e
-    (nearly-pure (λ k. take k s) f y s (asText kind (readNumber s)) (as-text kind (opt tt (byte 45) >> unsigned) s) (nearly-text nothing kind s (readNumber s) (opt tt (byte 45) >> unsigned) (number-nearly s)))
+    (nearly-pure (λ k. take k s) f y s (getNumberLiteral kind s) (as-text kind (opt tt (byte 45) >> unsigned) s) (number-text kind s))
 
 -- where there is none
 no-unsigned : (s : List ℕ) → starts isDigit s ≡ false → unsigned s ≡ fails
