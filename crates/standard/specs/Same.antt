@@ -116,6 +116,16 @@ module _ {A B : Type 0} where
   reads-after s q ms k (bad e j) = refl
   reads-after s q ms k (deep j) = refl
 
+-- which two of three readers are put together first
+pub reads-assoc : {A B C : Type 0} (p : Reader A) (q : Reader B) (w : Reader C) (s : List ℕ) → (Reader._>>_ p (Reader._>>_ q w)) s ≡ (Reader._>>_ (Reader._>>_ p q) w) s
+unfolding Reader._>>_
+reads-assoc {A} p q w s = go (p s)
+  where
+    go : (o : Out A) → Reader.next s (λ _ r. Reader.next r (λ _. w) (q r)) o ≡ Reader.next s (λ _. w) (Reader.next s (λ _. q) o)
+    go (ok a ms k) = unfold Reader.next in (sym (reads-after s (λ _. w) ms k (q (drop k s))))
+    go (bad e k) = unfold Reader.next in refl
+    go (deep k) = unfold Reader.next in refl
+
 pub reads-skip : {A : Type 0} (ms : List Mark) (k j : ℕ) (o : Out A) → Reader.after ms k (Reader.after [] j o) ≡ Reader.after ms (k + j) o
 reads-skip ms k j o = after-after ms k [] j o ∙ ap (λ ns. Reader.after (ms ++ ns) (k + j) o) (moveUp-nil k) ∙ ap (λ ns. Reader.after ns (k + j) o) (append-nil ms)
 

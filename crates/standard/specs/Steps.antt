@@ -13,7 +13,7 @@ use Rattle.syntax.specs.Bytes.{run, starts, startsWith}
 use Rattle.syntax.specs.Marks.{Mark, moveUp, node, textNode}
 use Rattle.laws.specs.Bytes.{byCase, clash}
 use Rattle.laws.specs.Moving.{marks-after, moveUp-twice, moveUp-zero}
-use Rattle.standard.specs.Peg.{Answer, fits, fails, Parser, many, some, turns, times, one, byte, withFirst, after, next, pure, _>>=_, _>>_, _/_, opt, void, in-node, as-text, only, never}
+use Rattle.standard.specs.Peg.{Answer, fits, fails, Parser, many, some, turns, times, one, byte, withFirst, after, next, pure, _>>=_, _>>_, _/_, opt, void, in-node, as-text, only, never, ahead}
 
 module _ {A B : Type 0} where
   -- sequence
@@ -115,6 +115,15 @@ module _ {A : Type 0} where
   pub text-fails : (kind : ℕ) (p : Parser A) (s : List ℕ) → p s ≡ fails → as-text kind p s ≡ fails
   unfolding as-text
   text-fails kind p s e = rw (e, as-text) refl
+
+  -- looking ahead
+  pub ahead-fits : (p : Parser A) (s : List ℕ) {a : A} {ms : List Mark} {k : ℕ} → p s ≡ fits a ms k → ahead p s ≡ fits tt [] 0
+  unfolding ahead
+  ahead-fits p s e = rw (e, ahead) refl
+
+  pub ahead-fails : (p : Parser A) (s : List ℕ) → p s ≡ fails → ahead p s ≡ fails
+  unfolding ahead
+  ahead-fails p s e = rw (e, ahead) refl
 
   -- answers that follow answers
   pub after-fails : (ms : List Mark) (k : ℕ) {a : Answer A} → a ≡ fails → after ms k a ≡ fails
