@@ -1,21 +1,21 @@
 -- Select expressions: the reading's against the grammar's.
-use Prim.Native.Nat.{ℕ, zero, suc, _+_, _-_, _≤_, _<_}
+use Prim.Native.Nat.{ℕ, zero, suc, _+_, _≤_, _<_}
 use native.Mathlib.Omega.{arith}
 use native.Mathlib.Nat.{add-zero, add-assoc, not-suc-le-zero}
-use mathlib.Core.Path.{_≡_, refl, sym, ap, ap₂, _∙_, subst, subst₂}
+use mathlib.Core.Path.{_≡_, refl, sym, ap, ap₂, _∙_, subst}
 use mathlib.Core.Logic.{_⊎_, inl, inr}
-use mathlib.Core.Bool.{Bool, true, false, _&&_, _||_, not}
+use mathlib.Core.Bool.{Bool, true, false, _||_}
 use mathlib.Core.List.{List, [], _∷_, _++_, append-nil}
 use lib.ListN.{drop, length, take, length-drop}
 use lib.Seq.{drop-drop}
 use lib.Dec.{eqb, ltb}
-use borrow.Author.Tests.{eqb-true, ltb-true}
-use Rattle.syntax.specs.Bytes.{starts, startsWith, second as secondByte, run, eol, spaces, isLetter, isDigit}
-use Rattle.syntax.specs.Marks.{Mark, moveUp, textNode, node}
+use borrow.Author.Tests.{eqb-true}
+use Rattle.syntax.specs.Bytes.{starts, startsWith, run, eol, spaces, isLetter, isDigit}
+use Rattle.syntax.specs.Marks.{Mark, moveUp, node}
 use Rattle.syntax.specs.declared.errors.ParserError.{ParserError}
 use Rattle.syntax.specs.Reader as Reader
 use Rattle.syntax.specs.Reader.{Out, ok, bad, deep, Reader, Turn, again, done, turnOf, loop, repeat, wrap, inNode}
-use Rattle.syntax.specs.Helper.{skipBlank, skipBlankInline, skipEol, expectByte, getIdentifier, getNumberLiteral}
+use Rattle.syntax.specs.Helper.{skipBlank, skipEol, expectByte, getIdentifier, getNumberLiteral}
 use Rattle.syntax.specs.Pattern as Pattern
 use Rattle.syntax.specs.Pattern.{getPattern}
 use Rattle.syntax.specs.Expression as Reading
@@ -24,15 +24,15 @@ use Rattle.laws.specs.Bytes.{byCase, clash}
 use Rattle.laws.specs.Moving.{moveUp-nil, after-after}
 use Rattle.standard.specs.Dialect.{rust, all}
 use Rattle.standard.specs.Peg as Peg
-use Rattle.standard.specs.Peg.{Answer, fits, fails, Parser, opt, many, some, turns, byte, void, ahead, given, pick, only, in-node, shared, share, withFirst, _/_, _>>_, _>>=_}
+use Rattle.standard.specs.Peg.{Answer, fits, fails, Parser, many, turns, byte, void, ahead, given, shared, share, withFirst, _/_, _>>_, _>>=_}
 use Rattle.standard.specs.Abstract.{Line}
-use Rattle.standard.specs.Lexical.{Identifier, NumberLiteral, VariantKey, blank?, blank-inline, blank-inline?, blank-line, blank-block, line-end}
+use Rattle.standard.specs.Lexical.{Identifier, NumberLiteral, VariantKey, blank?, blank-inline?, blank-block, line-end}
 use Rattle.standard.specs.Grammar as Grammar
 use Rattle.standard.specs.Grammar.{Variant, DefaultVariant, variants, bare-variants, variant-list}
-use Rattle.standard.specs.Steps.{byte-fits, byte-fails, then-fits, then-fails, bind-fits, bind-fails, opt-fits, opt-fails, some-fits, void-fits, void-fails, first, second, choice-first, shared-first, node-fits, node-fails, after-fails, after-none, after-skip, after-twice, next-after, turns-more, turns-end, turns-on, turns-still, ahead-fits, ahead-fails, starts-other, starts-apart, Uses, uses-first, uses-byte}
-use Rattle.standard.specs.Blank.{blanks, isBlankAt, over, over-over, drop-over, no-blanks, no-blank-at, blanks-on, spaces-blanks, eol-blanks, lineEnds, line-end-is, no-line-end, opt-inline, blank?-is, blank-inline?-is, skipBlank-is, reader-skips, parser-skips, Blanked, Lines, block-lines, ends-spaces}
-use Rattle.standard.specs.Same.{Same, nothing, Matches, Agree, PatternAgrees, SamePattern, whole-pattern, node-up, same-after, same-skip, same-wrap, same-byte, same-blank, then, reads-then, reads-bind, reads-assoc, reads-after, reads-skip, ok-pure, fits-pure, expects, refuses}
-use Rattle.standard.specs.Near.{isOpening, Opens, Left, Near, nearly-near, same-near, near-next, near-first, near-second, near-pick, over-after}
+use Rattle.standard.specs.Steps.{byte-fits, byte-fails, then-fits, then-fails, void-fits, void-fails, second, choice-first, shared-first, node-fits, node-fails, after-fails, after-none, after-skip, next-after, turns-more, turns-end, ahead-fits, ahead-fails, starts-other, starts-apart, Uses, uses-first, uses-byte}
+use Rattle.standard.specs.Blank.{blanks, over, drop-over, no-blanks, no-blank-at, blanks-on, spaces-blanks, eol-blanks, lineEnds, line-end-is, no-line-end, blank-inline?-is, reader-skips, parser-skips, Blanked, Lines, block-lines, ends-spaces}
+use Rattle.standard.specs.Same.{Same, nothing, Matches, PatternAgrees, SamePattern, whole-pattern, node-up, same-byte, same-blank, then, reads-then, reads-bind, reads-assoc, reads-skip, ok-pure}
+use Rattle.standard.specs.Near.{isOpening, Near, nearly-near, same-near, near-next, near-first, near-second, near-pick, over-after}
 use Rattle.standard.specs.Words.{no-number, no-name, same-name, number-void}
 use Rattle.standard.specs.Inline.{behind, digit-no-letter}
 

@@ -236,7 +236,7 @@ pub one-fails : (p : ℕ → Bool) (s : List ℕ) → starts p s ≡ false → o
 unfolding one
 one-fails p s e = rw (e, one) refl
 
-starts-byte : (b : ℕ) (s : List ℕ) → starts (λ x. eqb x b) s ≡ startsWith b s
+pub starts-byte : (b : ℕ) (s : List ℕ) → starts (λ x. eqb x b) s ≡ startsWith b s
 unfolding starts startsWith
 starts-byte b [] = refl
 starts-byte b (x ∷ xs) = refl
