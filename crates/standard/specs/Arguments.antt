@@ -112,8 +112,8 @@ separator-read names s = reader-skips _ s ∙ ap (Reader.after [] (blanks s)) (g
 
     go : (t : List ℕ) → blanks t ≡ 0 → (Reader._>>_ (takeByteIf 44) end) t ≡ ok names [] (commaUsed t)
     go t z = byCase (startsWith 44 t)
-      (λ e. let h : takeByteIf 44 t ≡ ok true [] 1 = rw (e, takeByteIf) refl in reads-then (takeByteIf 44) end t h ∙ ap (Reader.after [] 1) (reader-skips (Reader.pure names) (drop 1 t)) ∙ rw (e, commaUsed) (ap (ok names []) (omega arith)))
-      (λ e. let h : takeByteIf 44 t ≡ ok false [] 0 = rw (e, takeByteIf) refl in reads-then (takeByteIf 44) end t h ∙ ap (Reader.after [] 0) (reader-skips (Reader.pure names) t) ∙ rw (e, commaUsed, z) refl)
+        (λ e. let h : takeByteIf 44 t ≡ ok true [] 1 = rw (e, takeByteIf) refl in reads-then (takeByteIf 44) end t h ∙ ap (Reader.after [] 1) (reader-skips (Reader.pure names) (drop 1 t)) ∙ rw (e, commaUsed) (ap (ok names []) (omega arith)))
+        (λ e. let h : takeByteIf 44 t ≡ ok false [] 0 = rw (e, takeByteIf) refl in reads-then (takeByteIf 44) end t h ∙ ap (Reader.after [] 0) (reader-skips (Reader.pure names) t) ∙ rw (e, commaUsed, z) refl)
 
 separator-parsed : (sub : Grammar.Inside) (s : List ℕ) → Grammar.separator rust sub s ≡ fits tt [] (blanks s + commaUsed (drop (blanks s) s))
 unfolding Grammar.separator commaUsed pick rust all Peg.after moveUp
@@ -121,8 +121,8 @@ separator-parsed sub s = parser-skips _ s ∙ ap (Peg.after [] (blanks s)) (go (
   where
     go : (t : List ℕ) → blanks t ≡ 0 → (opt tt (byte 44) >> blank?) t ≡ fits tt [] (commaUsed t)
     go t z = byCase (startsWith 44 t)
-      (λ e. then-fits (opt tt (byte 44)) blank? t (opt-fits tt (byte 44) t (byte-fits 44 t e)) ∙ ap (Peg.after [] 1) (blank?-is (drop 1 t)) ∙ rw (e, commaUsed) refl)
-      (λ e. then-fits (opt tt (byte 44)) blank? t (opt-fails tt (byte 44) t (byte-fails 44 t e)) ∙ ap (Peg.after [] 0) (blank?-is t) ∙ rw (e, commaUsed, z) refl)
+        (λ e. then-fits (opt tt (byte 44)) blank? t (opt-fits tt (byte 44) t (byte-fits 44 t e)) ∙ ap (Peg.after [] 1) (blank?-is (drop 1 t)) ∙ rw (e, commaUsed) refl)
+        (λ e. then-fits (opt tt (byte 44)) blank? t (opt-fails tt (byte 44) t (byte-fails 44 t e)) ∙ ap (Peg.after [] 0) (blank?-is t) ∙ rw (e, commaUsed, z) refl)
 
 -- no blank is left behind it
 comma-blanks : (t : List ℕ) → blanks t ≡ 0 → blanks (drop (commaUsed t) t) ≡ 0
@@ -237,11 +237,11 @@ module _ {sub₁ : Pattern.Inside} {sub₂ : Grammar.Inside} (agree : Agree sub�
   stuck-at : (b : ℕ) (bs : List ℕ) → (isOpening b || eqb b 58) ≡ true → Stuck (b ∷ bs)
   unfolding isOpening blanks isBlankAt eol startsWith starts isLetter isDigit
   stuck-at b bs e = byCase (eqb b 40) (λ q. subst (λ x. Stuck (x ∷ bs)) (sym (eqb-true b 40 q))
-          (record { unblank = refl; uncommaed = refl; unclosed = refl; unargued = no-argument (40 ∷ bs) (no-named (40 ∷ bs) refl) (no-inline agree (40 ∷ bs) refl refl refl refl refl refl) }))
+      (record { unblank = refl; uncommaed = refl; unclosed = refl; unargued = no-argument (40 ∷ bs) (no-named (40 ∷ bs) refl) (no-inline agree (40 ∷ bs) refl refl refl refl refl refl) }))
       (λ q. byCase (eqb b 46) (λ r. subst (λ x. Stuck (x ∷ bs)) (sym (eqb-true b 46 r))
-          (record { unblank = refl; uncommaed = refl; unclosed = refl; unargued = no-argument (46 ∷ bs) (no-named (46 ∷ bs) refl) (no-inline agree (46 ∷ bs) refl refl refl refl refl refl) }))
+      (record { unblank = refl; uncommaed = refl; unclosed = refl; unargued = no-argument (46 ∷ bs) (no-named (46 ∷ bs) refl) (no-inline agree (46 ∷ bs) refl refl refl refl refl refl) }))
       (λ r. byCase (eqb b 58) (λ t. subst (λ x. Stuck (x ∷ bs)) (sym (eqb-true b 58 t))
-          (record { unblank = refl; uncommaed = refl; unclosed = refl; unargued = no-argument (58 ∷ bs) (no-named (58 ∷ bs) refl) (no-inline agree (58 ∷ bs) refl refl refl refl refl refl) }))
+      (record { unblank = refl; uncommaed = refl; unclosed = refl; unargued = no-argument (58 ∷ bs) (no-named (58 ∷ bs) refl) (no-inline agree (58 ∷ bs) refl refl refl refl refl refl) }))
       (λ t. clash e (rw q (rw r (rw t refl))))))
 
   opens-stuck : (t : List ℕ) → Opens t → Stuck t
@@ -296,15 +296,15 @@ module _ {sub₁ : Pattern.Inside} {sub₂ : Grammar.Inside} (agree : Agree sub�
   inline-step : (names : List (List ℕ)) (s : List ℕ) → blanks s ≡ 0 → startsWith 41 s ≡ false → NamedArgument rust sub₂ s ≡ fails → (o : Out Inline) → Near formOf s o (InlineExpression rust sub₂ s)
       → Holds (λ x ms k. Uncoloned agree s x k) o → Step names s (argumentBy sub₁ names s o)
   unfolding argumentBy afterReference
-  inline-step names s z c e (ok (message n false) ms k) (j , h , l) u = subst (λ p. Step names s (afterReference sub₁ names n ms p s)) (sym (past-is k s))
+  inline-step names s z c e (ok (message n false) ms k) (j, h, l) u = subst (λ p. Step names s (afterReference sub₁ names n ms p s)) (sym (past-is k s))
       (rw (u, afterReference) (positional-step names s ms (over s k) j (positional-fits s e h) (l ∙ sym (over-over s k))))
-  inline-step names s z c e (ok (message n true) ms k) (j , h , l) u = positional-step names s ms k j (positional-fits s e h) l
-  inline-step names s z c e (ok string ms k) (j , h , l) u = positional-step names s ms k j (positional-fits s e h) l
-  inline-step names s z c e (ok number ms k) (j , h , l) u = positional-step names s ms k j (positional-fits s e h) l
-  inline-step names s z c e (ok variable ms k) (j , h , l) u = positional-step names s ms k j (positional-fits s e h) l
-  inline-step names s z c e (ok function ms k) (j , h , l) u = positional-step names s ms k j (positional-fits s e h) l
-  inline-step names s z c e (ok inner ms k) (j , h , l) u = positional-step names s ms k j (positional-fits s e h) l
-  inline-step names s z c e (ok (term a) ms k) (j , h , l) u = positional-step names s ms k j (positional-fits s e h) l
+  inline-step names s z c e (ok (message n true) ms k) (j, h, l) u = positional-step names s ms k j (positional-fits s e h) l
+  inline-step names s z c e (ok string ms k) (j, h, l) u = positional-step names s ms k j (positional-fits s e h) l
+  inline-step names s z c e (ok number ms k) (j, h, l) u = positional-step names s ms k j (positional-fits s e h) l
+  inline-step names s z c e (ok variable ms k) (j, h, l) u = positional-step names s ms k j (positional-fits s e h) l
+  inline-step names s z c e (ok function ms k) (j, h, l) u = positional-step names s ms k j (positional-fits s e h) l
+  inline-step names s z c e (ok inner ms k) (j, h, l) u = positional-step names s ms k j (positional-fits s e h) l
+  inline-step names s z c e (ok (term a) ms k) (j, h, l) u = positional-step names s ms k j (positional-fits s e h) l
   inline-step names s z c e (bad f k) h u = bad-step names s z c e (InlineExpression rust sub₂ s) refl h
   inline-step names s z c e (deep k) h u = tt
 
@@ -394,7 +394,7 @@ module _ {sub₁ : Pattern.Inside} {sub₂ : Grammar.Inside} (agree : Agree sub�
       value-step : (names : List (List ℕ)) → isAmong name names ≡ false → (o : Out Inline) → Near formOf (drop value-at s) o (literal rust sub₂ (drop value-at s))
           → Step names s (Reader.next s (λ _. Reading.separator (name ∷ names)) (wrap 26 (Reader.after (textNode 9 0 (nameOf s)) value-at o)))
       unfolding Reader.next Reader.after wrap A9-after
-      value-step names q (ok x ms k) (j , e , h) =
+      value-step names q (ok x ms k) (j, e, h) =
           step-ok names (name ∷ names) s (named name) (node 26 (textNode 9 0 (nameOf s) ++ moveUp value-at ms)) (value-at + k) (value-at + j) (named-fits e) (value-over k j h) (λ args. rw q refl)
       value-step names q (bad f k) h = go (literal rust sub₂ (drop value-at s)) refl h
         where
@@ -459,7 +459,7 @@ module _ {sub₁ : Pattern.Inside} {sub₂ : Grammar.Inside} (agree : Agree sub�
       → ((names′ : List (List ℕ)) (r : List ℕ) → blanks r ≡ 0 → length r ≤ n → Same nothing (reads-closed m names′ r) (listed-closed n names′ r))
       → Same nothing (Reader.next s (λ _. expectByte 41) (turned m s (turnOf o))) (listed-closed (suc n) names s)
   unfolding turnOf
-  list-more m n names s (ok names′ ms p) (a , k , e , q , f) l i ih =
+  list-more m n names s (ok names′ ms p) (a, k, e, q, f) l i ih =
       let u : 0 < k = subst Uses e (uses-argument s) in
       let z : blanks (drop p s) ≡ 0 = subst (λ j. blanks (drop j s) ≡ 0) q (separated-blanks s k) in
       rw (reads-after s (λ _. expectByte 41) ms p (loop m (argumentTurn sub₁) names′ (drop p s)), closed-on n names names′ s e f, q)
