@@ -29,11 +29,11 @@ use Rattle.standard.specs.Lexical.{Identifier, blank?}
 use Rattle.standard.specs.Grammar as Grammar
 use Rattle.standard.specs.Grammar.{InlineExpression, literal, NamedArgument, Argument, argument-list, CallArguments}
 use Rattle.standard.specs.Steps.{byte-fits, byte-fails, then-fits, then-fails, bind-fits, bind-fails, opt-fits, opt-fails, first, second, node-fits, node-fails, after-fails, after-none, after-skip, only-passes, only-forbids, only-fails, next-after, Uses, uses-first, uses-choice, uses-node}
-use Rattle.standard.specs.Blank.{blanks, isBlankAt, over, over-over, drop-over, no-blanks, blank?-is, skipBlank-is, reader-skips, parser-skips}
+use Rattle.standard.specs.Blank.{behind, blanks, isBlankAt, over, over-over, drop-over, no-blanks, blank?-is, skipBlank-is, reader-skips, parser-skips}
 use Rattle.standard.specs.Same.{Same, nothing, Agree, same-after, same-wrap, wrap-after, then, same-blank, same-byte, reads-then, reads-after, reads-skip, fits-pure, expects}
 use Rattle.standard.specs.Near.{isOpening, Opens, Left, Near, over-after}
 use Rattle.standard.specs.Words.{nameOf, parses-name, no-name, uses-name, formOf}
-use Rattle.standard.specs.Inline.{behind, inline-near, literal-near, no-inline, uses-inline, colon-reference, Uncoloned, uncoloned}
+use Rattle.standard.specs.Inline.{inline-near, literal-near, no-inline, uses-inline, colon-reference, Uncoloned, uncoloned}
 
 -- A9 ------------------------------------------------------------------------------------------------------------------------------------------
 
@@ -103,9 +103,9 @@ commaUsed s = elim (startsWith 44 s) [ true ↦ 1 + blanks (drop 1 s) | false �
 unfoldable pub separated : List ℕ → ℕ → ℕ
 separated s k = over s k + commaUsed (drop (over s k) s)
 
-separator-read : (names : List (List ℕ)) (s : List ℕ) → Reading.separator names s ≡ ok names [] (blanks s + commaUsed (drop (blanks s) s))
+separator-read : (names : List (List ℕ)) (s : List ℕ) → Reading.separator names s ≡ ok names [] (blanks s + commaUsed (behind s))
 unfolding Reading.separator commaUsed takeByteIf Reader.pure Reader.after moveUp
-separator-read names s = reader-skips _ s ∙ ap (Reader.after [] (blanks s)) (go (drop (blanks s) s) (no-blanks s))
+separator-read names s = reader-skips _ s ∙ ap (Reader.after [] (blanks s)) (go (behind s) (no-blanks s))
   where
     end : Reader (List (List ℕ))
     end = Reader._>>_ skipBlank (Reader.pure names)
@@ -115,9 +115,9 @@ separator-read names s = reader-skips _ s ∙ ap (Reader.after [] (blanks s)) (g
         (λ e. let h : takeByteIf 44 t ≡ ok true [] 1 = rw (e, takeByteIf) refl in reads-then (takeByteIf 44) end t h ∙ ap (Reader.after [] 1) (reader-skips (Reader.pure names) (drop 1 t)) ∙ rw (e, commaUsed) (ap (ok names []) (omega arith)))
         (λ e. let h : takeByteIf 44 t ≡ ok false [] 0 = rw (e, takeByteIf) refl in reads-then (takeByteIf 44) end t h ∙ ap (Reader.after [] 0) (reader-skips (Reader.pure names) t) ∙ rw (e, commaUsed, z) refl)
 
-separator-parsed : (sub : Grammar.Inside) (s : List ℕ) → Grammar.separator rust sub s ≡ fits tt [] (blanks s + commaUsed (drop (blanks s) s))
+separator-parsed : (sub : Grammar.Inside) (s : List ℕ) → Grammar.separator rust sub s ≡ fits tt [] (blanks s + commaUsed (behind s))
 unfolding Grammar.separator commaUsed pick rust all Peg.after moveUp
-separator-parsed sub s = parser-skips _ s ∙ ap (Peg.after [] (blanks s)) (go (drop (blanks s) s) (no-blanks s))
+separator-parsed sub s = parser-skips _ s ∙ ap (Peg.after [] (blanks s)) (go (behind s) (no-blanks s))
   where
     go : (t : List ℕ) → blanks t ≡ 0 → (opt tt (byte 44) >> blank?) t ≡ fits tt [] (commaUsed t)
     go t z = byCase (startsWith 44 t)
@@ -137,7 +137,7 @@ unfolding separated
 separated-blanks s k = rw (← drop-drop (commaUsed (drop (over s k) s)) (over s k) s) (comma-blanks (drop (over s k) s) (over-blank s k))
 
 -- the separator k bytes on
-separator-from : (s : List ℕ) (k : ℕ) → k + (blanks (drop k s) + commaUsed (drop (blanks (drop k s)) (drop k s))) ≡ separated s k
+separator-from : (s : List ℕ) (k : ℕ) → k + (blanks (drop k s) + commaUsed (behind (drop k s))) ≡ separated s k
 unfolding separated over
 separator-from s k = ap (λ r. k + (blanks (drop k s) + commaUsed r)) (drop-over s k) ∙ sym (add-assoc k (blanks (drop k s)) (commaUsed (drop (over s k) s)))
 
@@ -153,7 +153,7 @@ module _ {sub₁ : Pattern.Inside} {sub₂ : Grammar.Inside} (agree : Agree sub�
   list-on : (n : ℕ) (s : List ℕ) {a : Arg} {ms : List Mark} {k : ℕ} → argument s ≡ fits a ms k → listed (suc n) s ≡ withFirst a (Peg.after ms (separated s k) (listed n (drop (separated s k) s)))
   unfolding listTurns
   list-on n s {a} {ms} {k} e =
-      let i = blanks (drop k s) + commaUsed (drop (blanks (drop k s)) (drop k s)) in
+      let i = blanks (drop k s) + commaUsed (behind (drop k s)) in
       rw (e, listTurns, separator-parsed sub₂ (drop k s)) (ap (withFirst a) (after-skip ms k i (listed n (drop i (drop k s)))
       ∙ ap (λ r. Peg.after ms (k + i) (listed n r)) (drop-drop i k s) ∙ ap (λ j. Peg.after ms j (listed n (drop j s))) (separator-from s k)))
 
@@ -320,7 +320,7 @@ module _ {sub₁ : Pattern.Inside} {sub₂ : Grammar.Inside} (agree : Agree sub�
     abbrev value-at : ℕ
     value-at = colon-at + (1 + blanks (drop 1 (drop colon-at s)))
 
-    value-drop : drop (blanks (drop 1 (drop colon-at s))) (drop 1 (drop colon-at s)) ≡ drop value-at s
+    value-drop : behind (drop 1 (drop colon-at s)) ≡ drop value-at s
     value-drop = drop-drop (blanks (drop 1 (drop colon-at s))) 1 (drop colon-at s) ∙ drop-drop (1 + blanks (drop 1 (drop colon-at s))) colon-at s
 
     named-value : List ℕ → Parser Arg

@@ -31,6 +31,10 @@ unfoldable pub blanks : List ℕ → ℕ
 blanks [] = 0
 blanks (b ∷ bs) = elim (isBlankAt b bs) [ true ↦ suc (blanks bs) | false ↦ 0 ]
 
+-- what stands behind the blanks
+abbrev pub behind : List ℕ → List ℕ
+behind s = drop (blanks s) s
+
 -- where blanks k bytes on end
 unfoldable pub over : List ℕ → ℕ → ℕ
 over s k = k + blanks (drop k s)
@@ -67,7 +71,7 @@ no-blank-at c [] e p q r = refl
 no-blank-at c (x ∷ xs) e p q r = subst (λ y. blanks (y ∷ xs) ≡ 0) (sym (eqb-true x c e)) (rw (p, blanks, isBlankAt, q, eol, r) refl)
 
 -- no blank is left behind blanks
-pub no-blanks : (s : List ℕ) → blanks (drop (blanks s) s) ≡ 0
+pub no-blanks : (s : List ℕ) → blanks (behind s) ≡ 0
 unfolding blanks
 no-blanks [] = refl
 no-blanks (b ∷ bs) = byCase (isBlankAt b bs) (λ q. rw (q, blanks) (no-blanks bs)) (λ q. rw (q, blanks) (rw (q, blanks) refl))
@@ -218,15 +222,15 @@ pub over-over : (s : List ℕ) (k : ℕ) → over s (over s k) ≡ over s k
 unfolding over
 over-over s k = rw (← drop-drop (blanks (drop k s)) k s) (omega (arith, no-blanks (drop k s)))
 
-pub drop-over : (s : List ℕ) (k : ℕ) → drop (blanks (drop k s)) (drop k s) ≡ drop (over s k) s
+pub drop-over : (s : List ℕ) (k : ℕ) → behind (drop k s) ≡ drop (over s k) s
 unfolding over
 drop-over s k = drop-drop (blanks (drop k s)) k s
 
-pub reader-skips : {A : Type 0} (q : Reader.Reader A) (s : List ℕ) → (Reader._>>_ skipBlank q) s ≡ Reader.after [] (blanks s) (q (drop (blanks s) s))
+pub reader-skips : {A : Type 0} (q : Reader.Reader A) (s : List ℕ) → (Reader._>>_ skipBlank q) s ≡ Reader.after [] (blanks s) (q (behind s))
 unfolding Reader._>>_ Reader.next
 reader-skips q s = rw (skipBlank-is s, Reader._>>_) refl
 
-pub parser-skips : {A : Type 0} (q : Parser A) (s : List ℕ) → (blank? >> q) s ≡ Peg.after [] (blanks s) (q (drop (blanks s) s))
+pub parser-skips : {A : Type 0} (q : Parser A) (s : List ℕ) → (blank? >> q) s ≡ Peg.after [] (blanks s) (q (behind s))
 parser-skips q s = then-fits blank? q s (blank?-is s)
 
 pub over-none : (s : List ℕ) → over s 0 ≡ blanks s

@@ -28,7 +28,7 @@ use Rattle.standard.specs.Lexical.{Identifier, NumberLiteral, UnsignedLi
 use Rattle.standard.specs.Grammar as Grammar
 use Rattle.standard.specs.Grammar.{StringLiteral, MessageReference, FunctionReference, TermReference, InlineExpression, literal}
 use Rattle.standard.specs.Steps.{byte-fits, byte-fails, then-fits, then-fails, bind-fits, bind-fails, void-fits, void-fails, opt-fits, opt-fails, first, second, node-fits, node-fails, after-fails, only-passes, only-forbids, starts-other, choice-assoc, Uses, uses-first, uses-choice, uses-node, uses-byte}
-use Rattle.standard.specs.Blank.{blanks, over, over-over, drop-over, no-blank-at, over-none, over-blanks, reader-skips, parser-skips}
+use Rattle.standard.specs.Blank.{behind, blanks, over, over-over, drop-over, no-blank-at, over-none, over-blanks, reader-skips, parser-skips}
 use Rattle.standard.specs.Same.{Same, nothing, Agree, reads-bind, ok-pure, fits-pure, same-next, same-wrap, same-byte, expects}
 use Rattle.standard.specs.Near.{isOpening, Opens, opens-by, Left, Near, nearly-near, same-near, near-pure, near-after, near-then, near-wrap, near-pick, near-first, near-second, Wrong, wrong-near}
 use Rattle.standard.specs.Words.{letter-names, nameOf, reads-name, parses-name, no-name, same-name, no-number, no-negative, no-unsigned-literal, number-literal, unsigned-literal, formOf, string-literal, uses-name, uses-number}
@@ -62,18 +62,14 @@ accessor s = byCase (startsWith 46 s) (λ e. rw (e, getAttributeAccessor) (go e 
 abbrev spaced : Parser (Unit {0})
 spaced = given true (blank? >> AttributeAccessor) / AttributeAccessor
 
-spaced-fits : (r : List ℕ) {ms : List Mark} {k : ℕ} → AttributeAccessor (drop (blanks r) r) ≡ fits tt ms k → spaced r ≡ fits tt (moveUp (blanks r) ms) (blanks r + k)
+spaced-fits : (r : List ℕ) {ms : List Mark} {k : ℕ} → AttributeAccessor (behind r) ≡ fits tt ms k → spaced r ≡ fits tt (moveUp (blanks r) ms) (blanks r + k)
 unfolding given Peg.after
 spaced-fits r e = first (blank? >> AttributeAccessor) AttributeAccessor r (parser-skips AttributeAccessor r ∙ ap (Peg.after [] (blanks r)) e)
 
-spaced-fails : (r : List ℕ) → AttributeAccessor (drop (blanks r) r) ≡ fails → spaced r ≡ fails
+spaced-fails : (r : List ℕ) → AttributeAccessor (behind r) ≡ fails → spaced r ≡ fails
 unfolding given
 spaced-fails r e = second (blank? >> AttributeAccessor) AttributeAccessor r (parser-skips AttributeAccessor r ∙ after-fails [] (blanks r) e)
     ∙ byCase (startsWith 46 r) (λ q. subst (λ n. AttributeAccessor (drop n r) ≡ fails) (no-blank-at 46 r q refl refl refl) e) (λ q. no-dot r q)
-
--- what stands behind the blanks of r
-abbrev pub behind : List ℕ → List ℕ
-behind r = drop (blanks r) r
 
 -- References ----------------------------------------------------------------------------------------------------------------------------------
 

@@ -18,7 +18,7 @@ use Rattle.standard.specs.Peg as Peg
 use Rattle.standard.specs.Peg.{Answer, fits, fails, Parser, _/_, in-node, as-text}
 use Rattle.standard.specs.Lexical.{blank?}
 use Rattle.standard.specs.Steps.{text-fits, text-fails, node-fits, node-fails, after-fails, first, second}
-use Rattle.standard.specs.Blank.{blanks, over, drop-over, reader-skips, parser-skips}
+use Rattle.standard.specs.Blank.{behind, blanks, over, drop-over, reader-skips, parser-skips}
 use Rattle.standard.specs.Same.{Same, same-skip, fits-pure}
 
 unfoldable pub isOpening : ℕ → Bool
@@ -91,11 +91,11 @@ module _ {A B C D : Type 0} (f : A → B) (g : C → D) where
       → Same g (Reader.next s (λ x. Reader._>>_ skipBlank (q x)) o) (Peg.next s (λ y. Peg._>>_ blank? (q′ y)) a)
   unfolding Reader.next Peg.next Reader._>>_ Peg._>>_ over
   near-next s q q′ (ok x ms k) a (j, e, h) l d =
-      let r : drop (blanks (drop k s)) (drop k s) ≡ drop (blanks (drop j s)) (drop j s) = drop-over s k ∙ ap (λ n. drop n s) (sym h) ∙ sym (drop-over s j) in
+      let r : behind (drop k s) ≡ behind (drop j s) = drop-over s k ∙ ap (λ n. drop n s) (sym h) ∙ sym (drop-over s j) in
       rw (e, reader-skips (q x) (drop k s), parser-skips (q′ (f x)) (drop j s))
-      (same-skip g ms k (blanks (drop k s)) j (blanks (drop j s)) (q x (drop (blanks (drop k s)) (drop k s))) (q′ (f x) (drop (blanks (drop j s)) (drop j s))) (sym h)
-      (subst (λ z. Same g (q x (drop (blanks (drop k s)) (drop k s))) (q′ (f x) z)) r (l x (drop (blanks (drop k s)) (drop k s)))))
-  near-next s q q′ (bad e k) (fits y ms j) h l d = after-fails ms j (parser-skips (q′ y) (drop j s) ∙ after-fails [] (blanks (drop j s)) (d y (drop (blanks (drop j s)) (drop j s)) (subst Opens (sym (drop-over s j)) h)))
+      (same-skip g ms k (blanks (drop k s)) j (blanks (drop j s)) (q x (behind (drop k s))) (q′ (f x) (behind (drop j s))) (sym h)
+      (subst (λ z. Same g (q x (behind (drop k s))) (q′ (f x) z)) r (l x (behind (drop k s)))))
+  near-next s q q′ (bad e k) (fits y ms j) h l d = after-fails ms j (parser-skips (q′ y) (drop j s) ∙ after-fails [] (blanks (drop j s)) (d y (behind (drop j s)) (subst Opens (sym (drop-over s j)) h)))
   near-next s q q′ (bad e k) fails h l d = refl
   near-next s q q′ (deep k) a h l d = tt
 

@@ -25,11 +25,11 @@ use Rattle.standard.specs.Lexical.{blank?, blank-inline?}
 use Rattle.standard.specs.Grammar as Grammar
 use Rattle.standard.specs.Grammar.{InlineExpression, variant-list, SelectExpression, expression, inline-placeable, nesting}
 use Rattle.standard.specs.Steps.{byte-fits, byte-fails, then-fits, then-fails, bind-fits, bind-fails, node-fits, node-fails, after-fails, after-skip, only-passes, only-forbids, starts-byte, starts-other, starts-apart, Uses, uses-first, uses-node, uses-byte}
-use Rattle.standard.specs.Blank.{blanks, over, drop-over, no-blanks, spaces-blanks, blank-inline?-is, reader-skips, parser-skips}
+use Rattle.standard.specs.Blank.{behind, blanks, over, drop-over, no-blanks, spaces-blanks, blank-inline?-is, reader-skips, parser-skips}
 use Rattle.standard.specs.Same.{Same, nothing, Agree, PatternAgrees, same-skip, same-wrap, same-byte, same-blank, then, reads-then, reads-skip, ok-pure, fits-pure, expects, refuses}
 use Rattle.standard.specs.Near.{isOpening, Opens, Left, Near, Wrong, wrong-next, wrong-after}
 use Rattle.standard.specs.Words.{formOf}
-use Rattle.standard.specs.Inline.{behind, inline-near}
+use Rattle.standard.specs.Inline.{inline-near}
 use Rattle.standard.specs.Arguments.{arguments-agree, no-arguments}
 use Rattle.standard.specs.Select.{Ended, ended-after, reads-lines, variants-ended}
 

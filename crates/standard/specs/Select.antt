@@ -30,11 +30,11 @@ use Rattle.standard.specs.Lexical.{Identifier, NumberLiteral, VariantKey
 use Rattle.standard.specs.Grammar as Grammar
 use Rattle.standard.specs.Grammar.{Variant, DefaultVariant, variants, bare-variants, variant-list}
 use Rattle.standard.specs.Steps.{byte-fits, byte-fails, then-fits, then-fails, void-fits, void-fails, second, choice-first, shared-first, node-fits, node-fails, after-fails, after-none, after-skip, next-after, turns-more, turns-end, ahead-fits, ahead-fails, starts-other, starts-apart, Uses, uses-first, uses-byte}
-use Rattle.standard.specs.Blank.{blanks, over, drop-over, no-blanks, no-blank-at, blanks-on, spaces-blanks, eol-blanks, lineEnds, line-end-is, no-line-end, blank-inline?-is, reader-skips, parser-skips, Blanked, Lines, block-lines, ends-spaces}
+use Rattle.standard.specs.Blank.{behind, blanks, over, drop-over, no-blanks, no-blank-at, blanks-on, spaces-blanks, eol-blanks, lineEnds, line-end-is, no-line-end, blank-inline?-is, reader-skips, parser-skips, Blanked, Lines, block-lines, ends-spaces}
 use Rattle.standard.specs.Same.{Same, nothing, Matches, PatternAgrees, SamePattern, whole-pattern, node-up, same-byte, same-blank, then, reads-then, reads-bind, reads-assoc, reads-skip, ok-pure}
 use Rattle.standard.specs.Near.{isOpening, Near, nearly-near, same-near, near-next, near-first, near-second, near-pick, over-after}
 use Rattle.standard.specs.Words.{no-number, no-name, same-name, number-void}
-use Rattle.standard.specs.Inline.{behind, digit-no-letter}
+use Rattle.standard.specs.Inline.{digit-no-letter}
 
 -- VariantKey ----------------------------------------------------------------------------------------------------------------------------------
 
