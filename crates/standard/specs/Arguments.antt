@@ -18,7 +18,6 @@ use Rattle.syntax.specs.Pattern as Pattern
 use Rattle.syntax.specs.Expression as Reading
 use Rattle.syntax.specs.Expression.{Inline, string, number, variable, function, inner, message, term, getInlineExpression, sameBytes, isAmong, isNone, namedValue, namedArgument, afterReference, pastBlank, argumentBy, argumentTurn, parenthesised}
 use Rattle.laws.specs.Bytes.{byCase, clash}
-use Rattle.laws.specs.Moving.{moveUp-nil}
 use Rattle.laws.specs.Stable.{Holds}
 use Rattle.standard.specs.Dialect.{rust, all}
 use Rattle.standard.specs.Peg as Peg
@@ -28,7 +27,7 @@ use Rattle.standard.specs.Abstract.{Arg, named, same, freshIn, A9}
 use Rattle.standard.specs.Lexical.{Identifier, blank?}
 use Rattle.standard.specs.Grammar as Grammar
 use Rattle.standard.specs.Grammar.{InlineExpression, literal, NamedArgument, Argument, argument-list, CallArguments}
-use Rattle.standard.specs.Steps.{byte-fits, byte-fails, then-fits, then-fails, bind-fits, bind-fails, opt-fits, opt-fails, first, second, node-fits, node-fails, after-fails, after-none, after-skip, only-passes, only-forbids, only-fails, next-after, Uses, uses-first, uses-choice, uses-node}
+use Rattle.standard.specs.Steps.{moveUp-none, byte-fits, byte-fails, then-fits, then-fails, bind-fits, bind-fails, opt-fits, opt-fails, first, second, node-fits, node-fails, after-fails, after-none, after-skip, only-passes, only-forbids, only-fails, next-after, Uses, uses-first, uses-choice, uses-node}
 use Rattle.standard.specs.Blank.{behind, blanks, isBlankAt, over, over-over, drop-over, no-blanks, blank?-is, skipBlank-is, reader-skips, parser-skips}
 use Rattle.standard.specs.Same.{Same, nothing, Agree, same-after, same-wrap, wrap-after, then, same-blank, same-byte, reads-then, reads-after, reads-skip, fits-pure, expects}
 use Rattle.standard.specs.Near.{isOpening, Opens, Left, Near, over-after}
@@ -275,7 +274,7 @@ module _ {sub₁ : Pattern.Inside} {sub₂ : Grammar.Inside} (agree : Agree sub�
       → Step names s (Reader.after ms k (Reading.separator names′ (drop k s)))
   unfolding Reader.after
   step-ok names names′ s a ms k j e h f = rw (separator-read names′ (drop k s))
-      (a, j, e ∙ ap (λ l. fits a l j) (sym (ap (λ r. ms ++ r) (moveUp-nil k) ∙ append-nil ms)), separated-same s j k h ∙ sym (separator-from s k), f)
+      (a, j, e ∙ ap (λ l. fits a l j) (sym (ap (λ r. ms ++ r) (moveUp-none k) ∙ append-nil ms)), separated-same s j k h ∙ sym (separator-from s k), f)
 
   -- a positional argument
   positional-step : (names : List (List ℕ)) (s : List ℕ) (ms : List Mark) (k j : ℕ) → argument s ≡ fits Arg.positional ms j → over s j ≡ over s k → Step names s (Reading.positional names ms k s)

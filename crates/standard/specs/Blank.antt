@@ -15,9 +15,8 @@ use Rattle.syntax.specs.Reader as Reader
 use Rattle.syntax.specs.Reader.{ok, loop, repeat}
 use Rattle.syntax.specs.Helper.{blankTurn, skipBlank}
 use Rattle.laws.specs.Bytes.{byCase, clash}
-use Rattle.laws.specs.Moving.{moveUp-nil}
 use Rattle.standard.specs.Peg as Peg
-use Rattle.standard.specs.Steps.{some-run, first, second, turns-on, turns-end, turns-still, opt-fits, opt-fails, void-fits, void-fails, some-fits, some-fails, byte-fits, byte-fails, then-fits, then-fails, after-fails, bind-fits, bind-fails, turns-more}
+use Rattle.standard.specs.Steps.{moveUp-none, some-run, first, second, turns-on, turns-end, turns-still, opt-fits, opt-fails, void-fits, void-fails, some-fits, some-fails, byte-fits, byte-fails, then-fits, then-fails, after-fails, bind-fits, bind-fails, turns-more}
 use Rattle.standard.specs.Peg.{fits, fails, Parser, _/_, opt, many, some, turns, one, byte, sized, void, eof, _>>=_, _>>_, Answer, withFirst}
 use Rattle.standard.specs.Abstract.{Line}
 use Rattle.standard.specs.Lexical.{line-end, blank-inline, blank-inline?, blank, blank?, blank-line, blank-block}
@@ -298,5 +297,5 @@ unfolding blank-block many
 block-lines s e = go (many blank-line (drop (spaces s + eol (drop (spaces s) s)) s)) refl (lines-turns (length (drop (spaces s + eol (drop (spaces s) s)) s)) (drop (spaces s + eol (drop (spaces s) s)) s))
   where
     go : (a : Answer (List Line)) → many blank-line (drop (spaces s + eol (drop (spaces s) s)) s) ≡ a → Lines (drop (spaces s + eol (drop (spaces s) s)) s) a → Lines s (blank-block s)
-    go (fits ls ms j) h (m, b) = rw (some-fits blank-line s (line-is s e) h) (ap (moveUp (spaces s + eol (drop (spaces s) s))) m ∙ moveUp-nil (spaces s + eol (drop (spaces s) s)), blanked-on s (spaces s + eol (drop (spaces s) s)) j (line-blanked s) b)
+    go (fits ls ms j) h (m, b) = rw (some-fits blank-line s (line-is s e) h) (ap (moveUp (spaces s + eol (drop (spaces s) s))) m ∙ moveUp-none (spaces s + eol (drop (spaces s) s)), blanked-on s (spaces s + eol (drop (spaces s) s)) j (line-blanked s) b)
     go fails h b = absurd b

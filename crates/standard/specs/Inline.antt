@@ -17,7 +17,6 @@ use Rattle.syntax.specs.Pattern as Pattern
 use Rattle.syntax.specs.Expression as Reading
 use Rattle.syntax.specs.Expression.{Inline, string, number, variable, function, inner, message, term, inlineKind, asInline, callArguments, getCallArguments, getAttributeAccessor, variableReference, functionReference, messageReference, referenceBy, reference, noInline, nonLiteral, getInlineExpression}
 use Rattle.laws.specs.Bytes.{byCase, clash}
-use Rattle.laws.specs.Moving.{moveUp-nil}
 use Rattle.laws.specs.Stable.{Holds, plain-next}
 use Rattle.standard.specs.Dialect.{rust, all}
 use Rattle.standard.specs.Peg as Peg
@@ -27,7 +26,7 @@ use Rattle.standard.specs.Abstract.{A8}
 use Rattle.standard.specs.Lexical.{Identifier, NumberLiteral, UnsignedLiteral, AttributeAccessor, VariableReference, blank?}
 use Rattle.standard.specs.Grammar as Grammar
 use Rattle.standard.specs.Grammar.{StringLiteral, MessageReference, FunctionReference, TermReference, InlineExpression, literal}
-use Rattle.standard.specs.Steps.{byte-fits, byte-fails, then-fits, then-fails, bind-fits, bind-fails, void-fits, void-fails, opt-fits, opt-fails, first, second, node-fits, node-fails, after-fails, only-passes, only-forbids, starts-other, choice-assoc, Uses, uses-first, uses-choice, uses-node, uses-byte}
+use Rattle.standard.specs.Steps.{moveUp-none, byte-fits, byte-fails, then-fits, then-fails, bind-fits, bind-fails, void-fits, void-fails, opt-fits, opt-fails, first, second, node-fits, node-fails, after-fails, only-passes, only-forbids, starts-other, choice-assoc, Uses, uses-first, uses-choice, uses-node, uses-byte}
 use Rattle.standard.specs.Blank.{behind, blanks, over, over-over, drop-over, no-blank-at, over-none, over-blanks, reader-skips, parser-skips}
 use Rattle.standard.specs.Same.{Same, nothing, Agree, reads-bind, ok-pure, fits-pure, same-next, same-wrap, same-byte, expects}
 use Rattle.standard.specs.Near.{isOpening, Opens, opens-by, Left, Near, nearly-near, same-near, near-pure, near-after, near-then, near-wrap, near-pick, near-first, near-second, Wrong, wrong-near}
@@ -215,7 +214,7 @@ module _ {sub₁ : Pattern.Inside} {sub₂ : Grammar.Inside} (agree : Agree sub�
         plain : (o : Out Bool) → getAttributeAccessor (behind past) ≡ o → Access (behind past) o (AttributeAccessor (behind past)) → getCallArguments sub₁ past ≡ ok false [] (blanks past)
             → FunctionReference rust sub₂ s ≡ fails → Near formOf s (asInline (reference sub₁ s)) ((FunctionReference rust sub₂ / MessageReference rust) s)
         plain (ok true ms k) o h r f = rw (read-message r o) (nameOf s + (blanks past + k), second (FunctionReference rust sub₂) (MessageReference rust) s f ∙ message-fits (spaced-fits past h), refl)
-        plain (ok false ms k) o (m, z, h) r f = rw (read-message r o) (nameOf s + 0, second (FunctionReference rust sub₂) (MessageReference rust) s f ∙ message-plain (spaced-fails past h) ∙ ap (λ l. fits Abstract.messageReference (node 23 (named l)) (nameOf s + 0)) (sym (ap (moveUp (blanks past)) m ∙ moveUp-nil (blanks past))), past-blanks k z)
+        plain (ok false ms k) o (m, z, h) r f = rw (read-message r o) (nameOf s + 0, second (FunctionReference rust sub₂) (MessageReference rust) s f ∙ message-plain (spaced-fails past h) ∙ ap (λ l. fits Abstract.messageReference (node 23 (named l)) (nameOf s + 0)) (sym (ap (moveUp (blanks past)) m ∙ moveUp-none (blanks past))), past-blanks k z)
         plain (bad e k) o (d, h) r f = rw (read-on r, o) (leaves 46 refl d f (spaced-fails past h))
         plain (deep k) o h r f = rw (read-on r, o) tt
 

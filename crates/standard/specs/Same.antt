@@ -21,11 +21,11 @@ use Rattle.syntax.specs.Helper.{skipBlank, skipBlankInline, expectByte, asText}
 use Rattle.syntax.specs.Pattern as Pattern
 use Rattle.syntax.specs.Pattern.{getPattern}
 use Rattle.laws.specs.Bytes.{byCase}
-use Rattle.laws.specs.Moving.{map-append, after-after, moveUp-twice, moveUp-nil}
+use Rattle.laws.specs.Moving.{map-append, after-after, moveUp-twice}
 use Rattle.standard.specs.Dialect.{rust}
 use Rattle.standard.specs.Peg as Peg
 use Rattle.standard.specs.Peg.{Answer, fits, fails, Parser, _/_, byte, in-node, as-text, ahead, void}
-use Rattle.standard.specs.Steps.{Uses, byte-fits, byte-fails, first, second, text-fits, text-fails, node-fits, node-fails}
+use Rattle.standard.specs.Steps.{moveUp-none, Uses, byte-fits, byte-fails, first, second, text-fits, text-fails, node-fits, node-fails}
 use Rattle.standard.specs.Lexical.{line-end, blank?, blank-inline?, blank-block}
 use Rattle.standard.specs.Grammar as Grammar
 use Rattle.standard.specs.Blank.{behind, skipBlank-is, blank?-is, blank-inline?-is}
@@ -128,7 +128,7 @@ reads-assoc {A} p q w s = go (p s)
     go (deep k) = unfold Reader.next in refl
 
 pub reads-skip : {A : Type 0} (ms : List Mark) (k j : ℕ) (o : Out A) → Reader.after ms k (Reader.after [] j o) ≡ Reader.after ms (k + j) o
-reads-skip ms k j o = after-after ms k [] j o ∙ ap (λ ns. Reader.after (ms ++ ns) (k + j) o) (moveUp-nil k) ∙ ap (λ ns. Reader.after ns (k + j) o) (append-nil ms)
+reads-skip ms k j o = after-after ms k [] j o ∙ ap (λ ns. Reader.after (ms ++ ns) (k + j) o) (moveUp-none k) ∙ ap (λ ns. Reader.after ns (k + j) o) (append-nil ms)
 
 -- another value
 pub ok-pure : {A : Type 0} (x : A) (ms : List Mark) (k : ℕ) → Reader.after ms k (ok x [] 0) ≡ ok x ms k

@@ -21,7 +21,7 @@ use Rattle.syntax.specs.Pattern.{getPattern}
 use Rattle.syntax.specs.Expression as Reading
 use Rattle.syntax.specs.Expression.{keyText, getVariantKey, needsValue, variantKind, endVariants, needsLineEnd, variantWith, afterStar, turnAfter, variantTurn, getVariants}
 use Rattle.laws.specs.Bytes.{byCase, clash}
-use Rattle.laws.specs.Moving.{moveUp-nil, after-after}
+use Rattle.laws.specs.Moving.{after-after}
 use Rattle.standard.specs.Dialect.{rust, all}
 use Rattle.standard.specs.Peg as Peg
 use Rattle.standard.specs.Peg.{Answer, fits, fails, Parser, many, turns, byte, void, ahead, given, shared, share, withFirst, _/_, _>>_, _>>=_}
@@ -29,7 +29,7 @@ use Rattle.standard.specs.Abstract.{Line}
 use Rattle.standard.specs.Lexical.{Identifier, NumberLiteral, VariantKey, blank?, blank-inline?, blank-block, line-end}
 use Rattle.standard.specs.Grammar as Grammar
 use Rattle.standard.specs.Grammar.{Variant, DefaultVariant, variants, bare-variants, variant-list}
-use Rattle.standard.specs.Steps.{byte-fits, byte-fails, then-fits, then-fails, void-fits, void-fails, second, choice-first, shared-first, node-fits, node-fails, after-fails, after-none, after-skip, next-after, turns-more, turns-end, ahead-fits, ahead-fails, starts-other, starts-apart, Uses, uses-first, uses-byte}
+use Rattle.standard.specs.Steps.{moveUp-none, byte-fits, byte-fails, then-fits, then-fails, void-fits, void-fails, second, choice-first, shared-first, node-fits, node-fails, after-fails, after-none, after-skip, next-after, turns-more, turns-end, ahead-fits, ahead-fails, starts-other, starts-apart, Uses, uses-first, uses-byte}
 use Rattle.standard.specs.Blank.{behind, blanks, over, drop-over, no-blanks, no-blank-at, blanks-on, spaces-blanks, eol-blanks, lineEnds, line-end-is, no-line-end, blank-inline?-is, reader-skips, parser-skips, Blanked, Lines, block-lines, ends-spaces}
 use Rattle.standard.specs.Same.{Same, nothing, Matches, PatternAgrees, SamePattern, whole-pattern, node-up, same-byte, same-blank, then, reads-then, reads-bind, reads-assoc, reads-skip, ok-pure}
 use Rattle.standard.specs.Near.{isOpening, Near, nearly-near, same-near, near-next, near-first, near-second, near-pick, over-after}
@@ -195,7 +195,7 @@ module _ {sub₁ : Pattern.Inside} {sub₂ : Grammar.Inside} (patterns : Pattern
       (λ l. let (q, f, b) = ends-here (drop j r) l in
       let m : ns ++ moveUp j [] ≡ ms = cc in
       let n : j + q ≡ k = cc in
-      (j, ap (λ x. fits tt x j) (sym (ap (λ x. ns ++ x) (moveUp-nil j) ∙ append-nil ns) ∙ m), l, sym (over-blanked r j q b) ∙ ap (over r) n))
+      (j, ap (λ x. fits tt x j) (sym (ap (λ x. ns ++ x) (moveUp-none j) ∙ append-nil ns) ∙ m), l, sym (over-blanked r j q b) ∙ ap (over r) n))
       (λ l. let z : _≡_ {A = ℕ} 0 1 = cc (ap (Peg.after ns j) (ends-not (drop j r) l)) in absurd (omega arith))
   some-valued r ms k fails h = let z : _≡_ {A = ℕ} 0 1 = cc in absurd (omega arith)
 
