@@ -1,0 +1,2 @@
+-- What the contracts of the shape check cite.
+pub mod Models

@@ -1,0 +1,2 @@
+// The serializer: a tree's marks are checked and written as normal text.
+pub mod models;
