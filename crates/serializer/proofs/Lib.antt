@@ -1,2 +1,4 @@
 -- What the proofs of the functions share.
 pub mod Table
+pub mod Marks
+pub mod Stack

@@ -107,3 +107,22 @@ module _ (t : Table) (w : Right t) (k q j : ℕ) (a : k ≤ Kind.namedArgument) 
 pub end-read : (t : Table) → Right t → (k q : ℕ) → k ≤ Kind.namedArgument → q ≤ 3 → eqb (entry t k q 27) 43 ≡ final k q
 unfolding endByte
 end-read t w k q a b = rw (w .end k q a b) (byCase (final k q) (λ e. rw (e, endByte)) (λ e. rw (e, endByte)))
+
+-- what the answer of `step` says of the models
+pub next-text : (text : Bool) (o : Option ℕ) (r : ℕ) → Text r ≡ nextOf text o → (text ≡ true) × (o ≡ some r)
+unfolding nextOf
+next-text text none r e = let z : _≡_ {A = ℕ} 0 1 = cc in absurd (omega arith)
+next-text true (some q) r e = (refl, cc)
+next-text false (some q) r e = let z : _≡_ {A = ℕ} 0 1 = cc in absurd (omega arith)
+
+pub next-node : (text : Bool) (o : Option ℕ) (r : ℕ) → Node r ≡ nextOf text o → (text ≡ false) × (o ≡ some r)
+unfolding nextOf
+next-node text none r e = let z : _≡_ {A = ℕ} 0 1 = cc in absurd (omega arith)
+next-node true (some q) r e = let z : _≡_ {A = ℕ} 0 1 = cc in absurd (omega arith)
+next-node false (some q) r e = (refl, cc)
+
+pub next-nothing : (text : Bool) (o : Option ℕ) → Nothing ≡ nextOf text o → o ≡ none
+unfolding nextOf
+next-nothing text none e = refl
+next-nothing true (some q) e = let z : _≡_ {A = ℕ} 0 1 = cc in absurd (omega arith)
+next-nothing false (some q) e = let z : _≡_ {A = ℕ} 0 1 = cc in absurd (omega arith)
