@@ -2,3 +2,4 @@
 pub mod Table
 pub mod Marks
 pub mod Stack
+pub mod Check

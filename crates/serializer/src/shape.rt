@@ -234,3 +234,37 @@ fn may_be_last(models: &[[[u8; 28]; 4]; 27], s: State) -> bool
         State::Within(_, _, _) => false,
     }
 }
+
+// The check of all the marks. The open nodes' kinds and states stand on a stack, which the steps are lent with the table.
+pub fn check_shape(source: &[u8], tree: &[u32]) -> Shape
+    requires { ⌜ sizesFit (now tree) ≡ true ⌝ }
+    ensures { λ r. ⌜ r ≡ shapeOf (verdict (isBoundary (now (source .entry))) maxOpen (marksIn (now (tree .entry)))) ⌝ }
+{
+    let table = models();
+    let mut kinds = [0u8; 259];
+    let mut states = [0u8; 259];
+    let mut state = State::Between(Open {
+        kind: 0,
+        state: 0,
+        left: 64,
+        depth: 0,
+    });
+    let count = tree[0] as usize;
+    let places = 2 + tree[1] as usize;
+    let mut i = 0;
+    while i < count {
+        let kind = tree[2 + i];
+        let place = tree[places + i];
+        let Step::On(next) = step_mark(source, &table, &mut kinds, &mut states, state, kind, place)
+        else {
+            return Shape::IllFormed(i);
+        };
+        state = next;
+        i += 1;
+    }
+    if may_be_last(&table, state) {
+        Shape::WellFormed
+    } else {
+        Shape::IllFormed(count)
+    }
+}
