@@ -1,8 +1,8 @@
 -- The table of the content models is right: one test that antt computes over all of its bytes, and what each byte then says.
 use Prim.Native.Nat.{ℕ, zero, suc, _+_, _-_, _≤_, _<_}
-use native.Mathlib.Nat.{add-zero, zero-add, add-suc, suc-add, le-of-suc-le-suc, not-suc-le-zero}
+use native.Mathlib.Nat.{add-zero, zero-add, le-of-suc-le-suc, not-suc-le-zero}
 use native.Mathlib.Omega.{arith}
-use mathlib.Core.Path.{_≡_, refl, sym, ap, _∙_}
+use mathlib.Core.Path.{_≡_, refl, _∙_}
 use mathlib.Core.Bool.{Bool, true, false, _&&_, and-eq-true-iff}
 use mathlib.Core.List.{List, [], _∷_}
 use mathlib.Core.Option.{Option, some, none}
@@ -14,7 +14,6 @@ use Rattle.syntax.specs.Shape.{models, step, final}
 use Rattle.laws.specs.Bytes.{byCase}
 use Rattle.laws.specs.Shape.Run.{rule}
 use Rattle.serializer.specs.Models.{nextOf, byteOf, endByte, Table, entry, Right}
-use Rattle.serializer.specs.declared.models.Next.{Next}
 use Rattle.serializer.specs.declared.models.Next.the-variants.{Text, Node, Nothing}
 
 -- the test f passes at each element of the list and its place, counted from i

@@ -5,10 +5,12 @@ ghost use Rattle.syntax.specs.Kind.{namedArgument, isText};
 ghost use Rattle.syntax.specs.Shape.{step, final, opens, needs};
 ghost use Rattle.serializer.specs.Models.{Right, nextOf};
 
+pub type Models = [[[u8; 28]; 4]; 27];
+
 // For each kind, and for each of the states that its children lead through, a byte for each kind of a child: '-' if no such child
 // may follow, else the state that it leads to, as a digit for a T child and as a letter from 'a' on for another. The last byte
 // is '+' if a node of the kind may end in the state.
-const MODELS: [[[u8; 28]; 4]; 27] = [
+const MODELS: Models = [
     // the list: 1 to 7, each 6 right before a 1 or 2
     [
         *b"-aaaaab0-------------------+",
@@ -199,14 +201,14 @@ pub enum Next {
 }
 
 // The table, for a caller to hold and lend: it is written out wherever the constant is named.
-pub fn models() -> [[[u8; 28]; 4]; 27]
+pub fn models() -> Models
     ensures { λ r. ⌜ Right r ⌝ }
 {
     MODELS
 }
 
 // Where a child leads in the state of the kind.
-pub fn step(models: &[[[u8; 28]; 4]; 27], kind: u8, state: u8, child: u8) -> Next
+pub fn step(models: &Models, kind: u8, state: u8, child: u8) -> Next
     requires { ⌜ Right (now models) ⌝ }
     requires { ⌜ kind ≤ namedArgument ⌝ }
     requires { ⌜ state ≤ 3 ⌝ }
@@ -225,7 +227,7 @@ pub fn step(models: &[[[u8; 28]; 4]; 27], kind: u8, state: u8, child: u8) -> Nex
 }
 
 // Whether a node of the kind may end in the state.
-pub fn may_end(models: &[[[u8; 28]; 4]; 27], kind: u8, state: u8) -> bool
+pub fn may_end(models: &Models, kind: u8, state: u8) -> bool
     requires { ⌜ Right (now models) ⌝ }
     requires { ⌜ kind ≤ namedArgument ⌝ }
     requires { ⌜ state ≤ 3 ⌝ }
@@ -234,7 +236,7 @@ pub fn may_end(models: &[[[u8; 28]; 4]; 27], kind: u8, state: u8) -> bool
     models[kind as usize][state as usize][27] == b'+'
 }
 
-// The openings of '{' and '(' that a node of the kind makes.
+// The openings of '{' and '(' that a node of the kind makes: a placeable and arguments.
 pub fn opens(kind: u8) -> u8
     ensures { λ r. ⌜ r ≡ opens kind ⌝ }
 {
@@ -244,7 +246,7 @@ pub fn opens(kind: u8) -> u8
     }
 }
 
-// The openings that must be left where a node of the kind begins.
+// The openings that must be left where a node of the kind begins: a function needs its arguments.
 pub fn needs(kind: u8) -> u8
     ensures { λ r. ⌜ r ≡ needs kind ⌝ }
 {

@@ -1,5 +1,5 @@
 // The shape of a mark list, checked in one pass: whether the list is well formed, or else the value of refusal 6.
-ghost use Prim.Native.Nat.{ℕ, _≤_, _<_};
+ghost use Prim.Native.Nat.{ℕ, _<_};
 ghost use mathlib.Core.Path.{_≡_};
 ghost use mathlib.Core.Bool.{Bool, true, false};
 ghost use mathlib.Core.List.{List};
@@ -11,12 +11,21 @@ ghost use Rattle.syntax.specs.Writing.{sizesFit};
 ghost use Rattle.syntax.specs.Shape.{maxOpen, step, enter, stepMark, mayEnd, verdict};
 ghost use Rattle.serializer.specs.Models.{Right};
 ghost use Rattle.serializer.specs.Shape.{shapeOf, framesIn, stateOf, outcome, Room, Fits, Reached, Known};
+use crate::models::Models;
 use crate::models::Next;
 use crate::models::may_end;
 use crate::models::models;
 use crate::models::needs;
 use crate::models::opens;
 use crate::models::step;
+
+// The largest capacity, that of a longest source's tree.
+const MAX_CAPACITY: usize = 8_000_000;
+
+// The most openings at one time, and the most nodes around an open one.
+const MAX_OPEN: u8 = 64;
+
+const MOST_FRAMES: usize = 259;
 
 // For a list that is not well formed, the first mark with which no well-formed list can begin, or the count if the list ends
 // early.
@@ -27,7 +36,7 @@ pub enum Shape {
 
 // The innermost open node: its kind, the state that its children have led to, how many more openings may follow, and how many
 // nodes are open around it.
-pub struct Open {
+struct Open {
     kind: u8,
     state: u8,
     left: u8,
@@ -35,13 +44,13 @@ pub struct Open {
 }
 
 // Where the check stands: between two children of the innermost open node, or within a T child of a kind that starts at a place.
-pub enum State {
+enum State {
     Between(Open),
     Within(u8, u32, Open),
 }
 
 // A mark leads on to a state, or no well-formed list goes on with it.
-pub enum Step {
+enum Step {
     On(State),
     Refused,
 }
@@ -55,7 +64,7 @@ pub fn sizes_fit(tree: &[u32]) -> bool
     }
     let count = tree[0] as usize;
     let capacity = tree[1] as usize;
-    if 8_000_000 < capacity {
+    if MAX_CAPACITY < capacity {
         return false;
     }
     if capacity < count {
@@ -88,14 +97,7 @@ fn enter(kinds: &mut [u8], states: &mut [u8], o: Open, child: u8, next: u8) -> S
 }
 
 // Closes the node that is open, and goes on in the one around it.
-fn leave(
-    models: &[[[u8; 28]; 4]; 27],
-    kinds: &[u8],
-    states: &[u8],
-    o: Open,
-    kind: u32,
-    place: u32,
-) -> Step
+fn leave(models: &Models, kinds: &[u8], states: &[u8], o: Open, kind: u32, place: u32) -> Step
     requires { ⌜ Right (now models) ⌝ }
     requires { ⌜ Room (now kinds) (now states) ⌝ }
     requires { ⌜ Fits (now kinds) (now states) o ⌝ }
@@ -148,17 +150,17 @@ fn start(source: &[u8], o: Open, child: u8, next: u8, place: u32) -> Step
 }
 
 // Ends the T child of the kind `text` that starts at `start`.
-fn stop(source: &[u8], text: u8, start: u32, o: Open, kind: u32, place: u32) -> Step
+fn stop(source: &[u8], text: u8, start: u32, o: Open, kind: u32, end: u32) -> Step
     requires { ⌜ isText text ≡ true ⌝ }
-    ensures { λ r. ⌜ ((kinds states : List ℕ) → outcome kinds states r ≡ stepMark (isBoundary (now (source .entry))) (stateOf kinds states (State.Within text start o)) (markOf kind place)) ⌝ }
+    ensures { λ r. ⌜ ((kinds states : List ℕ) → outcome kinds states r ≡ stepMark (isBoundary (now (source .entry))) (stateOf kinds states (State.Within text start o)) (markOf kind end)) ⌝ }
 {
     if kind != 100 + text as u32 {
         return Step::Refused;
     }
-    if place < start {
+    if end < start {
         return Step::Refused;
     }
-    if utf8::is_boundary(source, place as usize) {
+    if utf8::is_boundary(source, end as usize) {
         Step::On(State::Between(o))
     } else {
         Step::Refused
@@ -168,7 +170,7 @@ fn stop(source: &[u8], text: u8, start: u32, o: Open, kind: u32, place: u32) -> 
 // A mark between two children: it opens a child, starts a T child, or closes the node.
 fn step_between(
     source: &[u8],
-    models: &[[[u8; 28]; 4]; 27],
+    models: &Models,
     kinds: &mut [u8],
     states: &mut [u8],
     o: Open,
@@ -197,9 +199,10 @@ fn step_between(
     }
 }
 
+// A mark, wherever the check stands.
 fn step_mark(
     source: &[u8],
-    models: &[[[u8; 28]; 4]; 27],
+    models: &Models,
     kinds: &mut [u8],
     states: &mut [u8],
     s: State,
@@ -218,7 +221,7 @@ fn step_mark(
 }
 
 // Whether a list may end here.
-fn may_be_last(models: &[[[u8; 28]; 4]; 27], s: State) -> bool
+fn may_be_last(models: &Models, s: State) -> bool
     requires { ⌜ Right (now models) ⌝ }
     requires { ⌜ Known s ⌝ }
     ensures { λ r. ⌜ ((kinds states : List ℕ) → r ≡ mayEnd (stateOf kinds states s)) ⌝ }
@@ -241,12 +244,12 @@ pub fn check_shape(source: &[u8], tree: &[u32]) -> Shape
     ensures { λ r. ⌜ r ≡ shapeOf (verdict (isBoundary (now (source .entry))) maxOpen (marksIn (now (tree .entry)))) ⌝ }
 {
     let table = models();
-    let mut kinds = [0u8; 259];
-    let mut states = [0u8; 259];
+    let mut kinds = [0; MOST_FRAMES];
+    let mut states = [0; MOST_FRAMES];
     let mut state = State::Between(Open {
         kind: 0,
         state: 0,
-        left: 64,
+        left: MAX_OPEN,
         depth: 0,
     });
     let count = tree[0] as usize;

@@ -1,5 +1,4 @@
 -- `shape::check_shape` meets its contract: in the loop, the check goes on from the state to the verdict.
-
 use Prim.Native.Nat.{_-_}
 use native.Mathlib.Omega.{arith}
 use borrow.Author.Needs.{needs}
@@ -71,7 +70,9 @@ slice-aggregate-step-mark-2 : tie.Need-slice-aggregate-step-mark-2 Inv-loop μ-l
 slice-aggregate-step-mark-2 c = sym (c .before .before .before .before .before .before .loop .inv .longStates)
 
 step-mark-requires : tie.Need-step-mark-requires Inv-loop μ-loop
-step-mark-requires c κs = let st = c .before .before .before .before .before .before .loop .inv in (c .before .before .before .before .before .before .before .before .before .models .ensures, (record { longKinds = omega arith; longStates = omega arith }, st .reached))
+step-mark-requires c κs =
+    let st = c .before .before .before .before .before .before .loop .inv in
+    (c .before .before .before .before .before .before .before .before .before .models .ensures, (record { longKinds = omega arith; longStates = omega arith }, st .reached))
 
 enum-known-next : tie.Need-enum-known-next Inv-loop μ-loop
 enum-known-next c = search needs
@@ -81,7 +82,11 @@ enum-told c = search needs
 
 returns : tie.Need-returns Inv-loop μ-loop
 unfolding count capacity outcome
-returns c = stands-refused _ _ (sizes _ (c .before .before .before .before .before .before .before .before .before .before .before .before .before .before .before .before .before .pre)) _ _ _ _ (c .before .before .before .before .before .before .before .before .before .before .before .loop .inv) (c .before .before .before .before .before .before .before .before .before .before .loop-test .taken) (rw (c .enum-told .given .1) at (c .before .before .before .before .step-mark .ensures))
+returns c =
+    let turn = c .before .before .before .before .before .before .before .before .before .before in
+    let head = turn .before in
+    stands-refused _ _ (sizes _ (head .before .before .before .before .before .before .pre)) _ _ _ _ (head .loop .inv) (turn .loop-test .taken)
+    (rw (c .enum-told .given .1) at (c .before .before .before .before .step-mark .ensures))
 
 add-i : tie.Need-add-i Inv-loop μ-loop
 add-i c = omega (arith, c .before .before .before .before .before .before .before .before .before .before .before .loop-test .taken, c .before .before .before .before .before .before .before .before .before .before .before .before .before .before .shared-slice-known3 .given 0)
@@ -92,18 +97,29 @@ loop-less c = omega (arith, c .before .before .before .before .before .before .b
 
 loop-again : tie.Need-loop-again Inv-loop μ-loop
 unfolding count capacity outcome
-loop-again c = let k = c .before .before .before .before .before .step-mark .kept in stands-on _ _ (sizes _ (c .before .before .before .before .before .before .before .before .before .before .before .before .before .before .before .before .before .before .pre)) _ _ _ _ (c .before .before .before .before .before .before .before .before .before .before .before .before .loop .inv) _ _ _ (c .before .before .before .before .before .before .before .before .before .before .before .loop-test .taken) (rw (c .before .next .given .1) at (c .before .before .before .before .before .step-mark .ensures)) (k .1 .1 .0) (k .1 .1 .1 .0)
+loop-again c =
+    let turn = c .before .before .before .before .before .before .before .before .before .before .before in
+    let head = turn .before in
+    let mark = c .before .before .before .before .before .step-mark in
+    stands-on _ _ (sizes _ (head .before .before .before .before .before .before .pre)) _ _ _ _ (head .loop .inv) _ _ _ (turn .loop-test .taken)
+    (rw (c .before .next .given .1) at (mark .ensures)) (mark .kept .1 .1 .0) (mark .kept .1 .1 .1 .0)
 
 may-be-last-requires : tie.Need-may-be-last-requires Inv-loop μ-loop
 may-be-last-requires c κs = (c .before .before .before .before .before .models .ensures, stands-known (c .before .before .loop .inv))
 
 returns-2 : tie.Need-returns-2 Inv-loop μ-loop
 unfolding count capacity
-returns-2 c = stands-whole _ _ (sizes _ (c .before .before .before .before .before .before .before .before .before .before .pre)) _ _ _ _ (c .before .before .before .before .loop .inv) (c .before .before .before .loop-test .left) (sym (c .if1 .taken) ∙ c .before .may-be-last .ensures _ _)
+returns-2 c =
+    let head = c .before .before .before .before in
+    stands-whole _ _ (sizes _ (head .before .before .before .before .before .before .pre)) _ _ _ _ (head .loop .inv) (c .before .before .before .loop-test .left)
+    (sym (c .if1 .taken) ∙ c .before .may-be-last .ensures _ _)
 
 returns-3 : tie.Need-returns-3 Inv-loop μ-loop
 unfolding count capacity
-returns-3 c = stands-early _ _ (sizes _ (c .before .before .before .before .before .before .before .before .before .before .pre)) _ _ _ _ (c .before .before .before .before .loop .inv) (c .before .before .before .loop-test .left) (sym (c .if1 .left) ∙ c .before .may-be-last .ensures _ _)
+returns-3 c =
+    let head = c .before .before .before .before in
+    stands-early _ _ (sizes _ (head .before .before .before .before .before .before .pre)) _ _ _ _ (head .loop .inv) (c .before .before .before .loop-test .left)
+    (sym (c .if1 .left) ∙ c .before .may-be-last .ensures _ _)
 
 pub check-shape-spec : {M : Type 1} → statement M
 check-shape-spec =

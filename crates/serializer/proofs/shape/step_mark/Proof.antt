@@ -1,5 +1,4 @@
 -- `shape::step_mark` meets its contract.
-
 use borrow.Author.Needs.{needs}
 use Rattle.serializer.proofs.shape.step_mark.Statement.{statement}
 use Rattle.serializer.proofs.shape.step_mark.Tie as tie
