@@ -11,3 +11,4 @@ pub mod Slices
 pub mod Dids
 pub mod Insert
 pub mod Strings
+pub mod Comments

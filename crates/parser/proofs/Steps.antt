@@ -9,7 +9,7 @@ use lib.ListN.{length, getD, take, drop, set, length-set, length-append}
 use lib.Seq.{getD-set-same, getD-set-other, take-set-le, drop-set-lt, take-append-le, take-all}
 use Rattle.parser.specs.Tree.{Word, word, marksIn, Step}
 
-marks-same : (cap n : ℕ) (t t′ : List ℕ) → ((i : ℕ) → i < n → getD t′ (i + 2) 0 ≡ getD t (i + 2) 0) → ((i : ℕ) → i < n → getD t′ (cap + i + 2) 0 ≡ getD t (cap + i + 2) 0)
+pub marks-same : (cap n : ℕ) (t t′ : List ℕ) → ((i : ℕ) → i < n → getD t′ (i + 2) 0 ≡ getD t (i + 2) 0) → ((i : ℕ) → i < n → getD t′ (cap + i + 2) 0 ≡ getD t (cap + i + 2) 0)
     → marksIn cap n t′ ≡ marksIn cap n t
 unfolding marksIn
 marks-same cap zero t t′ f g = refl

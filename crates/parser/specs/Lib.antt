@@ -6,3 +6,5 @@ pub mod Place
 pub mod Scan
 pub mod Slice
 pub mod Did
+pub mod Entry
+pub mod Line
