@@ -1,2 +1,3 @@
 -- What the contracts of the parser say of results and of lent words.
 pub mod Tree
+pub mod Settle

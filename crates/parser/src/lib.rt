@@ -1,2 +1,3 @@
 // The parser: bytes are read into marks and errors.
 pub mod marks;
+pub mod pattern;
