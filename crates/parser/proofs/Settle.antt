@@ -2,18 +2,19 @@
 use Prim.Native.Nat.{ℕ, zero, suc, _+_, _-_, _*_, _≤_, _<_, _^_, min}
 use mathlib.Core.Path.{_≡_, refl, sym, ap, ap₂, _∙_}
 use mathlib.Core.List.{List, [], _∷_, _++_, map, append-assoc, append-nil}
-use mathlib.Core.Bool.{Bool, true, false}
+use mathlib.Core.Bool.{Bool, true, false, _&&_}
 use native.Mathlib.Nat.{add-zero, zero-add, add-suc, add-assoc, min-eq-left, min-eq-right, min-le-left}
 use native.Mathlib.Numerals.{add-one}
 use native.Mathlib.Decide.{decLe}
 use native.Mathlib.Omega.{arith}
 use borrow.Author.Tests.{eq-eqb, ne-eqb}
-use lib.Dec.{eqb}
+use lib.Dec.{eqb, eqb·suc-zero}
 use lib.ListN.{length, getD, take, drop, set, length-set, length-append, length-drop, length-map, drop-of-length-le}
-use lib.Seq.{drop-cons, drop-append-le, getD-set-other}
+use lib.Seq.{drop-cons, drop-append-le, getD-set-other, getD-drop, take-suc, length-take-le, drop-at, set-getD}
 use Rattle.syntax.specs.Bytes.{run, spaces}
+use Rattle.syntax.specs.Pattern.{trimmed}
 use Rattle.parser.specs.Tree.{Word, word, marksIn, Step}
-use Rattle.parser.specs.Settle.{settleWord, trimWords, trimmedEnd}
+use Rattle.parser.specs.Settle.{settleWord, isTrimmed, trimWords, trimmedEnd, Within}
 use Rattle.laws.specs.Moving.{map-append}
 use Rattle.parser.proofs.Steps.{step-put, step-then, step-none, step-same, marks-length, marks-next}
 
@@ -121,7 +122,7 @@ settle-next s cap from to common t t′ t″ i g h d f e =
     count = simp (length-map, length-drop, marks-length) (omega arith)
 
     grown : map (settleWord s common) (drop from (marksIn cap (i + 1) t)) ≡ map (settleWord s common) (drop from (marksIn cap i t)) ++ (settleWord s common w ∷ [])
-    grown = rw (add-one, marks-next) (ap (map (settleWord s common)) (drop-append-le from (marksIn cap i t) (w ∷ []) (rw (marks-length cap i t) (omega arith))) ∙ map-append (settleWord s common) (drop from (marksIn cap i t)) (w ∷ []))
+    grown = rw marks-next (ap (map (settleWord s common)) (drop-append-le from (marksIn cap i t) (w ∷ []) (rw (marks-length cap i t) (omega arith))) ∙ map-append (settleWord s common) (drop from (marksIn cap i t)) (w ∷ []))
 
 pub line-word : (s : List ℕ) (common k p : ℕ) → k ≡ 200 → settleWord s common (word k p) ≡ word 12 (p + min (spaces (drop p s)) common)
 unfolding settleWord
@@ -146,3 +147,98 @@ settle-line s cap from to common t t′ i p m l g h e q =
 
 pub settle-end : (s : List ℕ) (cap from to common : ℕ) (t t′ : List ℕ) (i : ℕ) → Settling s cap from to common t t′ i → to ≤ i → Step cap from t t′ (map (settleWord s common) (drop from (marksIn cap to t)))
 settle-end s cap from to common t t′ i g h = let e : i ≡ to = omega (arith, g .order) in rw e at (g .done)
+
+-- ---- trimming: the last byte decides
+trimmed-yes : (x : List ℕ) (b : ℕ) → isTrimmed b ≡ true → trimmed (x ++ (b ∷ [])) ≡ trimmed x
+unfolding trimmed
+trimmed-yes [] b e = rw (trimmed, e)
+trimmed-yes (a ∷ x) b e = ap (λ (n : ℕ). elim (isTrimmed a && eqb n 0) [ true ↦ 0 | false ↦ suc n ]) (trimmed-yes x b e)
+
+trimmed-no : (x : List ℕ) (b : ℕ) → isTrimmed b ≡ false → trimmed (x ++ (b ∷ [])) ≡ suc (length x)
+unfolding trimmed
+trimmed-no [] b e = rw (trimmed, e)
+trimmed-no (a ∷ x) b e = ap (λ (n : ℕ). elim (isTrimmed a && eqb n 0) [ true ↦ 0 | false ↦ suc n ]) (trimmed-no x b e) ∙ go (isTrimmed a)
+  where
+    go : (v : Bool) → elim (v && eqb (suc (length x)) 0) [ true ↦ 0 | false ↦ suc (suc (length x)) ] ≡ suc (suc (length x))
+    go true = rw (eqb·suc-zero (length x))
+    go false = refl
+
+-- a text without its last byte
+shorter : (s : List ℕ) (a e : ℕ) → a < e → e ≤ length s → take (e - a) (drop a s) ≡ take (e - 1 - a) (drop a s) ++ (getD s (e - 1) 0 ∷ [])
+shorter s a e h l =
+    let q : e - a ≡ suc (e - 1 - a) = omega arith in
+    let r : a + (e - 1 - a) ≡ e - 1 = omega arith in
+    let z = length-drop a s in
+    rw (q, take-suc (drop a s) (e - 1 - a) 0 (omega arith), getD-drop a s (e - 1 - a) 0, r)
+
+pub record Trimming (s : List ℕ) (start end e : ℕ) : Type 0 where
+  pub order : (start ≤ e) × (e ≤ end)
+  pub same : trimmedEnd s start end ≡ trimmedEnd s start e
+
+pub trim-none : (s : List ℕ) (start end : ℕ) → start ≤ end → Trimming s start end end
+trim-none s start end h = record { order = (h, omega arith); same = refl }
+
+pub trim-more : (s : List ℕ) (start end e : ℕ) → end ≤ length s → Trimming s start end e → start < e → isTrimmed (getD s (e - 1) 0) ≡ true → Trimming s start end (e - 1)
+unfolding trimmedEnd
+trim-more s start end e l g h q =
+    record {
+      order = omega (arith, g .order);
+      same = g .same ∙ rw (shorter s start e h (omega (arith, g .order)), trimmed-yes (take (e - 1 - start) (drop start s)) (getD s (e - 1) 0) q);
+    }
+
+pub trim-stop : (s : List ℕ) (start end e : ℕ) → end ≤ length s → Trimming s start end e → start < e → isTrimmed (getD s (e - 1) 0) ≡ false → e ≡ trimmedEnd s start end
+unfolding trimmedEnd
+trim-stop s start end e l g h q =
+    let m : e ≤ length s = omega (arith, g .order) in
+    let z = length-drop start s in
+    let n : length (take (e - 1 - start) (drop start s)) ≡ e - 1 - start = length-take-le (e - 1 - start) (drop start s) (omega arith) in
+    rw (g .same, shorter s start e h m, trimmed-no (take (e - 1 - start) (drop start s)) (getD s (e - 1) 0) q, n) (omega arith)
+
+pub trim-all : (s : List ℕ) (start end e : ℕ) → Trimming s start end e → e ≤ start → e ≡ trimmedEnd s start end
+unfolding trimmedEnd trimmed
+trim-all s start end e g h =
+    let q : e ≡ start = omega (arith, g .order) in
+    let r : start - start ≡ 0 = omega arith in
+    rw (g .same, q, r, add-zero)
+
+two-marks : (cap n : ℕ) (t : List ℕ) → drop n (marksIn cap (n + 2) t) ≡ word (getD t (n + 2) 0) (getD t (cap + n + 2) 0) ∷ word (getD t (n + 1 + 2) 0) (getD t (cap + (n + 1) + 2) 0) ∷ []
+two-marks cap n t =
+    let e : n + 2 ≡ n + 1 + 1 = omega arith in
+    ap (λ (k : ℕ). drop n (marksIn cap k t)) e ∙ rw (marks-next cap (n + 1) t, marks-next cap n t, append-assoc) (drop-at (marksIn cap n t) _ n (marks-length cap n t))
+
+pub trim-yes : (s : List ℕ) (cap n : ℕ) (t : List ℕ) (e : ℕ) → n + 2 ≤ cap → 2 + 2 * cap ≤ length t → getD t (n + 1 + 2) 0 ≡ 112 → e ≡ trimmedEnd s (getD t (cap + n + 2) 0) (getD t (cap + (n + 1) + 2) 0)
+    → Step cap n t (set t (cap + (n + 1) + 2) e) (trimWords s (drop n (marksIn cap (n + 2) t)))
+unfolding trimWords
+trim-yes s cap n t e h l q r =
+    rw (two-marks cap n t, trimWords, eq-eqb (getD t (n + 1 + 2) 0) 112 q, ← r)
+    (step-then (step-same cap n t) refl (rw (set-getD t (n + 1 + 2) 0) at (step-put cap (n + 1) t (getD t (n + 1 + 2) 0) e (omega arith) l)))
+
+pub trim-no : (s : List ℕ) (cap n : ℕ) (t : List ℕ) → (getD t (n + 1 + 2) 0 ≡ 112 → ⊥) → Step cap n t t (trimWords s (drop n (marksIn cap (n + 2) t)))
+unfolding trimWords
+trim-no s cap n t f = rw (two-marks cap n t, trimWords, ne-eqb (getD t (n + 1 + 2) 0) 112 f) (step-then (step-same cap n t) refl (step-same cap (n + 1) t))
+
+pub within : (s : List ℕ) (cap n : ℕ) (t : List ℕ) → Within s (drop n (marksIn cap (n + 2) t)) → getD t (n + 1 + 2) 0 ≡ 112
+    → (getD t (cap + n + 2) 0 ≤ getD t (cap + (n + 1) + 2) 0) × (getD t (cap + (n + 1) + 2) 0 ≤ length s)
+unfolding Within
+within s cap n t w e = (rw (two-marks cap n t) at w) e
+
+trimmed-le : (x : List ℕ) → trimmed x ≤ length x
+unfolding trimmed
+trimmed-le [] = omega arith
+trimmed-le (a ∷ x) = go (isTrimmed a && eqb (trimmed x) 0) (trimmed-le x)
+  where
+    go : (v : Bool) → trimmed x ≤ length x → elim v [ true ↦ 0 | false ↦ suc (trimmed x) ] ≤ suc (length x)
+    go true h = omega arith
+    go false h = omega arith
+
+pub trimmed-fits : (s : List ℕ) (cap n : ℕ) (t : List ℕ) {r : ℕ} → Within s (drop n (marksIn cap (n + 2) t)) → getD t (n + 1 + 2) 0 ≡ 112 → r ≡ trimmedEnd s (getD t (cap + n + 2) 0) (getD t (cap + (n + 1) + 2) 0)
+    → length s < 2 ^ 32 → r < 2 ^ 32
+unfolding trimmedEnd
+trimmed-fits s cap n t w e q h =
+    let a : ℕ = getD t (cap + n + 2) 0 in
+    let b : ℕ = getD t (cap + (n + 1) + 2) 0 in
+    let o = within s cap n t w e in
+    let l = trimmed-le (take (b - a) (drop a s)) in
+    let z = length-drop a s in
+    let v = length-take-le (b - a) (drop a s) (omega arith) in
+    omega arith

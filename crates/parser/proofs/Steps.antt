@@ -21,9 +21,9 @@ unfolding marksIn
 marks-length cap zero t = refl
 marks-length cap (suc n) t = length-append (marksIn cap n t) _ ∙ rw (marks-length cap n t, add-one)
 
-pub marks-next : (cap n : ℕ) (t : List ℕ) → marksIn cap (suc n) t ≡ marksIn cap n t ++ (word (getD t (n + 2) 0) (getD t (cap + n + 2) 0) ∷ [])
+pub marks-next : (cap n : ℕ) (t : List ℕ) → marksIn cap (n + 1) t ≡ marksIn cap n t ++ (word (getD t (n + 2) 0) (getD t (cap + n + 2) 0) ∷ [])
 unfolding marksIn
-marks-next cap n t = refl
+marks-next cap n t = rw add-one
 
 marks-take : (cap n k : ℕ) (t : List ℕ) → take n (marksIn cap (n + k) t) ≡ marksIn cap n t
 unfolding marksIn
@@ -36,7 +36,7 @@ step-none cap n t = record { long = refl; marks = rw (add-zero, append-nil); hea
 
 -- the mark that stands there
 pub step-same : (cap n : ℕ) (t : List ℕ) → Step cap n t t (word (getD t (n + 2) 0) (getD t (cap + n + 2) 0) ∷ [])
-step-same cap n t = record { long = refl; marks = rw (add-one, marks-next); head = refl; rest = refl }
+step-same cap n t = record { long = refl; marks = marks-next cap n t; head = refl; rest = refl }
 
 pub step-cut : {cap n : ℕ} {t t′ : List ℕ} {ws : List Word} → Step cap n t t′ ws → Step cap n t t′ []
 step-cut {cap} {n} {t} {t′} {ws} s =
