@@ -31,7 +31,7 @@ pub spaces-end : (s : List ℕ) (i : ℕ) → length s ≤ i → spaces (drop i 
 unfolding spaces run
 spaces-end s i h = rw (drop-of-length-le s h)
 
-spaces-le : (x : List ℕ) → spaces x ≤ length x
+pub spaces-le : (x : List ℕ) → spaces x ≤ length x
 unfolding spaces run
 spaces-le [] = omega arith
 spaces-le (b ∷ x) = go (eqb b 32) (spaces-le x)

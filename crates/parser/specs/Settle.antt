@@ -33,8 +33,9 @@ trimWords s (w ∷ []) = w ∷ []
 trimWords s (word k a ∷ word j e ∷ []) = word k a ∷ elim (eqb j (Kind.closing Kind.text)) [ true ↦ word j (trimmedEnd s a e) | false ↦ word j e ] ∷ []
 trimWords s (w ∷ v ∷ u ∷ ws) = w ∷ trimWords s (v ∷ u ∷ ws)
 
--- of two marks, if they are a text's, that the text lies in the source
+-- where the last mark closes a text, the text lies in the source
 unfoldable pub Within : List ℕ → List Word → Type 0
 Within s [] = Unit {0}
 Within s (w ∷ []) = Unit {0}
-Within s (word k a ∷ word j e ∷ ws) = j ≡ Kind.closing Kind.text → (a ≤ e) × (e ≤ length s)
+Within s (word k a ∷ word j e ∷ []) = j ≡ Kind.closing Kind.text → (a ≤ e) × (e ≤ length s)
+Within s (w ∷ v ∷ u ∷ ws) = Within s (v ∷ u ∷ ws)
