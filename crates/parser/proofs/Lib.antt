@@ -1,4 +1,7 @@
 -- What the proofs of several functions use.
 pub mod Steps
+pub mod Tests
+pub mod Run
+pub mod Places
 pub mod Dids
 pub mod Insert
