@@ -1,6 +1,7 @@
 -- Laws of the definitions.
 pub mod Bytes
 pub mod Moving
+pub mod Loop
 pub mod Stable
 pub mod Entries
 pub mod Progress

@@ -14,21 +14,13 @@ use Rattle.syntax.specs.Kind as Kind
 use Rattle.syntax.specs.Bytes.{spaces}
 use Rattle.syntax.specs.Marks.{Mark, plain, placed, kindOf, up, moveUp, node, textNode}
 use Rattle.syntax.specs.Pattern.{Element, placeable, text, dedented, trimmed, textMarks, elementMarks}
-use Rattle.laws.specs.Moving.{map-append, moveUp-append}
+use Rattle.laws.specs.Moving.{map-append}
 use Rattle.parser.specs.Tree.{Word, word, wordsAt, marksIn, Step}
 use Rattle.parser.specs.Settle.{settleWord, trimmedEnd, trimWords, Within}
 use Rattle.parser.specs.Elements.{opening, provisionalOf, provisional, Low, SoundOne, Sound, Common}
 use Rattle.parser.proofs.Steps.{step-over, step-last}
+use Rattle.parser.proofs.Dids.{words-append, words-length}
 use Rattle.parser.proofs.Settle.{spaces-le, line-word, other-word}
-
--- ---- words
-pub words-append : (at : ℕ) (ms ns : List Mark) → wordsAt at (ms ++ ns) ≡ wordsAt at ms ++ wordsAt at ns
-unfolding wordsAt
-words-append at ms ns = rw moveUp-append (map-append _ (moveUp at ms) (moveUp at ns))
-
-pub words-length : (at : ℕ) (ms : List Mark) → length (wordsAt at ms) ≡ length ms
-unfolding wordsAt moveUp
-words-length at ms = simp length-map
 
 pub provisional-append : (at : ℕ) (es fs : List Element) → provisional at (es ++ fs) ≡ provisional at es ++ provisional at fs
 unfolding provisional

@@ -2,3 +2,8 @@
 pub mod Steps
 pub mod Settle
 pub mod Elements
+pub mod Tests
+pub mod Run
+pub mod Places
+pub mod Dids
+pub mod Insert

@@ -2,3 +2,5 @@
 pub mod Tree
 pub mod Settle
 pub mod Elements
+pub mod Place
+pub mod Did

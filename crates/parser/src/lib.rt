@@ -1,3 +1,6 @@
 // The parser: bytes are read into marks and errors.
+pub mod bytes;
+pub mod errors;
+pub mod helper;
 pub mod marks;
 pub mod pattern;

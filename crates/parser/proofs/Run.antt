@@ -1,0 +1,41 @@
+-- Runs of bytes that pass a test: what a loop over one keeps, and how it goes on and ends.
+use Prim.Native.Nat.{ℕ, suc, _+_, _≤_, _<_}
+use mathlib.Core.Path.{_≡_, refl}
+use mathlib.Core.List.{List, [], _∷_}
+use mathlib.Core.Bool.{Bool, true, false}
+use native.Mathlib.Omega.{arith}
+use native.Mathlib.Numerals.{add-one}
+use lib.ListN.{length, getD, drop}
+use lib.Seq.{drop-cons}
+use Rattle.syntax.specs.Bytes.{starts, run}
+use Rattle.parser.specs.Place.{Tests, Passed}
+use Rattle.parser.proofs.Tests.{by, starts-at}
+
+run-none : (p : ℕ → Bool) (x : List ℕ) → starts p x ≡ false → run p x ≡ 0
+unfolding run starts
+run-none p [] h = refl
+run-none p (b ∷ x) h = rw (h, run)
+
+run-more : (p : ℕ → Bool) (s : List ℕ) (i : ℕ) → i < length s → starts p (drop i s) ≡ true → run p (drop i s) ≡ suc (run p (drop (i + 1) s))
+unfolding run
+run-more p s i l h =
+    let t : p (getD s i 0) ≡ true = by (starts-at p s i l) h in
+    rw (add-one, drop-cons s i 0 l, run, t)
+
+pub record Going (p : ℕ → Bool) (s : List ℕ) (at i : ℕ) : Type 0 where
+  pub inside : i ≤ length s
+  pub onward : at ≤ i
+  pub sum : at + run p (drop at s) ≡ i + run p (drop i s)
+
+pub going-none : (p : ℕ → Bool) (s : List ℕ) (at : ℕ) → at ≤ length s → Going p s at at
+going-none p s at h = record { inside = h; onward = omega arith; sum = refl }
+
+module _ {p : ℕ → Bool} {s : List ℕ} {at i : ℕ} {r : Bool} where
+  pub going-more : Going p s at i → Tests (starts p) s i r → r ≡ true → Going p s at (i + 1)
+  going-more g t h =
+      let l = t .here h in
+      let e = run-more p s i l (by (t .is) h) in
+      record { inside = omega arith; onward = omega arith; sum = omega arith }
+
+  pub going-end : Going p s at i → Tests (starts p) s i r → r ≡ false → Passed s at (run p (drop at s)) i
+  going-end g t h = let e = run-none p (drop i s) (by (t .is) h) in record { end = omega arith; within = g .inside }
