@@ -2,6 +2,7 @@
 pub mod Steps
 pub mod Settle
 pub mod Elements
+pub mod Texts
 pub mod Tests
 pub mod Run
 pub mod Places

@@ -2,5 +2,6 @@
 pub mod Tree
 pub mod Settle
 pub mod Elements
+pub mod Texts
 pub mod Place
 pub mod Did

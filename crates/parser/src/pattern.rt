@@ -1,11 +1,48 @@
-// The marks of a pattern when it ends: a text that starts a line loses the common indent, and the last text is trimmed.
+// pattern.rs: patterns. The common indent is known only where a pattern ends. Until then a text at the start of a line is marked from
+// the line's start on, by a kind of its own; at the end the marks are settled.
 ghost use Prim.Native.Nat.{_+_, _≤_, _<_, _^_, min};
 ghost use mathlib.Core.Path.{_≡_};
-ghost use mathlib.Core.List.{map};
+ghost use mathlib.Core.List.{[], _∷_, map};
 ghost use lib.ListN.{length, drop};
 ghost use Rattle.syntax.specs.Bytes.{spaces};
-ghost use Rattle.parser.specs.Tree.{marksIn, Step, Fits};
+ghost use Rattle.syntax.specs.Pattern.{goesOn, isContinuation};
+ghost use Rattle.parser.specs.Tree.{word, marksIn, Step, Fits};
 ghost use Rattle.parser.specs.Settle.{settleWord, isTrimmed, trimmedEnd, trimWords, Within};
+ghost use Rattle.parser.specs.Elements.{opening};
+ghost use Rattle.parser.specs.Texts.{startsLine, isFeed, positionAfter, passedAfter, isPart, leastOf, textWords, afterText};
+use crate::marks::put;
+
+// What ended a text.
+pub enum TextElementTermination {
+    LineFeed,
+    Crlf,
+    PlaceableStart,
+    Eof,
+}
+
+// Where in its pattern a text stands.
+pub enum TextElementPosition {
+    InitialLineStart,
+    LineStart,
+    Continuation,
+}
+
+// A text that was found: its length, whether it is blank, and what ended it.
+pub struct TextSlice {
+    pub size: usize,
+    pub blank: bool,
+    pub ending: TextElementTermination,
+}
+
+// What is known while a pattern is read: the place; the count of marks; where the next text stands; the count of marks
+// through the last element that is not blank; the common indent, or the source's length where there is none yet.
+pub struct Reading {
+    pub at: usize,
+    pub n: usize,
+    pub role: TextElementPosition,
+    pub last_non_blank: usize,
+    pub common_indent: usize,
+}
 
 // The kind, until its pattern ends, of the mark that opens a text at the start of a line.
 pub const LINE_START: u32 = 200;
@@ -87,5 +124,145 @@ pub fn trim(source: &[u8], tree: &mut [u32], cap: usize, n: usize)
         let p = cap + m + 2;
         let end = tree[p] as usize;
         tree[p] = trim_end(source, start, end) as u32;
+    }
+}
+
+fn is_line_start(role: TextElementPosition) -> bool
+    ensures { λ r. ⌜ r ≡ startsLine role ⌝ }
+{
+    match role {
+        TextElementPosition::InitialLineStart => false,
+        TextElementPosition::LineStart => true,
+        TextElementPosition::Continuation => false,
+    }
+}
+
+fn is_line_feed(ending: TextElementTermination) -> bool
+    ensures { λ r. ⌜ r ≡ isFeed ending ⌝ }
+{
+    match ending {
+        TextElementTermination::LineFeed => true,
+        TextElementTermination::Crlf => false,
+        TextElementTermination::PlaceableStart => false,
+        TextElementTermination::Eof => false,
+    }
+}
+
+// Where the text after one that ended so stands.
+fn role_after(ending: TextElementTermination) -> TextElementPosition
+    ensures { λ r. ⌜ r ≡ positionAfter ending ⌝ }
+{
+    match ending {
+        TextElementTermination::LineFeed => TextElementPosition::LineStart,
+        TextElementTermination::Crlf => TextElementPosition::LineStart,
+        TextElementTermination::PlaceableStart => TextElementPosition::Continuation,
+        TextElementTermination::Eof => TextElementPosition::Continuation,
+    }
+}
+
+// At CRLF the carriage return is no part of the text, and is passed with it.
+fn passed_after(ending: TextElementTermination) -> usize
+    ensures { λ r. ⌜ r ≡ passedAfter ending ⌝ }
+{
+    match ending {
+        TextElementTermination::LineFeed => 0,
+        TextElementTermination::Crlf => 1,
+        TextElementTermination::PlaceableStart => 0,
+        TextElementTermination::Eof => 0,
+    }
+}
+
+// Whether a text is an element of its pattern.
+fn is_element(line: bool, slice: TextSlice) -> bool
+    ensures { λ r. ⌜ r ≡ isPart line slice ⌝ }
+{
+    let ending = slice.ending;
+    if slice.size == 0 {
+        return false;
+    }
+    if line {
+        if slice.blank {
+            return is_line_feed(ending);
+        }
+    }
+    true
+}
+
+// The common indent, if a line with this indent counts.
+fn least_indent(counts: bool, indent: usize, common: usize) -> usize
+    ensures { λ r. ⌜ r ≡ leastOf counts indent common ⌝ }
+{
+    if counts {
+        if indent < common {
+            return indent;
+        }
+    }
+    common
+}
+
+fn opening_kind(line: bool) -> u32
+    ensures { λ r. ⌜ r ≡ opening line ⌝ }
+{
+    if line { LINE_START } else { 12 }
+}
+
+// Writes the two marks of a text of a pattern that is not settled yet.
+fn put_element(
+    tree: &mut [u32],
+    cap: usize,
+    n: usize,
+    line: bool,
+    start: usize,
+    end: usize,
+) -> usize
+    requires { ⌜ Fits (now tree) cap n 2 ⌝ }
+    requires { ⌜ (start < 2 ^ 32) × (end < 2 ^ 32) ⌝ }
+    ensures { λ r. ⌜ (r ≡ n + 2) × Step cap n (now (tree .entry)) (now (tree .exit)) (word (opening line) start ∷ word 112 end ∷ []) ⌝ }
+{
+    let m = put(tree, cap, n, opening_kind(line), start);
+    put(tree, cap, m, 112, end)
+}
+
+// The state after a text that follows the indent, with its marks if it is an element of the pattern.
+fn with_text(st: Reading, indent: usize, slice: TextSlice, tree: &mut [u32], cap: usize) -> Reading
+    requires { ⌜ Fits (now tree) cap (st .n) 2 ⌝ }
+    requires { ⌜ st .at + indent + slice .size ≤ 1000000 ⌝ }
+    ensures { λ r. ⌜ (r ≡ afterText st indent slice) × Step cap (st .n) (now (tree .entry)) (now (tree .exit)) (textWords st indent slice) ⌝ }
+{
+    let role = st.role;
+    let ending = slice.ending;
+    let line = is_line_start(role);
+    let end = st.at + indent + slice.size;
+    let at = end + passed_after(ending);
+    let role = role_after(ending);
+    let last_non_blank = st.last_non_blank;
+    let common_indent = st.common_indent;
+    if !is_element(line, slice) {
+        let n = st.n;
+        return Reading {
+            at,
+            n,
+            role,
+            last_non_blank,
+            common_indent,
+        };
+    }
+    let n = put_element(tree, cap, st.n, line, st.at, end);
+    if slice.blank {
+        return Reading {
+            at,
+            n,
+            role,
+            last_non_blank,
+            common_indent,
+        };
+    }
+    let common_indent = least_indent(line, indent, common_indent);
+    Reading {
+        at,
+        n,
+        role,
+        last_non_blank: n,
+        common_indent,
     }
 }

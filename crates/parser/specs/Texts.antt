@@ -1,0 +1,97 @@
+-- What the code of a text in a pattern answers.
+use Prim.Native.Nat.{ℕ, _+_, min}
+use mathlib.Core.Bool.{Bool, true, false, _&&_, _||_, not}
+use mathlib.Core.List.{List, [], _∷_}
+use lib.Dec.{ltb}
+use Rattle.syntax.specs.Kind as Kind
+use Rattle.syntax.specs.Pattern.{Role, initialLineStart, lineStart, continuation, Ending, lineFeed, crlf, placeableStart, eof, Slice, isLineStart, isLineFeed}
+use Rattle.parser.specs.declared.pattern.TextElementTermination.{TextElementTermination}
+use Rattle.parser.specs.declared.pattern.TextElementTermination.the-variants.{LineFeed, Crlf, PlaceableStart, Eof}
+use Rattle.parser.specs.declared.pattern.TextElementPosition.{TextElementPosition}
+use Rattle.parser.specs.declared.pattern.TextElementPosition.the-variants.{InitialLineStart, LineStart, Continuation}
+use Rattle.parser.specs.declared.pattern.TextSlice.{TextSlice}
+use Rattle.parser.specs.declared.pattern.Reading.{Reading}
+use Rattle.parser.specs.Tree.{Word, word}
+use Rattle.parser.specs.Elements.{opening}
+
+abbrev pub roleOf : TextElementPosition → Role
+roleOf InitialLineStart = initialLineStart
+roleOf LineStart = lineStart
+roleOf Continuation = continuation
+
+abbrev pub endingOf : TextElementTermination → Ending
+endingOf LineFeed = lineFeed
+endingOf Crlf = crlf
+endingOf PlaceableStart = placeableStart
+endingOf Eof = eof
+
+abbrev pub sliceOf : TextSlice → Slice
+sliceOf x = record { size = x .size; blank = x .blank; ending = endingOf (x .ending) }
+
+abbrev pub startsLine : TextElementPosition → Bool
+startsLine InitialLineStart = false
+startsLine LineStart = true
+startsLine Continuation = false
+
+abbrev pub isFeed : TextElementTermination → Bool
+isFeed LineFeed = true
+isFeed Crlf = false
+isFeed PlaceableStart = false
+isFeed Eof = false
+
+abbrev pub positionAfter : TextElementTermination → TextElementPosition
+positionAfter LineFeed = LineStart
+positionAfter Crlf = LineStart
+positionAfter PlaceableStart = Continuation
+positionAfter Eof = Continuation
+
+-- the bytes that are passed with a text: at CRLF the carriage return
+abbrev pub passedAfter : TextElementTermination → ℕ
+passedAfter LineFeed = 0
+passedAfter Crlf = 1
+passedAfter PlaceableStart = 0
+passedAfter Eof = 0
+
+-- the common indent, if a line with this indent counts
+abbrev pub leastOf : Bool → ℕ → ℕ → ℕ
+leastOf true indent common = min indent common
+leastOf false indent common = common
+
+-- whether a text is an element of its pattern, by whether it starts a line
+unfoldable pub isPart : Bool → TextSlice → Bool
+isPart line x = ltb 0 (x .size) && (not line || (not (x .blank) || isFeed (x .ending)))
+
+-- its marks, from a to e
+abbrev pub partWords : Bool → Bool → ℕ → ℕ → List Word
+partWords true line a e = word (opening line) a ∷ word (Kind.closing Kind.text) e ∷ []
+partWords false line a e = []
+
+-- the count of marks, and of those through the last element that is not blank, and the common indent, by whether it is an element and whether
+-- it is blank
+abbrev pub countAfter : Bool → ℕ → ℕ
+countAfter true n = n + 2
+countAfter false n = n
+
+abbrev pub lastAfter : Bool → Bool → ℕ → ℕ → ℕ
+lastAfter true true n last = last
+lastAfter true false n last = n + 2
+lastAfter false blank n last = last
+
+abbrev pub leastAfter : Bool → Bool → Bool → ℕ → ℕ → ℕ
+leastAfter true true line indent common = common
+leastAfter true false line indent common = leastOf line indent common
+leastAfter false blank line indent common = common
+
+-- the marks of a text that follows an indent, and the state after it
+abbrev pub textWords : Reading → ℕ → TextSlice → List Word
+textWords st indent x = partWords (isPart (startsLine (st .role)) x) (startsLine (st .role)) (st .at) (st .at + indent + x .size)
+
+abbrev pub afterText : Reading → ℕ → TextSlice → Reading
+afterText st indent x =
+    record {
+      at = st .at + indent + x .size + passedAfter (x .ending);
+      n = countAfter (isPart (startsLine (st .role)) x) (st .n);
+      role = positionAfter (x .ending);
+      «last_non_blank» = lastAfter (isPart (startsLine (st .role)) x) (x .blank) (st .n) (st .«last_non_blank»);
+      «common_indent» = leastAfter (isPart (startsLine (st .role)) x) (x .blank) (startsLine (st .role)) indent (st .«common_indent»);
+    }
