@@ -7,4 +7,5 @@ pub mod Tests
 pub mod Run
 pub mod Places
 pub mod Dids
+pub mod Held
 pub mod Insert

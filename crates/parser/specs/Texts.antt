@@ -1,18 +1,20 @@
 -- What the code of a text in a pattern answers.
-use Prim.Native.Nat.{ℕ, _+_, min}
+use Prim.Native.Nat.{ℕ, _+_, _≤_, min}
+use mathlib.Core.Path.{_≡_}
 use mathlib.Core.Bool.{Bool, true, false, _&&_, _||_, not}
 use mathlib.Core.List.{List, [], _∷_}
 use lib.Dec.{ltb}
+use lib.ListN.{length, take, drop}
 use Rattle.syntax.specs.Kind as Kind
-use Rattle.syntax.specs.Pattern.{Role, initialLineStart, lineStart, continuation, Ending, lineFeed, crlf, placeableStart, eof, Slice, isLineStart, isLineFeed}
+use Rattle.syntax.specs.Pattern.{Role, initialLineStart, lineStart, continuation, Ending, lineFeed, crlf, placeableStart, eof, Slice, State}
 use Rattle.parser.specs.declared.pattern.TextElementTermination.{TextElementTermination}
 use Rattle.parser.specs.declared.pattern.TextElementTermination.the-variants.{LineFeed, Crlf, PlaceableStart, Eof}
 use Rattle.parser.specs.declared.pattern.TextElementPosition.{TextElementPosition}
 use Rattle.parser.specs.declared.pattern.TextElementPosition.the-variants.{InitialLineStart, LineStart, Continuation}
 use Rattle.parser.specs.declared.pattern.TextSlice.{TextSlice}
 use Rattle.parser.specs.declared.pattern.Reading.{Reading}
-use Rattle.parser.specs.Tree.{Word, word}
-use Rattle.parser.specs.Elements.{opening}
+use Rattle.parser.specs.Tree.{Word, word, Step}
+use Rattle.parser.specs.Elements.{opening, provisional, Sound, Common}
 
 abbrev pub roleOf : TextElementPosition → Role
 roleOf InitialLineStart = initialLineStart
@@ -95,3 +97,15 @@ afterText st indent x =
       «last_non_blank» = lastAfter (isPart (startsLine (st .role)) x) (x .blank) (st .n) (st .«last_non_blank»);
       «common_indent» = leastAfter (isPart (startsLine (st .role)) x) (x .blank) (startsLine (st .role)) indent (st .«common_indent»);
     }
+
+-- The code's state st with the tree t′ holds the definition's state d, of a pattern that starts at a place of the source s, after n marks of
+-- the tree t: the pattern's opening mark and those of its elements are written.
+pub record Holds (s : List ℕ) (cap at n : ℕ) (t t′ : List ℕ) (st : Reading) (d : State) : Type 0 where
+  pub role : d .role ≡ roleOf (st .role)
+  pub place : st .at ≡ at + d .used
+  pub count : st .n ≡ n + 1 + length (provisional at (d .elements))
+  pub wrote : Step cap n t t′ (word Kind.pattern 0 ∷ provisional at (d .elements))
+  pub kept : st .«last_non_blank» ≡ n + 1 + length (provisional at (take (d .kept) (d .elements)))
+  pub few : d .kept ≤ length (d .elements)
+  pub common : Common s (d .common) (st .«common_indent»)
+  pub sound : Sound (drop at s) (d .elements)
