@@ -72,7 +72,7 @@ upKind-twice k j Errors.ExpectedInlineExpression = refl
 upKind-twice k j Errors.ExpectedSimpleExpressionAsSelector = refl
 upKind-twice k j Errors.ExpectedLiteral = refl
 
-upFault-twice : (k j : ℕ) (f : ParserError) → upFault k (upFault j f) ≡ upFault (k + j) f
+pub upFault-twice : (k j : ℕ) (f : ParserError) → upFault k (upFault j f) ≡ upFault (k + j) f
 upFault-twice k j f i = record { start = sym (add-assoc k j (f .start)) i; end = sym (add-assoc k j (f .end)) i; kind = upKind-twice k j (f .kind) i }
 
 upError-twice : (k j : ℕ) (e : Error) → upError k (upError j e) ≡ upError (k + j) e
@@ -96,7 +96,7 @@ unfolding following
 following-twice ms k ns j (read os es) = ap₂ (λ a b. read a b) (marks-after ms k ns j os) (upErrors-twice k j es)
 following-twice ms k ns j (refused i) = ap refused (sym (add-assoc k j i))
 
-upKind-zero : (w : ErrorKind) → upKind 0 w ≡ w
+pub upKind-zero : (w : ErrorKind) → upKind 0 w ≡ w
 upKind-zero (Errors.ExpectedToken b) = refl
 upKind-zero (Errors.ExpectedCharRange b) = refl
 upKind-zero (Errors.ExpectedMessageField a e) = ap₂ Errors.ExpectedMessageField (zero-add a) (zero-add e)

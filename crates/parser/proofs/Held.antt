@@ -14,15 +14,16 @@ use Rattle.syntax.specs.Bytes.{spaces}
 use Rattle.syntax.specs.Marks.{Mark}
 use Rattle.syntax.specs.Pattern.{Role, initialLineStart, lineStart, continuation, Ending, Slice, Element, placeable, text, State, isLineStart, isLineFeed, roleAfter, leastIndent, commonAfter, isElement, withText}
 use Rattle.syntax.specs.Reader.{Out, ok, Turn, again}
-use Rattle.parser.specs.declared.pattern.TextElementTermination.{TextElementTermination}
-use Rattle.parser.specs.declared.pattern.TextElementTermination.the-variants.{LineFeed, Crlf, PlaceableStart, Eof}
+use Rattle.parser.specs.declared.text.TextElementTermination.{TextElementTermination}
+use Rattle.parser.specs.declared.text.TextElementTermination.the-variants.{LineFeed, Crlf, PlaceableStart, Eof}
 use Rattle.parser.specs.declared.pattern.TextElementPosition.{TextElementPosition}
 use Rattle.parser.specs.declared.pattern.TextElementPosition.the-variants.{InitialLineStart, LineStart, Continuation}
-use Rattle.parser.specs.declared.pattern.TextSlice.{TextSlice}
+use Rattle.parser.specs.declared.text.TextSlice.{TextSlice}
 use Rattle.parser.specs.declared.pattern.Reading.{Reading}
 use Rattle.parser.specs.Tree.{Word, word, Step}
 use Rattle.parser.specs.Elements.{opening, provisionalOf, provisional, SoundOne, Sound, Common}
-use Rattle.parser.specs.Texts.{roleOf, endingOf, sliceOf, startsLine, isFeed, positionAfter, passedAfter, leastOf, isPart, partWords, countAfter, lastAfter, leastAfter, textWords, afterText, Holds}
+use Rattle.parser.specs.Slice.{endingOf, sliceOf, crlfWidth, widthOf}
+use Rattle.parser.specs.Texts.{roleOf, startsLine, isFeed, positionAfter, leastOf, isPart, partWords, countAfter, lastAfter, leastAfter, textWords, afterText, Holds}
 use Rattle.parser.proofs.Steps.{step-then}
 use Rattle.parser.proofs.Elements.{provisional-append}
 

@@ -9,3 +9,6 @@ pub mod Places
 pub mod Dids
 pub mod Held
 pub mod Insert
+pub mod Lines
+pub mod Turns
+pub mod Slices

@@ -1,13 +1,13 @@
 -- Runs of bytes that pass a test: what a loop over one keeps, and how it goes on and ends.
 use Prim.Native.Nat.{ℕ, suc, _+_, _≤_, _<_}
-use mathlib.Core.Path.{_≡_, refl}
+use mathlib.Core.Path.{_≡_, refl, _∙_}
 use mathlib.Core.List.{List, [], _∷_}
-use mathlib.Core.Bool.{Bool, true, false}
+use mathlib.Core.Bool.{Bool, true, false, _&&_}
 use native.Mathlib.Omega.{arith}
 use native.Mathlib.Numerals.{add-one}
-use lib.ListN.{length, getD, drop}
+use lib.ListN.{length, getD, drop, drop-of-length-le}
 use lib.Seq.{drop-cons}
-use Rattle.syntax.specs.Bytes.{starts, run}
+use Rattle.syntax.specs.Bytes.{starts, run, all, isLetter, isNamePart}
 use Rattle.parser.specs.Place.{Tests, Passed}
 use Rattle.parser.proofs.Tests.{by, starts-at}
 
@@ -39,3 +39,34 @@ module _ {p : ℕ → Bool} {s : List ℕ} {at i : ℕ} {r : Bool} where
 
   pub going-end : Going p s at i → Tests (starts p) s i r → r ≡ false → Passed s at (run p (drop at s)) i
   going-end g t h = let e = run-none p (drop i s) (by (t .is) h) in record { end = omega arith; within = g .inside }
+
+-- an identifier's first byte is one of its bytes
+pub run-name : (s : List ℕ) (i : ℕ) → i < length s → starts isLetter (drop i s) ≡ true → run isNamePart (drop i s) ≡ suc (run isNamePart (drop (i + 1) s))
+run-name s i l h = run-more isNamePart s i l (starts-at isNamePart s i l ∙ named)
+  where
+    named : isNamePart (getD s i 0) ≡ true
+    named = unfold isNamePart in rw (by (starts-at isLetter s i l) h)
+
+-- ---- all bytes pass a test
+
+pub record Passing (p : ℕ → Bool) (s : List ℕ) (i : ℕ) : Type 0 where
+  pub inside : i ≤ length s
+  pub sofar : all p s ≡ all p (drop i s)
+
+pub passing-none : (p : ℕ → Bool) (s : List ℕ) → Passing p s 0
+passing-none p s = record { inside = omega arith; sofar = refl }
+
+module _ {p : ℕ → Bool} {s : List ℕ} {i : ℕ} (g : Passing p s i) where
+  all-first : i < length s → all p (drop i s) ≡ p (getD s i 0) && all p (drop (i + 1) s)
+  unfolding all
+  all-first l = rw (add-one, drop-cons s i 0 l)
+
+  pub passing-more : {r : Bool} → i < length s → r ≡ p (getD s i 0) → r ≡ true → Passing p s (i + 1)
+  passing-more l e h = record { inside = omega arith; sofar = g .sofar ∙ all-first l ∙ rw (by e h) }
+
+  pub passing-fails : {r : Bool} → i < length s → r ≡ p (getD s i 0) → r ≡ false → all p s ≡ false
+  passing-fails l e h = g .sofar ∙ all-first l ∙ rw (by e h)
+
+  pub passing-end : length s ≤ i → all p s ≡ true
+  unfolding all
+  passing-end l = g .sofar ∙ rw (drop-of-length-le s l)

@@ -1,14 +1,14 @@
 -- Tests that the code makes, and what stands at a place of a source.
-use Prim.Native.Nat.{ℕ, _≤_, _<_}
-use mathlib.Core.Path.{_≡_, refl, sym, _∙_}
+use Prim.Native.Nat.{ℕ, _+_, _≤_, _<_}
+use mathlib.Core.Path.{_≡_, refl, sym, ap, _∙_}
 use mathlib.Core.List.{List, [], _∷_}
 use mathlib.Core.Bool.{Bool, true, false}
 use native.Mathlib.Omega.{arith}
 use lib.Dec.{eqb, ltb}
 use lib.ListN.{length, getD, drop, drop-of-length-le}
-use lib.Seq.{drop-cons}
+use lib.Seq.{drop-cons, drop-drop}
 use borrow.Author.Tests.{le-ltb, ltb-true}
-use Rattle.syntax.specs.Bytes.{startsWith, starts}
+use Rattle.syntax.specs.Bytes.{startsWith, starts, second}
 use Rattle.parser.specs.Place.{Tests}
 
 -- a test that the code made, and what came of it
@@ -38,3 +38,11 @@ test-with b {s} {i} t = record { is = t .is ∙ sym (starts-with b (drop i s)); 
 
 pub test-starts : (b : ℕ) {s : List ℕ} {i : ℕ} {r : Bool} → Tests (startsWith b) s i r → Tests (starts (λ y. eqb y b)) s i r
 test-starts b {s} {i} t = record { is = t .is ∙ starts-with b (drop i s); here = t .here }
+
+-- the byte after the one at a place
+pub second-next : (p : ℕ → Bool) (s : List ℕ) (i : ℕ) → second p (drop i s) ≡ starts p (drop (i + 1) s)
+second-next p s i = tail (drop i s) ∙ ap (starts p) (drop-drop 1 i s)
+  where
+    tail : (x : List ℕ) → second p x ≡ starts p (drop 1 x)
+    tail [] = unfold second starts in refl
+    tail (b ∷ x) = unfold second starts in refl

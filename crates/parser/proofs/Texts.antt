@@ -6,24 +6,25 @@ use mathlib.Core.Bool.{Bool, true, false, _&&_, _||_, not}
 use native.Mathlib.Nat.{add-zero}
 use native.Mathlib.Omega.{arith}
 use lib.ListN.{length}
-use Rattle.parser.specs.declared.pattern.TextElementTermination.{TextElementTermination}
-use Rattle.parser.specs.declared.pattern.TextElementTermination.the-variants.{LineFeed, Crlf, PlaceableStart, Eof}
+use Rattle.parser.specs.declared.text.TextElementTermination.{TextElementTermination}
+use Rattle.parser.specs.declared.text.TextElementTermination.the-variants.{LineFeed, Crlf, PlaceableStart, Eof}
 use Rattle.parser.specs.declared.pattern.TextElementPosition.{TextElementPosition}
-use Rattle.parser.specs.declared.pattern.TextSlice.{TextSlice}
+use Rattle.parser.specs.declared.text.TextSlice.{TextSlice}
 use Rattle.parser.specs.declared.pattern.Reading.{Reading}
 use Rattle.parser.specs.Tree.{Word, word, Step}
 use Rattle.parser.specs.Elements.{opening}
-use Rattle.parser.specs.Texts.{startsLine, positionAfter, passedAfter, isPart, leastOf, textWords, afterText}
+use Rattle.parser.specs.Slice.{endingOf, sliceOf, crlfWidth, widthOf}
+use Rattle.parser.specs.Texts.{startsLine, positionAfter, isPart, leastOf, textWords, afterText}
 use Rattle.parser.proofs.Steps.{step-none}
 
-pub passed-le : (e : TextElementTermination) → passedAfter e ≤ 1
-passed-le LineFeed = omega arith
-passed-le Crlf = omega arith
-passed-le PlaceableStart = omega arith
-passed-le Eof = omega arith
+pub crlf-le : (e : TextElementTermination) → crlfWidth e ≤ 1
+crlf-le LineFeed = omega arith
+crlf-le Crlf = omega arith
+crlf-le PlaceableStart = omega arith
+crlf-le Eof = omega arith
 
 -- ---- what the code makes of a text, by what it tested
-module _ (st : Reading) (i : ℕ) (x : TextSlice) {p : ℕ} {q : TextElementPosition} {l v : Bool} (el : l ≡ startsLine (st .role)) (ev : v ≡ isPart l x) (ep : p ≡ passedAfter (x .ending)) (eq : q ≡ positionAfter (x .ending)) where
+module _ (st : Reading) (i : ℕ) (x : TextSlice) {p : ℕ} {q : TextElementPosition} {l v : Bool} (el : l ≡ startsLine (st .role)) (ev : v ≡ isPart l x) (ep : p ≡ crlfWidth (x .ending)) (eq : q ≡ positionAfter (x .ending)) where
   abbrev made : ℕ → ℕ → ℕ → Reading
   made n b c = record { at = st .at + i + x .size + p; n = n; role = q; «last_non_blank» = b; «common_indent» = c }
 

@@ -5,3 +5,4 @@ pub mod Elements
 pub mod Texts
 pub mod Place
 pub mod Did
+pub mod Slice

@@ -2,8 +2,10 @@
 use Prim.Native.Nat.{ℕ, _+_, _-_, _≤_, _<_}
 use mathlib.Core.Path.{_≡_}
 use mathlib.Core.List.{List, []}
-use mathlib.Core.Bool.{Bool, true}
+use mathlib.Core.Bool.{Bool, true, false}
 use lib.ListN.{length, drop}
+use Rattle.syntax.specs.Byte as Byte
+use Rattle.syntax.specs.Bytes.{startsWith, eol}
 use Rattle.syntax.specs.Errors.{upFault}
 use Rattle.syntax.specs.Reader.{Out, ok, bad, deep}
 use Rattle.parser.specs.declared.helper.Place.{Place}
@@ -40,7 +42,17 @@ abbrev pub reached : Place → ℕ
 reached (At k) = k
 reached (Bad f k) = k
 
+abbrev pub Shallow : {A : Type 0} → Out A → Type 0
+Shallow (ok a ms k) = Unit {0}
+Shallow (bad f k) = Unit {0}
+Shallow (deep k) = ⊥
+
 -- the place is the definition's answer o, and lies in the source
 pub record Found {A : Type 0} (s : List ℕ) (at : ℕ) (o : Out A) (r : Place) : Type 0 where
   pub answers : r ≡ placed at o
+  pub shallow : Shallow o
   pub within : reached r ≤ length s
+
+-- a space or a line end: how many bytes it takes, 0 where there is none
+unfoldable pub blankWidth : List ℕ → ℕ
+blankWidth s = elim (startsWith Byte.space s) [ true ↦ 1 | false ↦ eol s ]

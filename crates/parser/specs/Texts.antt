@@ -6,29 +6,21 @@ use mathlib.Core.List.{List, [], _∷_}
 use lib.Dec.{ltb}
 use lib.ListN.{length, take, drop}
 use Rattle.syntax.specs.Kind as Kind
-use Rattle.syntax.specs.Pattern.{Role, initialLineStart, lineStart, continuation, Ending, lineFeed, crlf, placeableStart, eof, Slice, State}
-use Rattle.parser.specs.declared.pattern.TextElementTermination.{TextElementTermination}
-use Rattle.parser.specs.declared.pattern.TextElementTermination.the-variants.{LineFeed, Crlf, PlaceableStart, Eof}
+use Rattle.syntax.specs.Pattern.{Role, initialLineStart, lineStart, continuation, State}
+use Rattle.parser.specs.declared.text.TextElementTermination.{TextElementTermination}
+use Rattle.parser.specs.declared.text.TextElementTermination.the-variants.{LineFeed, Crlf, PlaceableStart, Eof}
 use Rattle.parser.specs.declared.pattern.TextElementPosition.{TextElementPosition}
 use Rattle.parser.specs.declared.pattern.TextElementPosition.the-variants.{InitialLineStart, LineStart, Continuation}
-use Rattle.parser.specs.declared.pattern.TextSlice.{TextSlice}
+use Rattle.parser.specs.declared.text.TextSlice.{TextSlice}
 use Rattle.parser.specs.declared.pattern.Reading.{Reading}
 use Rattle.parser.specs.Tree.{Word, word, Step}
+use Rattle.parser.specs.Slice.{crlfWidth}
 use Rattle.parser.specs.Elements.{opening, provisional, Sound, Common}
 
 abbrev pub roleOf : TextElementPosition → Role
 roleOf InitialLineStart = initialLineStart
 roleOf LineStart = lineStart
 roleOf Continuation = continuation
-
-abbrev pub endingOf : TextElementTermination → Ending
-endingOf LineFeed = lineFeed
-endingOf Crlf = crlf
-endingOf PlaceableStart = placeableStart
-endingOf Eof = eof
-
-abbrev pub sliceOf : TextSlice → Slice
-sliceOf x = record { size = x .size; blank = x .blank; ending = endingOf (x .ending) }
 
 abbrev pub startsLine : TextElementPosition → Bool
 startsLine InitialLineStart = false
@@ -46,13 +38,6 @@ positionAfter LineFeed = LineStart
 positionAfter Crlf = LineStart
 positionAfter PlaceableStart = Continuation
 positionAfter Eof = Continuation
-
--- the bytes that are passed with a text: at CRLF the carriage return
-abbrev pub passedAfter : TextElementTermination → ℕ
-passedAfter LineFeed = 0
-passedAfter Crlf = 1
-passedAfter PlaceableStart = 0
-passedAfter Eof = 0
 
 -- the common indent, if a line with this indent counts
 abbrev pub leastOf : Bool → ℕ → ℕ → ℕ
@@ -91,7 +76,7 @@ textWords st indent x = partWords (isPart (startsLine (st .role)) x) (startsLine
 abbrev pub afterText : Reading → ℕ → TextSlice → Reading
 afterText st indent x =
     record {
-      at = st .at + indent + x .size + passedAfter (x .ending);
+      at = st .at + indent + x .size + crlfWidth (x .ending);
       n = countAfter (isPart (startsLine (st .role)) x) (st .n);
       role = positionAfter (x .ending);
       «last_non_blank» = lastAfter (isPart (startsLine (st .role)) x) (x .blank) (st .n) (st .«last_non_blank»);

@@ -1,10 +1,13 @@
 // helper.rs: places of the source, and what stands there.
+ghost use mathlib.Core.Path.{_≡_};
+ghost use Prim.Native.Nat.{ℕ};
 ghost use lib.ListN.{drop};
-ghost use Rattle.syntax.specs.Bytes.{startsWith, starts, spaces, isLetter, isDigit, isNamePart};
-ghost use Rattle.syntax.specs.Helper.{expectByte, takeByteIf, skipDigits};
-ghost use Rattle.parser.specs.Place.{Inside, Tests, Passed, Went, Found};
+ghost use Rattle.syntax.specs.Bytes.{startsWith, starts, spaces, eol, run, all, isLetter, isDigit, isNamePart, isCalleePart};
+ghost use Rattle.syntax.specs.Helper.{takeByteIf, skipBlank, expectByte, skipDigits, number, getIdentifier};
+ghost use Rattle.parser.specs.Place.{Inside, Tests, Passed, Went, Found, blankWidth};
 use crate::bytes::is_ascii_alphabetic;
 use crate::bytes::is_ascii_digit;
+use crate::bytes::is_callee_part;
 use crate::bytes::is_name_part;
 use crate::errors::error;
 use syntax::errors::ErrorKind;
@@ -52,6 +55,49 @@ pub fn take_byte_if(source: &[u8], at: usize, b: u8) -> usize
     }
 }
 
+pub fn skip_eol(source: &[u8], at: usize) -> usize
+    requires { ⌜ Inside (now source) at ⌝ }
+    ensures { λ r. ⌜ Passed (now (source .entry)) at (eol (drop at (now (source .entry)))) r ⌝ }
+{
+    if is_current_byte(source, at, b'\n') {
+        return at + 1;
+    }
+    if !is_current_byte(source, at, b'\r') {
+        return at;
+    }
+    if is_current_byte(source, at + 1, b'\n') {
+        at + 2
+    } else {
+        at
+    }
+}
+
+// Past a space or a line end, if one stands here.
+fn skip_one_blank(source: &[u8], at: usize) -> usize
+    requires { ⌜ Inside (now source) at ⌝ }
+    ensures { λ r. ⌜ Passed (now (source .entry)) at (blankWidth (drop at (now (source .entry)))) r ⌝ }
+{
+    if is_current_byte(source, at, b' ') {
+        at + 1
+    } else {
+        skip_eol(source, at)
+    }
+}
+
+pub fn skip_blank(source: &[u8], at: usize) -> usize
+    requires { ⌜ Inside (now source) at ⌝ }
+    ensures { λ r. ⌜ Went (now (source .entry)) at (skipBlank (drop at (now (source .entry)))) tt r ⌝ }
+{
+    let mut end = at;
+    loop {
+        let next = skip_one_blank(source, end);
+        if next == end {
+            return end;
+        }
+        end = next;
+    }
+}
+
 pub fn skip_blank_inline(source: &[u8], at: usize) -> usize
     requires { ⌜ Inside (now source) at ⌝ }
     ensures { λ r. ⌜ Passed (now (source .entry)) at (spaces (drop at (now (source .entry)))) r ⌝ }
@@ -86,4 +132,56 @@ pub fn skip_digits(source: &[u8], at: usize) -> Place
         return Place::Bad(error(ErrorKind::ExpectedCharRange(3), at), at);
     }
     Place::At(end)
+}
+
+pub fn get_number_literal(source: &[u8], at: usize) -> Place
+    requires { ⌜ Inside (now source) at ⌝ }
+    ensures { λ r. ⌜ Found (now (source .entry)) at (number (drop at (now (source .entry)))) r ⌝ }
+{
+    let start = take_byte_if(source, at, b'-');
+    let whole = skip_digits(source, start);
+    let Place::At(end) = whole else {
+        return whole;
+    };
+    if is_current_byte(source, end, b'.') {
+        return skip_digits(source, end + 1);
+    }
+    whole
+}
+
+// Whether each byte of a name may stand in a callee.
+pub fn is_callee(name: &[u8]) -> bool
+    ensures { λ r. ⌜ r ≡ all isCalleePart (now (name .entry)) ⌝ }
+{
+    let mut i = 0;
+    while i < name.len() {
+        if !is_callee_part(name[i]) {
+            return false;
+        }
+        i += 1;
+    }
+    true
+}
+
+// The end of an identifier some of whose bytes have been read.
+pub fn get_identifier_unchecked(source: &[u8], at: usize) -> usize
+    requires { ⌜ Inside (now source) at ⌝ }
+    ensures { λ r. ⌜ Passed (now (source .entry)) at (run isNamePart (drop at (now (source .entry)))) r ⌝ }
+{
+    let mut end = at;
+    while is_name_part_at(source, end) {
+        end += 1;
+    }
+    end
+}
+
+// The end of an identifier; its marks, which `kind` names, are the caller's to write.
+pub fn get_identifier(source: &[u8], at: usize) -> Place
+    requires { ⌜ Inside (now source) at ⌝ }
+    ensures { λ r. ⌜ ((kind : ℕ) → Found (now (source .entry)) at (getIdentifier kind (drop at (now (source .entry)))) r) ⌝ }
+{
+    if !is_identifier_start(source, at) {
+        return Place::Bad(error(ErrorKind::ExpectedCharRange(1), at), at);
+    }
+    Place::At(get_identifier_unchecked(source, at + 1))
 }

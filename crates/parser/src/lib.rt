@@ -4,3 +4,4 @@ pub mod errors;
 pub mod helper;
 pub mod marks;
 pub mod pattern;
+pub mod text;

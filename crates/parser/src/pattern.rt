@@ -9,29 +9,17 @@ ghost use Rattle.syntax.specs.Pattern.{goesOn, isContinuation};
 ghost use Rattle.parser.specs.Tree.{word, marksIn, Step, Fits};
 ghost use Rattle.parser.specs.Settle.{settleWord, isTrimmed, trimmedEnd, trimWords, Within};
 ghost use Rattle.parser.specs.Elements.{opening};
-ghost use Rattle.parser.specs.Texts.{startsLine, isFeed, positionAfter, passedAfter, isPart, leastOf, textWords, afterText};
+ghost use Rattle.parser.specs.Slice.{crlfWidth};
+ghost use Rattle.parser.specs.Texts.{startsLine, isFeed, positionAfter, isPart, leastOf, textWords, afterText};
 use crate::marks::put;
-
-// What ended a text.
-pub enum TextElementTermination {
-    LineFeed,
-    Crlf,
-    PlaceableStart,
-    Eof,
-}
+use crate::text::TextElementTermination;
+use crate::text::TextSlice;
 
 // Where in its pattern a text stands.
 pub enum TextElementPosition {
     InitialLineStart,
     LineStart,
     Continuation,
-}
-
-// A text that was found: its length, whether it is blank, and what ended it.
-pub struct TextSlice {
-    pub size: usize,
-    pub blank: bool,
-    pub ending: TextElementTermination,
 }
 
 // What is known while a pattern is read: the place; the count of marks; where the next text stands; the count of marks
@@ -161,8 +149,8 @@ fn role_after(ending: TextElementTermination) -> TextElementPosition
 }
 
 // At CRLF the carriage return is no part of the text, and is passed with it.
-fn passed_after(ending: TextElementTermination) -> usize
-    ensures { λ r. ⌜ r ≡ passedAfter ending ⌝ }
+fn crlf_width(ending: TextElementTermination) -> usize
+    ensures { λ r. ⌜ r ≡ crlfWidth ending ⌝ }
 {
     match ending {
         TextElementTermination::LineFeed => 0,
@@ -233,7 +221,7 @@ fn with_text(st: Reading, indent: usize, slice: TextSlice, tree: &mut [u32], cap
     let ending = slice.ending;
     let line = is_line_start(role);
     let end = st.at + indent + slice.size;
-    let at = end + passed_after(ending);
+    let at = end + crlf_width(ending);
     let role = role_after(ending);
     let last_non_blank = st.last_non_blank;
     let common_indent = st.common_indent;
