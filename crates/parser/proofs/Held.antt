@@ -75,3 +75,101 @@ common-same : (s : List ℕ) (d : State) (p : TextElementPosition) (common i : �
     → Common s (commonAfter d i (sliceOf x)) (leastAfter (isPart (startsLine p) x) (x .blank) (startsLine p) i common)
 unfolding commonAfter isPart
 common-same s d p common i x e h g = rw (Common, line-is d p e) (common-by s (d .common) common i (ltb 0 (x .size)) (startsLine p) (x .blank) (isFeed (x .ending)) h g)
+
+-- ---- one more element
+module _ (at : ℕ) (es : List Element) (e : Element) where
+  add-words : provisional at (es ++ (e ∷ [])) ≡ provisional at es ++ provisionalOf at e
+  unfolding provisional
+  add-words = provisional-append at es (e ∷ []) ∙ ap (λ (l : List Word). provisional at es ++ l) (append-nil (provisionalOf at e))
+
+  add-count : (n : ℕ) {m : ℕ} → m ≡ n + 1 + length (provisional at es) → m + length (provisionalOf at e) ≡ n + 1 + length (provisional at (es ++ (e ∷ [])))
+  add-count n h = rw (add-words, length-append) (omega arith)
+
+  add-wrote : {cap n m : ℕ} {t t₁ t₂ : List ℕ} {w : Word} → Step cap n t t₁ (w ∷ provisional at es) → m ≡ n + 1 + length (provisional at es) → Step cap m t₁ t₂ (provisionalOf at e)
+      → Step cap n t t₂ (w ∷ provisional at (es ++ (e ∷ [])))
+  add-wrote h c g = rw add-words (step-then h (omega arith) g)
+
+  add-old : (k : ℕ) → k ≤ length es → take k (es ++ (e ∷ [])) ≡ take k es
+  add-old k h = take-append-le k es (e ∷ []) h
+
+  add-new : take (suc (length es)) (es ++ (e ∷ [])) ≡ es ++ (e ∷ [])
+  add-new = take-all (suc (length es)) (es ++ (e ∷ [])) (rw length-append (omega arith))
+
+  add-few : suc (length es) ≤ length (es ++ (e ∷ []))
+  add-few = rw length-append (omega arith)
+
+sound-add : (x : List ℕ) (es : List Element) (e : Element) → Sound x es → SoundOne x e → Sound x (es ++ (e ∷ []))
+sound-add x [] e p q = (q, tt)
+sound-add x (f ∷ es) e p q = (p .0, sound-add x es e (p .1) q)
+
+-- ---- a text
+-- the definition's state after a text
+abbrev pub textState : State → ℕ → Slice → ℕ → State
+textState d i t k =
+    record {
+      role = roleAfter (t .ending);
+      elements = elim (isElement d t) [ true ↦ d .elements ++ (text (d .used) (d .used + i + t .size) i (isLineStart (d .role)) ∷ []) | false ↦ d .elements ];
+      kept = elim (isElement d t && not (t .blank)) [ true ↦ suc (length (d .elements)) | false ↦ d .kept ];
+      common = commonAfter d i t;
+      used = d .used + (i + k);
+    }
+
+-- the element that a text is
+abbrev partOf : State → ℕ → TextSlice → Element
+partOf d i x = text (d .used) (d .used + i + x .size) i (isLineStart (d .role))
+
+module _ {s : List ℕ} {cap at n : ℕ} {t t₁ : List ℕ} {st : Reading} {d : State} (i : ℕ) (x : TextSlice) (h : Holds s cap at n t t₁ st d) (inside : st .at + i + x .size ≤ length s)
+  (spaced : startsLine (st .role) ≡ true → i ≡ spaces (drop (st .at) s)) where
+
+  part-sound : SoundOne (drop at s) (partOf d i x)
+  part-sound =
+      let z = length-drop at s in
+      let p = h .place in
+      (omega arith, omega arith, λ l. spaced (sym (line-is d (st .role) (h .role)) ∙ l) ∙ ap (λ (k : ℕ). spaces (drop k s)) p ∙ ap spaces (sym (drop-drop (d .used) at s)))
+
+  part-words : provisionalOf at (partOf d i x) ≡ partWords true (startsLine (st .role)) (st .at) (st .at + i + x .size)
+  unfolding provisionalOf
+  part-words =
+      let p = h .place in
+      let q : at + (d .used + i + x .size) ≡ st .at + i + x .size = omega arith in
+      rw (line-is d (st .role) (h .role), q, ← p)
+
+  text-by : {t₂ : List ℕ} (v b : Bool) → Step cap (st .n) t₁ t₂ (partWords v (startsLine (st .role)) (st .at) (st .at + i + x .size))
+      → Common s (commonAfter d i (sliceOf x)) (leastAfter v b (startsLine (st .role)) i (st .«common_indent»))
+      → Holds s cap at n t t₂
+        (record { at = st .at + i + x .size + crlfWidth (x .ending); n = countAfter v (st .n); role = positionAfter (x .ending); «last_non_blank» = lastAfter v b (st .n) (st .«last_non_blank»); «common_indent» = leastAfter v b (startsLine (st .role)) i (st .«common_indent») })
+        (record { role = roleAfter (endingOf (x .ending)); elements = elim v [ true ↦ d .elements ++ ((partOf d i x) ∷ []) | false ↦ d .elements ]; kept = elim (v && not b) [ true ↦ suc (length (d .elements)) | false ↦ d .kept ]; common = commonAfter d i (sliceOf x); used = d .used + (i + widthOf x) })
+  text-by {t₂} false b w c =
+      let p = h .place in
+      record {
+        role = role-same (x .ending); place = omega arith; count = h .count;
+        wrote = rw append-nil at (step-then (h .wrote) (omega (arith, h .count)) w);
+        kept = h .kept; few = h .few; common = c; sound = h .sound;
+      }
+  text-by {t₂} true true w c =
+      let p = h .place in
+      let g : Step cap (st .n) t₁ t₂ (provisionalOf at (partOf d i x)) = rw part-words w in
+      let l : length (provisionalOf at (partOf d i x)) ≡ 2 = rw part-words in
+      record {
+        role = role-same (x .ending); place = omega arith;
+        count = rw l at (add-count at (d .elements) (partOf d i x) n (h .count));
+        wrote = add-wrote at (d .elements) (partOf d i x) (h .wrote) (h .count) g;
+        kept = rw (add-old at (d .elements) (partOf d i x) (d .kept) (h .few)) (h .kept);
+        few = omega (arith, h .few, add-few at (d .elements) (partOf d i x)); common = c; sound = sound-add (drop at s) (d .elements) (partOf d i x) (h .sound) part-sound;
+      }
+  text-by {t₂} true false w c =
+      let p = h .place in
+      let g : Step cap (st .n) t₁ t₂ (provisionalOf at (partOf d i x)) = rw part-words w in
+      let l : length (provisionalOf at (partOf d i x)) ≡ 2 = rw part-words in
+      let q : st .n + 2 ≡ n + 1 + length (provisional at (d .elements ++ ((partOf d i x) ∷ []))) = rw l at (add-count at (d .elements) (partOf d i x) n (h .count)) in
+      record {
+        role = role-same (x .ending); place = omega arith; count = q;
+        wrote = add-wrote at (d .elements) (partOf d i x) (h .wrote) (h .count) g;
+        kept = rw (add-new at (d .elements) (partOf d i x)) q;
+        few = add-few at (d .elements) (partOf d i x); common = c; sound = sound-add (drop at s) (d .elements) (partOf d i x) (h .sound) part-sound;
+      }
+
+  pub holds-text : {t₂ : List ℕ} → Step cap (st .n) t₁ t₂ (textWords st i x) → Holds s cap at n t t₂ (afterText st i x) (textState d i (sliceOf x) (widthOf x))
+  holds-text w =
+      let c = common-same s d (st .role) (st .«common_indent») i x (h .role) (omega arith) (h .common) in
+      rw (part-same d (st .role) x (h .role)) (text-by (isPart (startsLine (st .role)) x) (x .blank) w c)
