@@ -119,8 +119,7 @@ abbrev partOf : State → ℕ → TextSlice → Element
 partOf d i x = text (d .used) (d .used + i + x .size) i (isLineStart (d .role))
 
 module _ {s : List ℕ} {cap at n : ℕ} {t t₁ : List ℕ} {st : Reading} {d : State} (i : ℕ) (x : TextSlice) (h : Holds s cap at n t t₁ st d) (inside : st .at + i + x .size ≤ length s)
-  (spaced : startsLine (st .role) ≡ true → i ≡ spaces (drop (st .at) s)) where
-
+    (spaced : startsLine (st .role) ≡ true → i ≡ spaces (drop (st .at) s)) where
   part-sound : SoundOne (drop at s) (partOf d i x)
   part-sound =
       let z = length-drop at s in
@@ -137,25 +136,33 @@ module _ {s : List ℕ} {cap at n : ℕ} {t t₁ : List ℕ} {st : Reading} {d :
   text-by : {t₂ : List ℕ} (v b : Bool) → Step cap (st .n) t₁ t₂ (partWords v (startsLine (st .role)) (st .at) (st .at + i + x .size))
       → Common s (commonAfter d i (sliceOf x)) (leastAfter v b (startsLine (st .role)) i (st .«common_indent»))
       → Holds s cap at n t t₂
-        (record { at = st .at + i + x .size + crlfWidth (x .ending); n = countAfter v (st .n); role = positionAfter (x .ending); «last_non_blank» = lastAfter v b (st .n) (st .«last_non_blank»); «common_indent» = leastAfter v b (startsLine (st .role)) i (st .«common_indent») })
-        (record { role = roleAfter (endingOf (x .ending)); elements = elim v [ true ↦ d .elements ++ ((partOf d i x) ∷ []) | false ↦ d .elements ]; kept = elim (v && not b) [ true ↦ suc (length (d .elements)) | false ↦ d .kept ]; common = commonAfter d i (sliceOf x); used = d .used + (i + widthOf x) })
+      (record { at = st .at + i + x .size + crlfWidth (x .ending); n = countAfter v (st .n); role = positionAfter (x .ending); «last_non_blank» = lastAfter v b (st .n) (st .«last_non_blank»); «common_indent» = leastAfter v b (startsLine (st .role)) i (st .«common_indent») })
+      (record { role = roleAfter (endingOf (x .ending)); elements = elim v [ true ↦ d .elements ++ ((partOf d i x) ∷ []) | false ↦ d .elements ]; kept = elim (v && not b) [ true ↦ suc (length (d .elements)) | false ↦ d .kept ]; common = commonAfter d i (sliceOf x); used = d .used + (i + widthOf x) })
   text-by {t₂} false b w c =
       let p = h .place in
       record {
-        role = role-same (x .ending); place = omega arith; count = h .count;
+        role = role-same (x .ending);
+        place = omega arith;
+        count = h .count;
         wrote = rw append-nil at (step-then (h .wrote) (omega (arith, h .count)) w);
-        kept = h .kept; few = h .few; common = c; sound = h .sound;
+        kept = h .kept;
+        few = h .few;
+        common = c;
+        sound = h .sound;
       }
   text-by {t₂} true true w c =
       let p = h .place in
       let g : Step cap (st .n) t₁ t₂ (provisionalOf at (partOf d i x)) = rw part-words w in
       let l : length (provisionalOf at (partOf d i x)) ≡ 2 = rw part-words in
       record {
-        role = role-same (x .ending); place = omega arith;
+        role = role-same (x .ending);
+        place = omega arith;
         count = rw l at (add-count at (d .elements) (partOf d i x) n (h .count));
         wrote = add-wrote at (d .elements) (partOf d i x) (h .wrote) (h .count) g;
         kept = rw (add-old at (d .elements) (partOf d i x) (d .kept) (h .few)) (h .kept);
-        few = omega (arith, h .few, add-few at (d .elements) (partOf d i x)); common = c; sound = sound-add (drop at s) (d .elements) (partOf d i x) (h .sound) part-sound;
+        few = omega (arith, h .few, add-few at (d .elements) (partOf d i x));
+        common = c;
+        sound = sound-add (drop at s) (d .elements) (partOf d i x) (h .sound) part-sound;
       }
   text-by {t₂} true false w c =
       let p = h .place in
@@ -163,10 +170,14 @@ module _ {s : List ℕ} {cap at n : ℕ} {t t₁ : List ℕ} {st : Reading} {d :
       let l : length (provisionalOf at (partOf d i x)) ≡ 2 = rw part-words in
       let q : st .n + 2 ≡ n + 1 + length (provisional at (d .elements ++ ((partOf d i x) ∷ []))) = rw l at (add-count at (d .elements) (partOf d i x) n (h .count)) in
       record {
-        role = role-same (x .ending); place = omega arith; count = q;
+        role = role-same (x .ending);
+        place = omega arith;
+        count = q;
         wrote = add-wrote at (d .elements) (partOf d i x) (h .wrote) (h .count) g;
         kept = rw (add-new at (d .elements) (partOf d i x)) q;
-        few = add-few at (d .elements) (partOf d i x); common = c; sound = sound-add (drop at s) (d .elements) (partOf d i x) (h .sound) part-sound;
+        few = add-few at (d .elements) (partOf d i x);
+        common = c;
+        sound = sound-add (drop at s) (d .elements) (partOf d i x) (h .sound) part-sound;
       }
 
   pub holds-text : {t₂ : List ℕ} → Step cap (st .n) t₁ t₂ (textWords st i x) → Holds s cap at n t t₂ (afterText st i x) (textState d i (sliceOf x) (widthOf x))

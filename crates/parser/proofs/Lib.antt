@@ -8,6 +8,7 @@ pub mod Run
 pub mod Places
 pub mod Dids
 pub mod Held
+pub mod TextTurns
 pub mod Insert
 pub mod Lines
 pub mod Turns

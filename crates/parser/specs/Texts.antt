@@ -1,11 +1,15 @@
 -- What the code of a text in a pattern answers.
-use Prim.Native.Nat.{ℕ, _+_, _≤_, min}
+use Prim.Native.Nat.{ℕ, _+_, _-_, _≤_, _<_, min}
 use mathlib.Core.Path.{_≡_}
 use mathlib.Core.Bool.{Bool, true, false, _&&_, _||_, not}
 use mathlib.Core.List.{List, [], _∷_}
 use lib.Dec.{ltb}
 use lib.ListN.{length, take, drop}
+use Rattle.syntax.specs.Byte as Byte
 use Rattle.syntax.specs.Kind as Kind
+use Rattle.syntax.specs.Bytes.{startsWith, spaces}
+use Rattle.syntax.specs.Errors.{upFault}
+use Rattle.syntax.specs.Reader.{Turn, again, done, ok, bad}
 use Rattle.syntax.specs.Pattern.{Role, initialLineStart, lineStart, continuation, State}
 use Rattle.parser.specs.declared.text.TextElementTermination.{TextElementTermination}
 use Rattle.parser.specs.declared.text.TextElementTermination.the-variants.{LineFeed, Crlf, PlaceableStart, Eof}
@@ -13,7 +17,9 @@ use Rattle.parser.specs.declared.pattern.TextElementPosition.{TextElemen
 use Rattle.parser.specs.declared.pattern.TextElementPosition.the-variants.{InitialLineStart, LineStart, Continuation}
 use Rattle.parser.specs.declared.text.TextSlice.{TextSlice}
 use Rattle.parser.specs.declared.pattern.Reading.{Reading}
-use Rattle.parser.specs.Tree.{Word, word, Step}
+use Rattle.parser.specs.declared.pattern.TextTurn.{TextTurn}
+use Rattle.parser.specs.declared.pattern.TextTurn.the-variants.{Next, End, Bad}
+use Rattle.parser.specs.Tree.{Word, word, Step, Fits}
 use Rattle.parser.specs.Slice.{crlfWidth}
 use Rattle.parser.specs.Elements.{opening, provisional, Sound, Common}
 
@@ -94,3 +100,34 @@ pub record Holds (s : List ℕ) (cap at n : ℕ) (t t′ : List ℕ) (st : Readi
   pub few : d .kept ≤ length (d .elements)
   pub common : Common s (d .common) (st .«common_indent»)
   pub sound : Sound (drop at s) (d .elements)
+
+-- there is one
+pub record Taken {A : Type 0} (P : A → Type 0) : Type 0 where
+  pub it : A
+  pub is : P it
+
+-- a text may be read after an indent: the spaces at the state's place, if a line starts there. It takes a byte with its indent
+pub record Ready (s t : List ℕ) (cap : ℕ) (st : Reading) (indent : ℕ) : Type 0 where
+  pub inside : st .at + indent < length s
+  pub short : length s ≤ 1000000
+  pub fits : Fits t cap (st .n) 2
+  pub spaced : startsLine (st .role) ≡ true → indent ≡ spaces (drop (st .at) s)
+  pub moves : startsWith Byte.openBrace (drop (st .at + indent) s) ≡ true → 0 < indent
+
+-- where a turn ends
+abbrev pub Onward : List ℕ → Reading → TextTurn → Type 0
+Onward s st (Next st′) = (st .at < st′ .at) × (st′ .at ≤ length s) × (st′ .n ≤ st .n + 2)
+Onward s st (End e) = (st .at ≤ e) × (e ≤ length s)
+Onward s st (Bad f e) = (st .at ≤ e) × (e ≤ length s)
+
+-- the turn o of the definition's state d, which the code's st holds, is the code's
+abbrev pub Turned : List ℕ → ℕ → ℕ → ℕ → List ℕ → List ℕ → Reading → State → Turn State State → TextTurn → Type 0
+Turned s cap at n t t′ st d o (Next st′) = Taken (λ d′. (o ≡ again d′ [] (st′ .at - st .at)) × Holds s cap at n t t′ st′ d′)
+Turned s cap at n t t′ st d o (End e) = (o ≡ done (ok d [] (e - st .at))) × Holds s cap at n t t′ st d
+Turned s cap at n t t′ st d o (Bad f e) = Taken (λ f′. (o ≡ done (bad f′ (e - st .at))) × (f ≡ upFault (st .at) f′)) × Step cap n t t′ []
+
+-- what a turn did, for every pattern and state of the definition that the code's state holds
+pub record TextDid (s : List ℕ) (cap : ℕ) (t t′ : List ℕ) (st : Reading) (f : State → Turn State State) (r : TextTurn) : Type 0 where
+  pub long : length t′ ≡ length t
+  pub onward : Onward s st r
+  pub held : (at n : ℕ) (t₀ : List ℕ) (d : State) → Holds s cap at n t₀ t st d → Turned s cap at n t₀ t′ st d (f d) r

@@ -1,19 +1,27 @@
 // pattern.rs: patterns. The common indent is known only where a pattern ends. Until then a text at the start of a line is marked from
 // the line's start on, by a kind of its own; at the end the marks are settled.
 ghost use Prim.Native.Nat.{_+_, _≤_, _<_, _^_, min};
+ghost use mathlib.Core.Bool.{true, false};
 ghost use mathlib.Core.Path.{_≡_};
 ghost use mathlib.Core.List.{[], _∷_, map};
 ghost use lib.ListN.{length, drop};
-ghost use Rattle.syntax.specs.Bytes.{spaces};
-ghost use Rattle.syntax.specs.Pattern.{goesOn, isContinuation};
+ghost use Rattle.syntax.specs.Bytes.{startsWith, spaces};
+ghost use Rattle.syntax.specs.Pattern.{isContinuation, goesOn, getTextSlice, withText, textTurn};
 ghost use Rattle.parser.specs.Tree.{word, marksIn, Step, Fits};
 ghost use Rattle.parser.specs.Settle.{settleWord, isTrimmed, trimmedEnd, trimWords, Within};
 ghost use Rattle.parser.specs.Elements.{opening};
+ghost use Rattle.parser.specs.Did.{Room};
 ghost use Rattle.parser.specs.Slice.{crlfWidth};
-ghost use Rattle.parser.specs.Texts.{startsLine, isFeed, positionAfter, isPart, leastOf, textWords, afterText};
+ghost use Rattle.parser.specs.Texts.{startsLine, isFeed, positionAfter, isPart, leastOf, textWords, afterText, TextDid, Ready};
+use crate::errors::error;
+use crate::helper::skip_blank_inline;
 use crate::marks::put;
 use crate::text::TextElementTermination;
+use crate::text::TextRead;
 use crate::text::TextSlice;
+use crate::text::get_text_slice;
+use syntax::errors::ErrorKind;
+use syntax::errors::ParserError;
 
 // Where in its pattern a text stands.
 pub enum TextElementPosition {
@@ -30,6 +38,13 @@ pub struct Reading {
     pub role: TextElementPosition,
     pub last_non_blank: usize,
     pub common_indent: usize,
+}
+
+// What became of a text: the state after it; where the pattern ends instead; or an error and where reading stopped.
+pub enum TextTurn {
+    Next(Reading),
+    End(usize),
+    Bad(ParserError, usize),
 }
 
 // The kind, until its pattern ends, of the mark that opens a text at the start of a line.
@@ -253,4 +268,57 @@ fn with_text(st: Reading, indent: usize, slice: TextSlice, tree: &mut [u32], cap
         last_non_blank: n,
         common_indent,
     }
+}
+
+fn is_byte_pattern_continuation(b: u8) -> bool
+    ensures { λ r. ⌜ r ≡ isContinuation b ⌝ }
+{
+    b != b'.' && (b != b'}' && (b != b'[' && b != b'*'))
+}
+
+// Whether a line goes on with the pattern, by its indent and the byte after it.
+fn goes_on(indent: usize, b: u8) -> bool
+    ensures { λ r. ⌜ r ≡ goesOn indent b ⌝ }
+{
+    if indent == 0 {
+        return b == b'\r' || b == b'\n';
+    }
+    is_byte_pattern_continuation(b)
+}
+
+// A text that follows an indent.
+fn get_text(source: &[u8], st: Reading, indent: usize, tree: &mut [u32], cap: usize) -> TextTurn
+    requires { ⌜ Ready (now source) (now tree) cap st indent ⌝ }
+    ensures { λ r. ⌜ TextDid (now (source .entry)) cap (now (tree .entry)) (now (tree .exit)) st (λ d. withText d indent (getTextSlice (drop (st .at + indent) (now (source .entry))))) r ⌝ }
+{
+    let start = st.at + indent;
+    let rest = &source[start..];
+    match get_text_slice(rest) {
+        TextRead::Text(slice) => TextTurn::Next(with_text(st, indent, slice, tree, cap)),
+        TextRead::UnbalancedClosingBrace(k) => {
+            let end = start + k;
+            TextTurn::Bad(error(ErrorKind::UnbalancedClosingBrace, end), end)
+        }
+    }
+}
+
+// What stands at a place of a pattern where no placeable starts.
+pub fn text_turn(source: &[u8], st: Reading, tree: &mut [u32], cap: usize) -> TextTurn
+    requires { ⌜ Room (now source) (now tree) cap (st .at) (st .n) 1 ⌝ }
+    requires { ⌜ (st .at < length (now source)) × (startsWith 123 (drop (st .at) (now source)) ≡ false) ⌝ }
+    ensures { λ r. ⌜ TextDid (now (source .entry)) cap (now (tree .entry)) (now (tree .exit)) st (λ d. textTurn d (drop (st .at) (now (source .entry)))) r ⌝ }
+{
+    let role = st.role;
+    let at = st.at;
+    if !is_line_start(role) {
+        return get_text(source, st, 0, tree, cap);
+    }
+    let start = skip_blank_inline(source, at);
+    if start == source.len() {
+        return TextTurn::End(start);
+    }
+    if goes_on(start - at, source[start]) {
+        return get_text(source, st, start - at, tree, cap);
+    }
+    TextTurn::End(at)
 }
