@@ -5,5 +5,8 @@ pub mod Loop
 pub mod Stable
 pub mod Entries
 pub mod Progress
+pub mod File
 pub mod Balanced
+pub mod Bounds
+pub mod Limit
 pub mod Lines

@@ -1,4 +1,5 @@
 -- Loops: `repeat` is one turn and then `repeat` from where it ends. As each turn uses a byte, the turns that are allowed never run out.
+pub mod Turns
 use Prim.Native.Nat.{ℕ, zero, suc, _+_, _≤_, _<_}
 use native.Mathlib.Nat.{not-suc-le-zero, le-of-suc-le-suc}
 use native.Mathlib.Omega.{arith}
