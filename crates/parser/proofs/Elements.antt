@@ -28,11 +28,11 @@ provisional-append at [] fs = refl
 provisional-append at (e ∷ es) fs = rw (provisional-append at es fs) (sym (append-assoc (provisionalOf at e) (provisional at es) (provisional at fs)))
 
 -- ---- elements that are settled and not trimmed
-abbrev settledOf : Option ℕ → Element → List Mark
+abbrev pub settledOf : Option ℕ → Element → List Mark
 settledOf c (placeable ms) = node Kind.placeable ms
 settledOf c (text a e i l) = textNode Kind.text (dedented c a i l) e
 
-abbrev settled : Option ℕ → List Element → List Mark
+abbrev pub settled : Option ℕ → List Element → List Mark
 settled c [] = []
 settled c (e ∷ es) = settledOf c e ++ settled c es
 
@@ -67,7 +67,7 @@ settle-element s c common at (text a e i true) h l =
 settle-element s c common at (text a e i false) h l = unfold dedented in
     ap₂ (λ (w v : Word). w ∷ v ∷ []) (other-word s common 12 (at + a) (λ q. omega arith)) (other-word s common 112 (at + e) (λ q. omega arith))
 
-settle-elements : (s : List ℕ) (c : Option ℕ) (common at : ℕ) (es : List Element) → Common s c common → Sound (drop at s) es → map (settleWord s common) (provisional at es) ≡ wordsAt at (settled c es)
+pub settle-elements : (s : List ℕ) (c : Option ℕ) (common at : ℕ) (es : List Element) → Common s c common → Sound (drop at s) es → map (settleWord s common) (provisional at es) ≡ wordsAt at (settled c es)
 unfolding provisional
 settle-elements s c common at [] h l = unfold wordsAt moveUp in refl
 settle-elements s c common at (e ∷ es) h l =
@@ -91,11 +91,18 @@ within-cons s (word k a) (word j e ∷ u ∷ ws) h = (λ q. q, λ q. q)
 longer : (xs ws : List Word) → 2 ≤ length ws → 2 ≤ length (xs ++ ws)
 longer xs ws h = rw length-append (omega arith)
 
-trim-append : (s : List ℕ) (xs ws : List Word) → 2 ≤ length ws → trimWords s (xs ++ ws) ≡ xs ++ trimWords s ws
+pub trim-length : (s : List ℕ) (ws : List Word) → length (trimWords s ws) ≡ length ws
+unfolding trimWords
+trim-length s [] = refl
+trim-length s (w ∷ []) = refl
+trim-length s (word k a ∷ word j e ∷ []) = refl
+trim-length s (word k a ∷ word j e ∷ u ∷ ws) = ap suc (trim-length s (word j e ∷ u ∷ ws))
+
+pub trim-append : (s : List ℕ) (xs ws : List Word) → 2 ≤ length ws → trimWords s (xs ++ ws) ≡ xs ++ trimWords s ws
 trim-append s [] ws h = refl
 trim-append s (x ∷ xs) ws h = trim-cons s x (xs ++ ws) (longer xs ws h) ∙ ap (λ (l : List Word). x ∷ l) (trim-append s xs ws h)
 
-within-append : (s : List ℕ) (xs ws : List Word) → 2 ≤ length ws → (Within s ws → Within s (xs ++ ws)) × (Within s (xs ++ ws) → Within s ws)
+pub within-append : (s : List ℕ) (xs ws : List Word) → 2 ≤ length ws → (Within s ws → Within s (xs ++ ws)) × (Within s (xs ++ ws) → Within s ws)
 within-append s [] ws h = (λ q. q, λ q. q)
 within-append s (x ∷ xs) ws h =
     let one = within-cons s x (xs ++ ws) (longer xs ws h) in
@@ -115,11 +122,11 @@ within-other s [] j p f = tt
 within-other s (word k a ∷ []) j p f = λ e. absurd (f e)
 within-other s (x ∷ y ∷ xs) j p f = within-cons s x (y ∷ (xs ++ (word j p ∷ []))) (rw length-append (omega arith)) .0 (within-other s (y ∷ xs) j p f)
 
-node-words : (at : ℕ) (ms : List Mark) → wordsAt at (node 13 ms) ≡ (word 13 0 ∷ wordsAt at ms) ++ (word 113 0 ∷ [])
+pub node-words : (at kind : ℕ) (ms : List Mark) → wordsAt at (node kind ms) ≡ (word kind 0 ∷ wordsAt at ms) ++ (word (100 + kind) 0 ∷ [])
 unfolding node wordsAt moveUp
-node-words at ms = ap (λ (l : List Word). word 13 0 ∷ l) (words-append at ms (plain 113 ∷ []))
+node-words at kind ms = ap (λ (l : List Word). word kind 0 ∷ l) (words-append at ms (plain (100 + kind) ∷ []))
 
-two-words : (c : Option ℕ) (at : ℕ) (e : Element) (es : List Element) → 2 ≤ length (wordsAt at (settled c (e ∷ es)))
+pub two-words : (c : Option ℕ) (at : ℕ) (e : Element) (es : List Element) → 2 ≤ length (wordsAt at (settled c (e ∷ es)))
 two-words c at e es = rw (words-length, length-append) (go e)
   where
     go : (e : Element) → 2 ≤ length (settledOf c e) + length (settled c es)
@@ -132,7 +139,7 @@ end-at s at a e = let q : at + e - (at + a) ≡ e - a = omega arith in rw (q, dr
 
 trim-last : (s : List ℕ) (c : Option ℕ) (at : ℕ) (e : Element) (es : List Element) → trimWords s (wordsAt at (settled c (e ∷ []))) ≡ wordsAt at (elementMarks (drop at s) c 1 (e ∷ es))
 unfolding elementMarks textMarks
-trim-last s c at (placeable ms) es = rw (append-nil, node-words) (trim-other s (word 13 0 ∷ wordsAt at ms) 113 0 (λ e. omega arith))
+trim-last s c at (placeable ms) es = rw (append-nil, node-words at 13 ms) (trim-other s (word 13 0 ∷ wordsAt at ms) 113 0 (λ e. omega arith))
 trim-last s c at (text a e i l) es = unfold trimWords textNode wordsAt moveUp in (ap (λ (p : ℕ). word 12 (at + dedented c a i l) ∷ word 112 p ∷ []) (end-at s at (dedented c a i l) e))
 
 -- an element that is not the last
@@ -141,7 +148,7 @@ unfolding elementMarks
 inner-marks x c n (placeable ms) es = refl
 inner-marks x c n (text a e i l) es = unfold textMarks in (rw (eqb·suc-zero n))
 
-trim-elements : (s : List ℕ) (c : Option ℕ) (at n : ℕ) (es : List Element) → suc n ≤ length es → trimWords s (wordsAt at (settled c (take (suc n) es))) ≡ wordsAt at (elementMarks (drop at s) c (suc n) es)
+pub trim-elements : (s : List ℕ) (c : Option ℕ) (at n : ℕ) (es : List Element) → suc n ≤ length es → trimWords s (wordsAt at (settled c (take (suc n) es))) ≡ wordsAt at (elementMarks (drop at s) c (suc n) es)
 trim-elements s c at n [] h = absurd (omega arith)
 trim-elements s c at zero (e ∷ es) h = trim-last s c at e es
 trim-elements s c at (suc n) (e ∷ []) h = absurd (omega arith)
@@ -158,9 +165,9 @@ dedented-le c a i false = omega arith
 dedented-le none a i true = omega arith
 dedented-le (some c) a i true = omega arith
 
-within-elements : (s : List ℕ) (c : Option ℕ) (at : ℕ) (es : List Element) → at ≤ length s → Sound (drop at s) es → Within s (wordsAt at (settled c es))
+pub within-elements : (s : List ℕ) (c : Option ℕ) (at : ℕ) (es : List Element) → at ≤ length s → Sound (drop at s) es → Within s (wordsAt at (settled c es))
 within-elements s c at [] h l = unfold Within wordsAt moveUp in tt
-within-elements s c at (placeable ms ∷ []) h l = rw (append-nil, node-words) (within-other s (word 13 0 ∷ wordsAt at ms) 113 0 (λ e. omega arith))
+within-elements s c at (placeable ms ∷ []) h l = rw (append-nil, node-words at 13 ms) (within-other s (word 13 0 ∷ wordsAt at ms) 113 0 (λ e. omega arith))
 within-elements s c at (text a e i v ∷ []) h l = unfold Within textNode wordsAt moveUp in
     (λ q. let d = dedented-le c a i v in let z = length-drop at s in (omega (arith, l .0 .0), omega (arith, l .0 .1)))
 within-elements s c at (e ∷ f ∷ es) h l =

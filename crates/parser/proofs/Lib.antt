@@ -9,6 +9,7 @@ pub mod Places
 pub mod Dids
 pub mod Held
 pub mod TextTurns
+pub mod Finish
 pub mod Insert
 pub mod Lines
 pub mod Turns

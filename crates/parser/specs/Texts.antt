@@ -10,7 +10,7 @@ use Rattle.syntax.specs.Kind as Kind
 use Rattle.syntax.specs.Bytes.{startsWith, spaces}
 use Rattle.syntax.specs.Errors.{upFault}
 use Rattle.syntax.specs.Reader.{Turn, again, done, ok, bad}
-use Rattle.syntax.specs.Pattern.{Role, initialLineStart, lineStart, continuation, State}
+use Rattle.syntax.specs.Pattern.{Role, initialLineStart, lineStart, continuation, State, finish}
 use Rattle.parser.specs.declared.text.TextElementTermination.{TextElementTermination}
 use Rattle.parser.specs.declared.text.TextElementTermination.the-variants.{LineFeed, Crlf, PlaceableStart, Eof}
 use Rattle.parser.specs.declared.pattern.TextElementPosition.{TextElementPosition}
@@ -20,6 +20,8 @@ use Rattle.parser.specs.declared.pattern.Reading.{Reading}
 use Rattle.parser.specs.declared.pattern.TextTurn.{TextTurn}
 use Rattle.parser.specs.declared.pattern.TextTurn.the-variants.{Next, End, Bad}
 use Rattle.parser.specs.Tree.{Word, word, Step, Fits}
+use Rattle.parser.specs.declared.marks.Read.{Read}
+use Rattle.parser.specs.Did.{reading, Did}
 use Rattle.parser.specs.Slice.{crlfWidth}
 use Rattle.parser.specs.Elements.{opening, provisional, Sound, Common}
 
@@ -131,3 +133,17 @@ pub record TextDid (s : List ℕ) (cap : ℕ) (t t′ : List ℕ) (st : Reading)
   pub long : length t′ ≡ length t
   pub onward : Onward s st r
   pub held : (at n : ℕ) (t₀ : List ℕ) (d : State) → Holds s cap at n t₀ t st d → Turned s cap at n t₀ t′ st d (f d) r
+
+-- a pattern at some place can end: the state holds one of the definition's, and there is room for the closing mark
+pub record Ends (s t : List ℕ) (cap n : ℕ) (st : Reading) : Type 0 where
+  pub at : ℕ
+  pub before : List ℕ
+  pub state : State
+  pub holds : Holds s cap at n before t st state
+  pub inside : at ≤ length s
+  pub short : length s ≤ 1000000
+  pub fits : Fits t cap (st .n) 1
+
+-- what the end did, for every pattern and state of the definition that the code's state holds
+pub record Ended (s : List ℕ) (cap n : ℕ) (t t′ : List ℕ) (st : Reading) (end : ℕ) (r : Read) : Type 0 where
+  pub did : (at : ℕ) (t₀ : List ℕ) (d : State) → at ≤ end → Holds s cap at n t₀ t st d → Did reading cap at n t₀ t′ r (finish (drop at s) (ok d [] (end - at)))

@@ -12,9 +12,10 @@ ghost use Rattle.parser.specs.Settle.{settleWord, isTrimmed, trimmedEnd,
 ghost use Rattle.parser.specs.Elements.{opening};
 ghost use Rattle.parser.specs.Did.{Room};
 ghost use Rattle.parser.specs.Slice.{crlfWidth};
-ghost use Rattle.parser.specs.Texts.{startsLine, isFeed, positionAfter, isPart, leastOf, textWords, afterText, TextDid, Ready};
+ghost use Rattle.parser.specs.Texts.{startsLine, isFeed, positionAfter, isPart, leastOf, textWords, afterText, TextDid, Ready, Ends, Ended};
 use crate::errors::error;
 use crate::helper::skip_blank_inline;
+use crate::marks::Read;
 use crate::marks::put;
 use crate::text::TextElementTermination;
 use crate::text::TextRead;
@@ -321,4 +322,21 @@ pub fn text_turn(source: &[u8], st: Reading, tree: &mut [u32], cap: usize) -> Te
         return get_text(source, st, start - at, tree, cap);
     }
     TextTurn::End(at)
+}
+
+// The pattern ends. Its marks through the last element that is not blank are settled; without such an element there is no pattern.
+fn finish(source: &[u8], st: Reading, end: usize, tree: &mut [u32], cap: usize, n: usize) -> Read
+    requires { ⌜ Ends (now source) (now tree) cap n st ⌝ }
+    ensures { λ r. ⌜ Ended (now (source .entry)) cap n (now (tree .entry)) (now (tree .exit)) st end r ⌝ }
+{
+    let first = n + 1;
+    let last = st.last_non_blank;
+    let common = st.common_indent;
+    if last == first {
+        return Read::Ok(end, n);
+    }
+    settle(source, tree, cap, first, last, common);
+    trim(source, tree, cap, last - 2);
+    let m = put(tree, cap, last, 111, 0);
+    Read::Ok(end, m)
 }
