@@ -14,3 +14,4 @@ pub mod Insert
 pub mod Lines
 pub mod Turns
 pub mod Slices
+pub mod Strings

@@ -32,6 +32,9 @@ went-ok {k = k} {a = a} h e l = record { answers = h ∙ ap (ok a []) (omega ari
 pub found-ok : {A : Type 0} {s : List ℕ} {at r k : ℕ} {o : Out A} {a : A} {ms : List Mark} → o ≡ ok a ms k → r ≡ at + k → r ≤ length s → Found s at o (At r)
 found-ok h e l = record { answers = rw h (ap At e); shallow = rw h tt; within = l }
 
+pub found-fault : {A : Type 0} {s : List ℕ} {at j k : ℕ} {o : Out A} {e f : ParserError} → o ≡ bad f k → j ≡ at + k → j ≤ length s → e ≡ upFault at f → Found s at o (Bad e j)
+found-fault q p l h = record { answers = rw q (ap₂ Bad h p); shallow = rw q tt; within = l }
+
 -- an error at the place itself, of a kind without a span
 pub found-fail : {A : Type 0} {s : List ℕ} {at : ℕ} {o : Out A} {e : ParserError} (x : List ℕ) (kind : ErrorKind) → o ≡ fail kind x → at ≤ length s → upKind at kind ≡ kind
     → e ≡ faultAt kind at → Found s at o (Bad e at)

@@ -1,25 +1,27 @@
 -- Loops of turns without marks: what the code's loop keeps, and how it goes on and ends.
-use Prim.Native.Nat.{ℕ, zero, suc, _+_, _-_, _≤_, _<_}
+use Prim.Native.Nat.{ℕ, suc, _+_, _-_, _≤_, _<_}
 use native.Mathlib.Nat.{zero-add}
+use native.Mathlib.Numerals.{add-one}
 use native.Mathlib.Omega.{arith}
 use mathlib.Core.Path.{_≡_, refl, sym, ap, ap₂, _∙_}
-use mathlib.Core.List.{List, [], _∷_}
-use mathlib.Core.Bool.{Bool, true, false, _&&_}
-use lib.ListN.{drop, length, length-drop}
+use mathlib.Core.List.{List, []}
+use mathlib.Core.Bool.{true, false}
+use lib.ListN.{drop, length}
 use lib.Seq.{drop-drop}
-use lib.Dec.{eqb, ltb}
-use borrow.Author.Tests.{lt-ltb, le-ltb, ltb-true}
+use borrow.Author.Tests.{lt-ltb}
 use Rattle.syntax.specs.Byte as Byte
-use Rattle.syntax.specs.Bytes.{startsWith, eol}
+use Rattle.syntax.specs.Bytes.{startsWith, eol, spaces}
 use Rattle.syntax.specs.declared.errors.ParserError.{ParserError}
 use Rattle.syntax.specs.Errors.{upFault}
 use Rattle.syntax.specs.Marks.{moveUp}
 use Rattle.syntax.specs.Reader.{Out, ok, bad, deep, after, Turn, again, done, repeat}
-use Rattle.syntax.specs.Helper.{blankTurn}
-use Rattle.laws.specs.Bytes.{byCase, clash}
+use Rattle.syntax.specs.Helper.{blankTurn, blockTurn, skipBlankBlock}
+use Rattle.laws.specs.Bytes.{byCase}
 use Rattle.laws.specs.Moving.{moveUp-zero, upKind-zero, after-after}
-use Rattle.laws.specs.Loop.{Moved, Moves, repeat-again, repeat-done}
-use Rattle.parser.specs.Place.{Went, Found, blankWidth}
+use Rattle.laws.specs.Loop.{Moves, repeat-again, repeat-done}
+use Rattle.laws.specs.Bounds.{moves}
+use Rattle.laws.specs.Bounds.Helper.{blankTurn-bounds, blockTurn-bounds}
+use Rattle.parser.specs.Place.{Passed, Went, Found, blankWidth}
 use Rattle.parser.specs.declared.helper.Place.{Place}
 use Rattle.parser.proofs.Places.{went-ok, found-after}
 
@@ -58,24 +60,8 @@ module _ {S A : Type 0} {turn : S → List ℕ → Turn S A} {s : List ℕ} {at 
 
 -- ---- blanks
 
-pick : {B : Type 0} (P : B → Type 0) (v : Bool) (o u : B) → (v ≡ true → P o) → (v ≡ false → P u) → P (elim v [ true ↦ o | false ↦ u ])
-pick P true o u f g = f refl
-pick P false o u f g = g refl
-
-eol-le : (s : List ℕ) → eol s ≤ length s
-unfolding eol startsWith
-eol-le [] = omega arith
-eol-le (b ∷ []) = byCase (eqb b 10) (λ q. rw (q, eol) (omega arith)) (λ q. byCase (eqb b 13) (λ r. rw (q, eol) (rw r (omega arith))) (λ r. rw (q, eol) (rw r (omega arith))))
-eol-le (b ∷ c ∷ cs) = byCase (eqb b 10) (λ q. rw (q, eol) (omega arith)) (λ q. rw (q, eol) (pick (λ e. e ≤ suc (suc (length cs))) (eqb b 13 && eqb c 10) 2 0 (λ r. omega arith) (λ r. omega arith)))
-
-startsWith-some : (b : ℕ) (s : List ℕ) → startsWith b s ≡ true → 0 < length s
-unfolding startsWith
-startsWith-some b [] h = clash h refl
-startsWith-some b (c ∷ cs) h = omega arith
-
 pub blank-moves : Moves blankTurn
-unfolding blankTurn
-blank-moves = record { moves = λ u s. pick (Moved s) (startsWith Byte.space s) _ _ (λ q. (omega arith, omega (arith, startsWith-some 32 s q))) (λ q. pick (Moved s) (ltb 0 (eol s)) _ _ (λ l. (ltb-true 0 (eol s) l, eol-le s)) (λ l. tt)) }
+blank-moves = moves (blankTurn-bounds {n = 0})
 
 pub blank-again : (x : List ℕ) → 0 < blankWidth x → blankTurn tt x ≡ again tt [] (blankWidth x)
 unfolding blankTurn blankWidth
@@ -84,6 +70,19 @@ blank-again x l = byCase (startsWith Byte.space x) (λ q. rw (q, blankTurn, blan
 pub blank-done : (x : List ℕ) → blankWidth x ≡ 0 → blankTurn tt x ≡ done (ok tt [] 0)
 unfolding blankTurn blankWidth
 blank-done x l = byCase (startsWith Byte.space x) (λ q. let z : 1 ≡ 0 = rw (q, blankWidth) at l in absurd (omega arith)) (λ q. let z : eol x ≡ 0 = rw (q, blankWidth) at l in rw (q, blankTurn, z))
+
+-- ---- blocks of blank lines
+
+pub block-moves : Moves blockTurn
+block-moves = moves (blockTurn-bounds {n = 0})
+
+pub block-again : (n : ℕ) (x : List ℕ) → 0 < eol (drop (spaces x) x) → blockTurn n x ≡ again (suc n) [] (spaces x + eol (drop (spaces x) x))
+unfolding blockTurn
+block-again n x l = rw (lt-ltb 0 (eol (drop (spaces x) x)) l, blockTurn)
+
+pub block-done : (n : ℕ) (x : List ℕ) → eol (drop (spaces x) x) ≡ 0 → blockTurn n x ≡ done (ok n [] 0)
+unfolding blockTurn
+block-done n x h = rw (h, blockTurn)
 
 -- the loop ended
 pub went-turns : {S A : Type 0} {turn : S → List ℕ → Turn S A} {s : List ℕ} {at : ℕ} {u : S} {i : ℕ} {v : S} {a : A} → Turning turn s at u i v → turn v (drop i s) ≡ done (ok a [] 0)
@@ -94,3 +93,15 @@ went-turns t h = went-ok (turning-end t h) (omega (arith, t .onward)) (t .inside
 pub found-turns : {S A : Type 0} {turn : S → List ℕ → Turn S A} {s : List ℕ} {at : ℕ} {u : S} {i : ℕ} {v : S} {r : Place} {o : Out A} → Turning turn s at u i v → turn v (drop i s) ≡ done o → Found s i o r
     → Found s at (repeat turn u (drop at s)) r
 found-turns {at = at} {i = i} {o = o} t h f = rw (turning-end t h) (found-after (i - at) [] o (omega (arith, t .onward)) f)
+
+-- spaces up to m, and a line end up to j
+module _ {s : List ℕ} {at i n m j : ℕ} (t : Turning blockTurn s at 0 i n) (p : Passed s i (spaces (drop i s)) m) (q : Passed s m (eol (drop m s)) j) where
+  same-eol : eol (drop (spaces (drop i s)) (drop i s)) ≡ eol (drop m s)
+  same-eol = let e = p .end in rw (e, drop-drop)
+
+  pub turning-block : (j ≡ m → ⊥) → Turning blockTurn s at 0 j (n + 1)
+  turning-block h = rw add-one (turning-more block-moves t (block-again n (drop i s) (omega (arith, h, same-eol, q .end))) (omega (arith, same-eol, p .end, q .end)) (q .within))
+
+  pub went-block : j ≡ m → Went s at (skipBlankBlock (drop at s)) n i
+  unfolding skipBlankBlock
+  went-block h = went-turns t (block-done n (drop i s) (omega (arith, same-eol, q .end)))

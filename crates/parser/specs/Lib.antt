@@ -5,4 +5,5 @@ pub mod Elements
 pub mod Texts
 pub mod Place
 pub mod Did
+pub mod Scan
 pub mod Slice

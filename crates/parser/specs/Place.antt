@@ -1,8 +1,9 @@
 -- Places of the source: what the functions that write no marks ask and answer.
 use Prim.Native.Nat.{ℕ, _+_, _-_, _≤_, _<_}
 use mathlib.Core.Path.{_≡_}
-use mathlib.Core.List.{List, []}
+use mathlib.Core.List.{List, [], _∷_}
 use mathlib.Core.Bool.{Bool, true, false}
+use lib.Dec.{ltb}
 use lib.ListN.{length, drop}
 use Rattle.syntax.specs.Byte as Byte
 use Rattle.syntax.specs.Bytes.{startsWith, eol}
@@ -56,3 +57,8 @@ pub record Found {A : Type 0} (s : List ℕ) (at : ℕ) (o : Out A) (r : Place) 
 -- a space or a line end: how many bytes it takes, 0 where there is none
 unfoldable pub blankWidth : List ℕ → ℕ
 blankWidth s = elim (startsWith Byte.space s) [ true ↦ 1 | false ↦ eol s ]
+
+-- whether a line ends here, by a line end or with the source
+unfoldable pub isEol : List ℕ → Bool
+isEol [] = true
+isEol (b ∷ bs) = ltb 0 (eol (b ∷ bs))

@@ -1,6 +1,9 @@
 // Tests on a byte: those of Rust's u8, and those of the grammar.
 ghost use mathlib.Core.Path.{_≡_};
-ghost use Rattle.syntax.specs.Bytes.{within, isUpper, isLetter, isDigit, isNamePart, isHex, isCalleePart};
+ghost use mathlib.Core.Bool.{_&&_, _||_};
+ghost use lib.Dec.{eqb};
+ghost use Rattle.syntax.specs.Byte as Byte;
+ghost use Rattle.syntax.specs.Bytes.{isFresh, within, isUpper, isLetter, isDigit, isNamePart, isHex, isCalleePart};
 
 fn is_between(b: u8, low: u8, high: u8) -> bool
     ensures { λ r. ⌜ r ≡ within low high b ⌝ }
@@ -44,4 +47,18 @@ pub fn is_callee_part(b: u8) -> bool
     ensures { λ r. ⌜ r ≡ isCalleePart b ⌝ }
 {
     is_ascii_uppercase(b) || (is_ascii_digit(b) || (b == b'-' || b == b'_'))
+}
+
+// The first byte of a number.
+pub fn is_number_byte(b: u8) -> bool
+    ensures { λ r. ⌜ r ≡ (isDigit b || eqb b Byte.minus) ⌝ }
+{
+    is_ascii_digit(b) || b == b'-'
+}
+
+// A byte with which an entry starts; `fresh` says that a line starts there.
+pub fn is_entry_start(fresh: bool, b: u8) -> bool
+    ensures { λ r. ⌜ r ≡ (fresh && isFresh b) ⌝ }
+{
+    fresh && (is_ascii_alphabetic(b) || (b == b'-' || b == b'#'))
 }

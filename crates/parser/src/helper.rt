@@ -1,14 +1,21 @@
 // helper.rs: places of the source, and what stands there.
 ghost use mathlib.Core.Path.{_≡_};
 ghost use Prim.Native.Nat.{ℕ};
+ghost use mathlib.Core.Bool.{_||_};
+ghost use lib.Dec.{eqb};
 ghost use lib.ListN.{drop};
+ghost use Rattle.syntax.specs.Byte as Byte;
 ghost use Rattle.syntax.specs.Bytes.{startsWith, starts, spaces, eol, run, all, isLetter, isDigit, isNamePart, isCalleePart};
-ghost use Rattle.syntax.specs.Helper.{takeByteIf, skipBlank, expectByte, skipDigits, number, getIdentifier};
-ghost use Rattle.parser.specs.Place.{Inside, Tests, Passed, Went, Found, blankWidth};
+ghost use Rattle.syntax.specs.Helper.{takeByteIf, skipBlank, skipBlankBlock, expectByte, skipDigits, number, getIdentifier};
+ghost use Rattle.syntax.specs.Pattern.{isContinuation};
+ghost use Rattle.syntax.specs.Core.{toNextEntry, lineStartsAt};
+ghost use Rattle.parser.specs.Place.{Inside, Tests, Passed, Went, Found, isEol, blankWidth};
 use crate::bytes::is_ascii_alphabetic;
 use crate::bytes::is_ascii_digit;
 use crate::bytes::is_callee_part;
+use crate::bytes::is_entry_start;
 use crate::bytes::is_name_part;
+use crate::bytes::is_number_byte;
 use crate::errors::error;
 use syntax::errors::ErrorKind;
 use syntax::errors::ParserError;
@@ -44,6 +51,48 @@ pub fn is_digit_at(source: &[u8], at: usize) -> bool
     at < source.len() && is_ascii_digit(source[at])
 }
 
+pub fn is_number_start(source: &[u8], at: usize) -> bool
+    ensures { λ r. ⌜ Tests (starts (λ b. isDigit b || eqb b Byte.minus)) (now (source .entry)) at r ⌝ }
+{
+    at < source.len() && is_number_byte(source[at])
+}
+
+pub fn is_byte_pattern_continuation(b: u8) -> bool
+    ensures { λ r. ⌜ r ≡ isContinuation b ⌝ }
+{
+    b != b'.' && (b != b'}' && (b != b'[' && b != b'*'))
+}
+
+// Whether a line starts here.
+fn is_line_start(source: &[u8], at: usize) -> bool
+    requires { ⌜ Inside (now source) at ⌝ }
+    ensures { λ r. ⌜ r ≡ lineStartsAt at (now (source .entry)) ⌝ }
+{
+    if at == 0 {
+        return true;
+    }
+    let last = at - 1;
+    source[last] == b'\n'
+}
+
+// The junk of an entry whose reading stopped here: up to a line that starts with a letter, '-' or '#', or the end.
+pub fn skip_to_next_entry_start(source: &[u8], at: usize) -> usize
+    requires { ⌜ Inside (now source) at ⌝ }
+    ensures { λ r. ⌜ Passed (now (source .entry)) at (toNextEntry (lineStartsAt at (now (source .entry))) (drop at (now (source .entry)))) r ⌝ }
+{
+    let mut end = at;
+    let mut new_line = is_line_start(source, at);
+    while end < source.len() {
+        let b = source[end];
+        if is_entry_start(new_line, b) {
+            return end;
+        }
+        new_line = b == b'\n';
+        end += 1;
+    }
+    end
+}
+
 pub fn take_byte_if(source: &[u8], at: usize, b: u8) -> usize
     requires { ⌜ Inside (now source) at ⌝ }
     ensures { λ r. ⌜ Went (now (source .entry)) at (takeByteIf b (drop at (now (source .entry)))) (startsWith b (drop at (now (source .entry)))) r ⌝ }
@@ -72,6 +121,17 @@ pub fn skip_eol(source: &[u8], at: usize) -> usize
     }
 }
 
+// Whether a line ends here, by a line end or with the source.
+pub fn is_eol(source: &[u8], at: usize) -> bool
+    requires { ⌜ Inside (now source) at ⌝ }
+    ensures { λ r. ⌜ r ≡ isEol (drop at (now (source .entry))) ⌝ }
+{
+    if at == source.len() {
+        return true;
+    }
+    at < skip_eol(source, at)
+}
+
 // Past a space or a line end, if one stands here.
 fn skip_one_blank(source: &[u8], at: usize) -> usize
     requires { ⌜ Inside (now source) at ⌝ }
@@ -95,6 +155,29 @@ pub fn skip_blank(source: &[u8], at: usize) -> usize
             return end;
         }
         end = next;
+    }
+}
+
+// Where a block of blank lines ends, and how many line ends it has.
+pub struct BlankBlock {
+    pub end: usize,
+    pub count: usize,
+}
+
+pub fn skip_blank_block(source: &[u8], at: usize) -> BlankBlock
+    requires { ⌜ Inside (now source) at ⌝ }
+    ensures { λ r. ⌜ Went (now (source .entry)) at (skipBlankBlock (drop at (now (source .entry)))) (r .count) (r .end) ⌝ }
+{
+    let mut end = at;
+    let mut count = 0;
+    loop {
+        let line_end = skip_blank_inline(source, end);
+        let next = skip_eol(source, line_end);
+        if next == line_end {
+            return BlankBlock { end, count };
+        }
+        end = next;
+        count += 1;
     }
 }
 

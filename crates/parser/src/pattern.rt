@@ -6,7 +6,7 @@ ghost use mathlib.Core.Path.{_≡_};
 ghost use mathlib.Core.List.{[], _∷_, map};
 ghost use lib.ListN.{length, drop};
 ghost use Rattle.syntax.specs.Bytes.{startsWith, spaces};
-ghost use Rattle.syntax.specs.Pattern.{isContinuation, goesOn, getTextSlice, withText, textTurn};
+ghost use Rattle.syntax.specs.Pattern.{goesOn, getTextSlice, withText, textTurn};
 ghost use Rattle.parser.specs.Tree.{word, marksIn, Step, Fits};
 ghost use Rattle.parser.specs.Settle.{settleWord, isTrimmed, trimmedEnd, trimWords, Within};
 ghost use Rattle.parser.specs.Elements.{opening};
@@ -14,7 +14,10 @@ ghost use Rattle.parser.specs.Did.{Room};
 ghost use Rattle.parser.specs.Slice.{crlfWidth};
 ghost use Rattle.parser.specs.Texts.{startsLine, isFeed, positionAfter, isPart, leastOf, textWords, afterText, TextDid, Ready, Ends, Ended};
 use crate::errors::error;
+use crate::helper::is_byte_pattern_continuation;
+use crate::helper::skip_blank_block;
 use crate::helper::skip_blank_inline;
+use crate::helper::skip_eol;
 use crate::marks::Read;
 use crate::marks::put;
 use crate::text::TextElementTermination;
@@ -269,12 +272,6 @@ fn with_text(st: Reading, indent: usize, slice: TextSlice, tree: &mut [u32], cap
         last_non_blank: n,
         common_indent,
     }
-}
-
-fn is_byte_pattern_continuation(b: u8) -> bool
-    ensures { λ r. ⌜ r ≡ isContinuation b ⌝ }
-{
-    b != b'.' && (b != b'}' && (b != b'[' && b != b'*'))
 }
 
 // Whether a line goes on with the pattern, by its indent and the byte after it.

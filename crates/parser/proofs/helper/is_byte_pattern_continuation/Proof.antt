@@ -1,8 +1,8 @@
--- `pattern::is_byte_pattern_continuation` meets its contract.
-use Rattle.syntax.specs.Pattern.{isContinuation}
+-- `helper::is_byte_pattern_continuation` meets its contract.
 use borrow.Author.Tests.{eq-eqb, ne-eqb}
-use Rattle.parser.proofs.pattern.is_byte_pattern_continuation.Statement.{statement}
-use Rattle.parser.proofs.pattern.is_byte_pattern_continuation.Tie as tie
+use Rattle.syntax.specs.Pattern.{isContinuation}
+use Rattle.parser.proofs.helper.is_byte_pattern_continuation.Statement.{statement}
+use Rattle.parser.proofs.helper.is_byte_pattern_continuation.Tie as tie
 
 returns : tie.Need-returns
 unfolding isContinuation
