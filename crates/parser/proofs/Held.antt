@@ -4,14 +4,14 @@ use mathlib.Core.Path.{_≡_, refl, sym, ap, ap₂, _∙_}
 use mathlib.Core.List.{List, [], _∷_, _++_, append-assoc, append-nil}
 use mathlib.Core.Bool.{Bool, true, false, _&&_, _||_, not}
 use mathlib.Core.Option.{Option, some, none}
-use native.Mathlib.Nat.{add-zero, add-assoc, min-eq-left}
+use native.Mathlib.Nat.{add-zero, add-assoc, min-eq-left, zero-min}
 use native.Mathlib.Omega.{arith}
 use lib.Dec.{ltb}
 use lib.ListN.{length, take, drop, length-append, length-drop}
 use lib.Seq.{drop-drop, take-append-le, take-all}
 use Rattle.syntax.specs.Kind as Kind
 use Rattle.syntax.specs.Bytes.{spaces}
-use Rattle.syntax.specs.Marks.{Mark}
+use Rattle.syntax.specs.Marks.{Mark, plain, placed, moveUp}
 use Rattle.syntax.specs.Pattern.{Role, initialLineStart, lineStart, continuation, Ending, Slice, Element, placeable, text, State, isLineStart, isLineFeed, roleAfter, leastIndent, commonAfter, isElement, withText}
 use Rattle.syntax.specs.Reader.{Out, ok, Turn, again}
 use Rattle.parser.specs.declared.text.TextElementTermination.{TextElementTermination}
@@ -20,12 +20,13 @@ use Rattle.parser.specs.declared.pattern.TextElementPosition.{TextElemen
 use Rattle.parser.specs.declared.pattern.TextElementPosition.the-variants.{InitialLineStart, LineStart, Continuation}
 use Rattle.parser.specs.declared.text.TextSlice.{TextSlice}
 use Rattle.parser.specs.declared.pattern.Reading.{Reading}
-use Rattle.parser.specs.Tree.{Word, word, Step}
-use Rattle.parser.specs.Elements.{opening, provisionalOf, provisional, SoundOne, Sound, Common}
+use Rattle.parser.specs.Tree.{Word, word, wordsAt, Step}
+use Rattle.parser.specs.Elements.{opening, provisionalOf, provisional, Low, SoundOne, Sound, Common}
 use Rattle.parser.specs.Slice.{endingOf, sliceOf, crlfWidth, widthOf}
-use Rattle.parser.specs.Texts.{roleOf, startsLine, isFeed, positionAfter, leastOf, isPart, partWords, countAfter, lastAfter, leastAfter, textWords, afterText, Holds}
+use Rattle.parser.specs.Texts.{roleOf, startsLine, isFeed, positionAfter, leastOf, isPart, partWords, countAfter, lastAfter, leastAfter, textWords, afterText, afterPlaceable, Holds}
 use Rattle.parser.proofs.Steps.{step-then}
-use Rattle.parser.proofs.Elements.{provisional-append}
+use Rattle.parser.proofs.Dids.{words-up, words-length}
+use Rattle.parser.proofs.Elements.{provisional-append, node-words}
 
 -- ---- the enums of the code and those of the definition
 line-same : (p : TextElementPosition) → isLineStart (roleOf p) ≡ startsLine p
@@ -184,3 +185,49 @@ module _ {s : List ℕ} {cap at n : ℕ} {t t₁ : List ℕ} {st : Reading} {d :
   holds-text w =
       let c = common-same s d (st .role) (st .«common_indent») i x (h .role) (omega arith) (h .common) in
       rw (part-same d (st .role) x (h .role)) (text-by (isPart (startsLine (st .role)) x) (x .blank) w c)
+
+-- ---- a placeable
+low-up : (k : ℕ) (ms : List Mark) → Low ms → Low (moveUp k ms)
+unfolding moveUp
+low-up k [] l = tt
+low-up k (plain i ∷ ms) l = (l .0, low-up k ms (l .1))
+low-up k (placed i p ∷ ms) l = (l .0, low-up k ms (l .1))
+
+-- the definition's state after a placeable of k bytes with the marks ms
+abbrev pub placedState : State → List Mark → ℕ → State
+placedState d ms k =
+    record {
+      role = continuation;
+      elements = d .elements ++ (placeable (moveUp (d .used) ms) ∷ []);
+      kept = suc (length (d .elements));
+      common = elim (isLineStart (d .role)) [ true ↦ some 0 | false ↦ d .common ];
+      used = d .used + k;
+    }
+
+common-placed : (s : List ℕ) (c : Option ℕ) (common : ℕ) (l : Bool) → Common s c common → Common s (elim l [ true ↦ some 0 | false ↦ c ]) (leastOf l 0 common)
+common-placed s c common true h = zero-min common
+common-placed s c common false h = h
+
+module _ {s : List ℕ} {cap at n : ℕ} {t t₁ t₂ : List ℕ} {st : Reading} {d : State} (h : Holds s cap at n t t₁ st d) (ms : List Mark) (low : Low ms)
+    (w : Step cap (st .n) t₁ t₂ ((word 13 0 ∷ wordsAt (st .at) ms) ++ (word 113 0 ∷ []))) where
+  placed-words : provisionalOf at (placeable (moveUp (d .used) ms)) ≡ (word 13 0 ∷ wordsAt (st .at) ms) ++ (word 113 0 ∷ [])
+  unfolding provisionalOf
+  placed-words = node-words at 13 (moveUp (d .used) ms) ∙ ap (λ (l : List Word). (word 13 0 ∷ l) ++ (word 113 0 ∷ [])) (words-up at (d .used) ms ∙ ap (λ (k : ℕ). wordsAt k ms) (sym (h .place)))
+
+  pub holds-placeable : (k : ℕ) {e m : ℕ} → e ≡ st .at + k → m ≡ st .n + 2 + length ms → Holds s cap at n t t₂ (afterPlaceable st e m) (placedState d ms k)
+  holds-placeable k {e} {m} ee em =
+      let p = h .place in
+      let es = d .elements in
+      let o = placeable (moveUp (d .used) ms) in
+      let l : length (provisionalOf at o) ≡ 2 + length ms = rw placed-words (let z = length-append (word 13 0 ∷ wordsAt (st .at) ms) (word 113 0 ∷ []) in let y = words-length (st .at) ms in omega arith) in
+      let q : m ≡ n + 1 + length (provisional at (es ++ (o ∷ []))) = let z = add-count at es o n (h .count) in omega arith in
+      record {
+        role = refl;
+        place = omega arith;
+        count = q;
+        wrote = add-wrote at es o (h .wrote) (h .count) (rw placed-words w);
+        kept = rw (add-new at es o) q;
+        few = add-few at es o;
+        common = rw (Common, line-is d (st .role) (h .role)) (common-placed s (d .common) (st .«common_indent») (startsLine (st .role)) (h .common));
+        sound = sound-add (drop at s) es o (h .sound) (low-up (d .used) ms low);
+      }

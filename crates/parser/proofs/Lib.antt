@@ -10,6 +10,7 @@ pub mod Dids
 pub mod Held
 pub mod TextTurns
 pub mod Finish
+pub mod Patterns
 pub mod Insert
 pub mod Lines
 pub mod Turns

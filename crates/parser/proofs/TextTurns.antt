@@ -13,13 +13,14 @@ use lib.Seq.{drop-drop, drop-cons, take-all}
 use Rattle.syntax.specs.declared.errors.ErrorKind.the-variants as kinds
 use Rattle.syntax.specs.declared.errors.ParserError.{ParserError}
 use Rattle.syntax.specs.Byte as Byte
-use Rattle.syntax.specs.Bytes.{run, startsWith, spaces}
+use Rattle.syntax.specs.Bytes.{startsWith, spaces}
 use Rattle.syntax.specs.Errors.{faultAt, upFault}
 use Rattle.syntax.specs.Marks.{Mark}
 use Rattle.syntax.specs.Reader.{Out, ok, bad, deep, after, Turn, again, done}
-use Rattle.syntax.specs.Pattern.{isTextByte, endsInCr, lineSlice, sliceBy, getTextSlice, Slice, State, isLineStart, isContinuation, goesOn, withText, lineTurn, textTurn}
+use Rattle.syntax.specs.Pattern.{getTextSlice, Slice, State, isLineStart, isContinuation, goesOn, withText, lineTurn, textTurn}
 use Rattle.laws.specs.Bytes.{byCase, clash}
-use Rattle.laws.specs.Stable.{Holds as Each, holds-map}
+use Rattle.laws.specs.Bounds.{Bounded, used}
+use Rattle.laws.specs.Bounds.Pattern.{slice-some}
 use Rattle.parser.specs.declared.text.TextSlice.{TextSlice}
 use Rattle.parser.specs.declared.text.TextRead.{TextRead}
 use Rattle.parser.specs.declared.text.TextRead.the-variants.{Text, UnbalancedClosingBrace}
@@ -49,23 +50,6 @@ pub brace-in : (s : List ℕ) (a : ℕ) {r : TextRead} (k : ℕ) → a ≤ lengt
 brace-in s a k l h e = let q = (rw e at h) .within in let z = length-drop a s in omega arith
 
 -- ---- a text that starts with no placeable takes a byte
-line-moves : (t : List ℕ) → Each (λ x ms k. 0 < length t → 0 < k) (lineSlice t)
-unfolding lineSlice
-line-moves t = byCase (endsInCr t) (λ q. rw (q, lineSlice) (λ h. h)) (λ q. rw (q, lineSlice) (λ h. omega arith))
-
-by-moves : (a : ℕ) (t r : List ℕ) → Each (λ x ms k. 0 < k) (sliceBy (a ∷ t) r)
-unfolding sliceBy
-by-moves a t [] = omega arith
-by-moves a t (c ∷ cs) =
-    byCase (eqb c 125) (λ q. rw (q, sliceBy) tt)
-    (λ q. rw (q, sliceBy) (byCase (eqb c 123) (λ z. rw z (omega arith)) (λ z. rw z (holds-map (λ x ms k. 0 < length (a ∷ t) → 0 < k) (λ x ms k. 0 < k) (λ x ms k f. f (omega arith)) (lineSlice (a ∷ t)) (line-moves (a ∷ t))))))
-
-slice-moves : (b : ℕ) (bs : List ℕ) → eqb b 123 ≡ false → Each (λ x ms k. 0 < k) (getTextSlice (b ∷ bs))
-unfolding getTextSlice run
-slice-moves b bs h =
-    byCase (isTextByte b) (λ q. rw (q, getTextSlice, run) (by-moves b (take (run isTextByte bs) bs) (drop (run isTextByte bs) bs)))
-    (λ q. rw (q, getTextSlice, run) (unfold sliceBy lineSlice endsInCr in (byCase (eqb b 125) (λ z. rw (z, sliceBy) tt) (λ z. rw (z, sliceBy, h) (omega arith)))))
-
 starts-cons : (s : List ℕ) (a b : ℕ) → a < length s → startsWith b (drop a s) ≡ eqb (getD s a 0) b
 unfolding startsWith
 starts-cons s a b h = rw (drop-cons s a 0 h)
@@ -73,8 +57,10 @@ starts-cons s a b h = rw (drop-cons s a 0 h)
 text-moves : (s : List ℕ) (a : ℕ) {x : Slice} {k : ℕ} → a < length s → startsWith 123 (drop a s) ≡ false → getTextSlice (drop a s) ≡ ok x [] k → 0 < k
 text-moves s a h f e =
     let c = drop-cons s a 0 h in
-    let g = slice-moves (getD s a 0) (drop (suc a) s) (sym (starts-cons s a 123 h) ∙ f) in
-    subst (Each (λ x ms k. 0 < k)) (ap getTextSlice (sym c) ∙ e) g
+    go (subst (Bounded 0 (λ _. 8) _) (ap getTextSlice (sym c) ∙ e) (slice-some (getD s a 0) (drop (suc a) s) (sym (starts-cons s a 123 h) ∙ f)))
+  where
+    go : {y : List ℕ} {x : Slice} {k : ℕ} → Bounded 0 (λ _. 8) y (ok x [] k) → 0 < k
+    go (used u) = omega (arith, u .room)
 
 -- ---- a text after an indent
 count-le : (v : Bool) (n : ℕ) → countAfter v n ≤ n + 2

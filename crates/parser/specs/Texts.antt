@@ -10,7 +10,7 @@ use Rattle.syntax.specs.Kind as Kind
 use Rattle.syntax.specs.Bytes.{startsWith, spaces}
 use Rattle.syntax.specs.Errors.{upFault}
 use Rattle.syntax.specs.Reader.{Turn, again, done, ok, bad}
-use Rattle.syntax.specs.Pattern.{Role, initialLineStart, lineStart, continuation, State, finish}
+use Rattle.syntax.specs.Pattern.{Role, initialLineStart, lineStart, continuation, State, stateAt, firstState, finish}
 use Rattle.parser.specs.declared.text.TextElementTermination.{TextElementTermination}
 use Rattle.parser.specs.declared.text.TextElementTermination.the-variants.{LineFeed, Crlf, PlaceableStart, Eof}
 use Rattle.parser.specs.declared.pattern.TextElementPosition.{TextElementPosition}
@@ -90,6 +90,19 @@ afterText st indent x =
       «last_non_blank» = lastAfter (isPart (startsLine (st .role)) x) (x .blank) (st .n) (st .«last_non_blank»);
       «common_indent» = leastAfter (isPart (startsLine (st .role)) x) (x .blank) (startsLine (st .role)) indent (st .«common_indent»);
     }
+
+-- the state after a placeable, which ends at a place after n marks: a placeable that starts a line has no indent
+abbrev pub afterPlaceable : Reading → ℕ → ℕ → Reading
+afterPlaceable st e n = record { at = e; n = n; role = Continuation; «last_non_blank» = n; «common_indent» = leastOf (startsLine (st .role)) 0 (st .«common_indent») }
+
+-- the state where a pattern starts
+pub record Started (s : List ℕ) (at n : ℕ) (st : Reading) : Type 0 where
+  pub state : firstState (drop at s) ≡ stateAt (st .at - at) (roleOf (st .role))
+  pub onward : at ≤ st .at
+  pub within : st .at ≤ length s
+  pub count : st .n ≡ n
+  pub last : st .«last_non_blank» ≡ n
+  pub common : st .«common_indent» ≡ length s
 
 -- The code's state st with the tree t′ holds the definition's state d, of a pattern that starts at a place of the source s, after n marks of
 -- the tree t: the pattern's opening mark and those of its elements are written.

@@ -10,9 +10,10 @@ ghost use Rattle.syntax.specs.Pattern.{goesOn, getTextSlice, withText, textTurn
 ghost use Rattle.parser.specs.Tree.{word, marksIn, Step, Fits};
 ghost use Rattle.parser.specs.Settle.{settleWord, isTrimmed, trimmedEnd, trimWords, Within};
 ghost use Rattle.parser.specs.Elements.{opening};
+ghost use Rattle.parser.specs.Place.{Inside};
 ghost use Rattle.parser.specs.Did.{Room};
 ghost use Rattle.parser.specs.Slice.{crlfWidth};
-ghost use Rattle.parser.specs.Texts.{startsLine, isFeed, positionAfter, isPart, leastOf, textWords, afterText, TextDid, Ready, Ends, Ended};
+ghost use Rattle.parser.specs.Texts.{startsLine, isFeed, positionAfter, isPart, leastOf, textWords, afterText, TextDid, Ready, Ends, Ended, Started, afterPlaceable};
 use crate::errors::error;
 use crate::helper::is_byte_pattern_continuation;
 use crate::helper::skip_blank_block;
@@ -336,4 +337,48 @@ fn finish(source: &[u8], st: Reading, end: usize, tree: &mut [u32], cap: usize, 
     trim(source, tree, cap, last - 2);
     let m = put(tree, cap, last, 111, 0);
     Read::Ok(end, m)
+}
+
+// Where the first text or placeable of a pattern stands: on the line, or on a line of its own after blank lines.
+fn start(source: &[u8], at: usize, n: usize) -> Reading
+    requires { ⌜ Inside (now source) at ⌝ }
+    ensures { λ r. ⌜ Started (now (source .entry)) at n r ⌝ }
+{
+    let line_end = skip_blank_inline(source, at);
+    let next = skip_eol(source, line_end);
+    let common_indent = source.len();
+    if next == line_end {
+        let role = TextElementPosition::InitialLineStart;
+        return Reading {
+            at: line_end,
+            n,
+            role,
+            last_non_blank: n,
+            common_indent,
+        };
+    }
+    let block = skip_blank_block(source, next);
+    Reading {
+        at: block.end,
+        n,
+        role: TextElementPosition::LineStart,
+        last_non_blank: n,
+        common_indent,
+    }
+}
+
+// The state after a placeable, which ends here after n marks.
+fn with_placeable(st: Reading, at: usize, n: usize) -> Reading
+    ensures { λ r. ⌜ r ≡ afterPlaceable st at n ⌝ }
+{
+    let position = st.role;
+    let role = TextElementPosition::Continuation;
+    let common_indent = least_indent(is_line_start(position), 0, st.common_indent);
+    Reading {
+        at,
+        n,
+        role,
+        last_non_blank: n,
+        common_indent,
+    }
 }
