@@ -2,7 +2,7 @@
 pub mod Steps
 pub mod Settle
 pub mod Elements
-pub mod Texts
+pub mod TextStates
 pub mod Tests
 pub mod Run
 pub mod Places

@@ -1,5 +1,5 @@
 -- `pattern::with_text` meets its contract.
-use Rattle.parser.proofs.Texts.{crlf-le, text-out, text-blank, text-full}
+use Rattle.parser.proofs.TextStates.{crlf-le, text-out, text-blank, text-full}
 use native.Mathlib.Omega.{arith}
 use borrow.Author.Needs.{needs}
 use borrow.Author.Tests.{not-true, not-false}
