@@ -1,5 +1,5 @@
 -- The marks of a pattern's elements, once settled and trimmed, are those that the definition gives.
-use Prim.Native.Nat.{ℕ, zero, suc, _+_, _-_, _≤_, _<_, min}
+use Prim.Native.Nat.{ℕ, zero, suc, _+_, _-_, _≤_, min}
 use mathlib.Core.Path.{_≡_, refl, sym, ap, ap₂, _∙_}
 use mathlib.Core.List.{List, [], _∷_, _++_, map, append-assoc, append-nil}
 use mathlib.Core.Bool.{Bool, true, false}
@@ -7,18 +7,17 @@ use mathlib.Core.Option.{Option, some, none}
 use native.Mathlib.Nat.{add-assoc, min-eq-left}
 use native.Mathlib.Omega.{arith}
 use borrow.Author.Tests.{ne-eqb}
-use lib.Dec.{eqb, eqb·suc-zero}
-use lib.ListN.{length, take, drop, length-append, length-drop, length-map, take-append-drop}
+use lib.Dec.{eqb·suc-zero}
+use lib.ListN.{length, take, drop, length-append, length-drop}
 use lib.Seq.{drop-drop}
 use Rattle.syntax.specs.Kind as Kind
 use Rattle.syntax.specs.Bytes.{spaces}
-use Rattle.syntax.specs.Marks.{Mark, plain, placed, kindOf, up, moveUp, node, textNode}
+use Rattle.syntax.specs.Marks.{Mark, plain, placed, moveUp, node, textNode}
 use Rattle.syntax.specs.Pattern.{Element, placeable, text, dedented, trimmed, textMarks, elementMarks}
 use Rattle.laws.specs.Moving.{map-append}
-use Rattle.parser.specs.Tree.{Word, word, wordsAt, marksIn, Step}
+use Rattle.parser.specs.Tree.{Word, word, wordsAt}
 use Rattle.parser.specs.Settle.{settleWord, trimmedEnd, trimWords, Within}
 use Rattle.parser.specs.Elements.{opening, provisionalOf, provisional, Low, SoundOne, Sound, Common}
-use Rattle.parser.proofs.Steps.{step-over, step-last}
 use Rattle.parser.proofs.Dids.{words-append, words-length}
 use Rattle.parser.proofs.Settle.{spaces-le, line-word, other-word}
 

@@ -1,27 +1,26 @@
 -- The end of a pattern: its marks are cut back to those that are kept, settled and trimmed, and are then the definition's.
-use Prim.Native.Nat.{ℕ, zero, suc, _+_, _-_, _*_, _≤_, _<_, _^_}
-use mathlib.Core.Path.{_≡_, refl, sym, ap, ap₂, _∙_, subst}
-use mathlib.Core.List.{List, [], _∷_, _++_, map, append-assoc, append-nil}
-use mathlib.Core.Bool.{Bool, true, false}
-use native.Mathlib.Nat.{add-zero, add-assoc}
+use Prim.Native.Nat.{ℕ, zero, suc, _+_, _-_, _≤_}
+use mathlib.Core.Path.{_≡_, refl, sym, ap, ap₂, _∙_}
+use mathlib.Core.List.{List, [], _∷_, _++_, map}
+use mathlib.Core.Bool.{true}
+use native.Mathlib.Nat.{add-zero}
 use native.Mathlib.Omega.{arith}
-use lib.Dec.{eqb, eqb·suc-zero}
+use lib.Dec.{eqb·suc-zero}
 use lib.ListN.{length, take, drop, length-append, length-drop, length-map, take-append-drop}
 use lib.Seq.{length-take-le}
-use Rattle.syntax.specs.Kind as Kind
-use Rattle.syntax.specs.Marks.{Mark, plain, moveUp, node}
+use Rattle.syntax.specs.Marks.{Mark, plain, node}
 use Rattle.syntax.specs.Pattern.{Element, placeable, text, State, elementMarks, finish}
-use Rattle.syntax.specs.Reader.{Out, ok}
+use Rattle.syntax.specs.Reader.{ok}
 use Rattle.parser.specs.declared.marks.Read.the-variants.{Ok}
 use Rattle.parser.specs.declared.pattern.Reading.{Reading}
-use Rattle.parser.specs.Tree.{Word, word, wordsAt, marksIn, Step, Fits}
-use Rattle.parser.specs.Did.{reading, answer, Did}
+use Rattle.parser.specs.Tree.{Word, word, wordsAt, marksIn, Step}
+use Rattle.parser.specs.Did.{reading, Did}
 use Rattle.parser.specs.Settle.{settleWord, trimWords, Within}
 use Rattle.parser.specs.Elements.{provisionalOf, provisional, Sound}
 use Rattle.parser.specs.Texts.{Holds, Ends, Ended}
 use Rattle.parser.proofs.Steps.{step-prefix, step-cut, step-then, step-over, step-last}
-use Rattle.parser.proofs.Dids.{words-append, words-length, words-none}
-use Rattle.parser.proofs.Elements.{provisional-append, settled, settle-elements, trim-append, trim-length, trim-elements, node-words, within-append, within-elements, two-words}
+use Rattle.parser.proofs.Dids.{words-length, words-none}
+use Rattle.parser.proofs.Elements.{provisional-append, settled, settle-elements, trim-append, trim-length, trim-elements, node-words, within-append, within-elements}
 
 -- ---- the last two marks of a step are trimmed
 module _ (s : List ℕ) {cap n : ℕ} (m : ℕ) {t t₁ : List ℕ} (u : Word) (ws : List Word) (two : 2 ≤ length ws) (w : Step cap n t t₁ (u ∷ ws)) (em : m + 2 ≡ n + 1 + length ws) where

@@ -1,19 +1,17 @@
 -- The definition's state and the code's: what a text and a placeable make of them.
-use Prim.Native.Nat.{ℕ, zero, suc, _+_, _-_, _*_, _≤_, _<_, min}
+use Prim.Native.Nat.{ℕ, suc, _+_, _-_, _≤_, min}
 use mathlib.Core.Path.{_≡_, refl, sym, ap, ap₂, _∙_}
-use mathlib.Core.List.{List, [], _∷_, _++_, append-assoc, append-nil}
+use mathlib.Core.List.{List, [], _∷_, _++_, append-nil}
 use mathlib.Core.Bool.{Bool, true, false, _&&_, _||_, not}
 use mathlib.Core.Option.{Option, some, none}
-use native.Mathlib.Nat.{add-zero, add-assoc, min-eq-left, zero-min}
+use native.Mathlib.Nat.{min-eq-left, zero-min}
 use native.Mathlib.Omega.{arith}
 use lib.Dec.{ltb}
 use lib.ListN.{length, take, drop, length-append, length-drop}
 use lib.Seq.{drop-drop, take-append-le, take-all}
-use Rattle.syntax.specs.Kind as Kind
 use Rattle.syntax.specs.Bytes.{spaces}
 use Rattle.syntax.specs.Marks.{Mark, plain, placed, moveUp}
-use Rattle.syntax.specs.Pattern.{Role, initialLineStart, lineStart, continuation, Ending, Slice, Element, placeable, text, State, isLineStart, isLineFeed, roleAfter, leastIndent, commonAfter, isElement, withText}
-use Rattle.syntax.specs.Reader.{Out, ok, Turn, again}
+use Rattle.syntax.specs.Pattern.{continuation, Slice, Element, placeable, text, State, isLineStart, isLineFeed, roleAfter, leastIndent, commonAfter, isElement}
 use Rattle.parser.specs.declared.text.TextElementTermination.{TextElementTermination}
 use Rattle.parser.specs.declared.text.TextElementTermination.the-variants.{LineFeed, Crlf, PlaceableStart, Eof}
 use Rattle.parser.specs.declared.pattern.TextElementPosition.{TextElementPosition}
@@ -21,7 +19,7 @@ use Rattle.parser.specs.declared.pattern.TextElementPosition.the-variant
 use Rattle.parser.specs.declared.text.TextSlice.{TextSlice}
 use Rattle.parser.specs.declared.pattern.Reading.{Reading}
 use Rattle.parser.specs.Tree.{Word, word, wordsAt, Step}
-use Rattle.parser.specs.Elements.{opening, provisionalOf, provisional, Low, SoundOne, Sound, Common}
+use Rattle.parser.specs.Elements.{provisionalOf, provisional, Low, SoundOne, Sound, Common}
 use Rattle.parser.specs.Slice.{endingOf, sliceOf, crlfWidth, widthOf}
 use Rattle.parser.specs.Texts.{roleOf, startsLine, isFeed, positionAfter, leastOf, isPart, partWords, countAfter, lastAfter, leastAfter, textWords, afterText, afterPlaceable, Holds}
 use Rattle.parser.proofs.Steps.{step-then}

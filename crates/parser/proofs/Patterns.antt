@@ -1,22 +1,20 @@
 -- The loop over a pattern: what the code's state holds, and what is read from there on, is what the pattern's reader gives.
-use Prim.Native.Nat.{ℕ, zero, suc, _+_, _-_, _*_, _≤_, _<_}
+use Prim.Native.Nat.{ℕ, suc, _+_, _-_, _*_, _≤_, _<_}
 use mathlib.Core.Path.{_≡_, refl, sym, ap, ap₂, _∙_, subst}
-use mathlib.Core.List.{List, [], _∷_, _++_, append-assoc}
-use mathlib.Core.Bool.{Bool, true, false}
-use mathlib.Core.Option.{Option, some, none}
-use native.Mathlib.Nat.{add-zero, add-assoc, zero-min}
+use mathlib.Core.List.{List, [], _∷_}
+use mathlib.Core.Bool.{true, false}
 use native.Mathlib.Omega.{arith}
 use borrow.Author.Tests.{lt-ltb, le-ltb, ltb-true}
 use lib.Dec.{eqb, ltb}
-use lib.ListN.{length, getD, take, drop, length-append, length-drop, drop-of-length-le}
+use lib.ListN.{length, getD, drop, length-drop, drop-of-length-le}
 use lib.Seq.{drop-drop, drop-cons}
 use Rattle.syntax.specs.declared.errors.ParserError.{ParserError}
 use Rattle.syntax.specs.Bytes.{startsWith, spaces, eol}
 use Rattle.syntax.specs.Errors.{upFault}
 use Rattle.syntax.specs.Helper.{skipBlankBlock}
 use Rattle.syntax.specs.Marks.{Mark, plain, moveUp}
-use Rattle.syntax.specs.Reader.{Out, ok, bad, deep, after, Turn, again, done, repeat}
-use Rattle.syntax.specs.Pattern.{Inside, Element, placeable, text, State, continuation, isLineStart, withPlaceable, textTurn, patternTurn, finish, stateAt, usedBy, firstState, getPattern}
+use Rattle.syntax.specs.Reader.{Out, ok, bad, deep, after, again, done, repeat}
+use Rattle.syntax.specs.Pattern.{Inside, text, State, withPlaceable, textTurn, patternTurn, finish, stateAt, usedBy, firstState, getPattern}
 use Rattle.laws.specs.Moving.{after-after}
 use Rattle.laws.specs.Loop.{repeat-again, repeat-done}
 use Rattle.laws.specs.Balanced.{Forest, empty, tree}
@@ -29,14 +27,14 @@ use Rattle.parser.specs.declared.pattern.Reading.{Reading}
 use Rattle.parser.specs.declared.pattern.TextElementPosition.the-variants.{InitialLineStart, LineStart}
 use Rattle.parser.specs.declared.pattern.TextTurn.{TextTurn}
 use Rattle.parser.specs.declared.pattern.TextTurn.the-variants.{Next, End, Bad}
-use Rattle.parser.specs.Tree.{Word, word, wordsAt, Step, Fits}
+use Rattle.parser.specs.Tree.{word, Step}
 use Rattle.parser.specs.Place.{Passed, Went}
 use Rattle.parser.specs.Did.{reading, Did, Room}
-use Rattle.parser.specs.Elements.{provisionalOf, provisional, Low, SoundOne, Sound, Common}
-use Rattle.parser.specs.Texts.{roleOf, startsLine, leastOf, afterPlaceable, Started, Holds, Turned, TextDid, Ends, Ended}
-use Rattle.parser.proofs.Steps.{step-then, step-cut}
-use Rattle.parser.proofs.Dids.{fault-up, words-up, words-length, words-none, Found, found, failed-wrote, step-failed}
-use Rattle.parser.proofs.Elements.{low-append, node-words}
+use Rattle.parser.specs.Elements.{provisional, Low}
+use Rattle.parser.specs.Texts.{roleOf, afterPlaceable, Started, Holds, Turned, TextDid, Ends, Ended}
+use Rattle.parser.proofs.Steps.{step-then}
+use Rattle.parser.proofs.Dids.{fault-up, words-length, words-none, Found, found, failed-wrote, step-failed}
+use Rattle.parser.proofs.Elements.{low-append}
 use Rattle.parser.proofs.Held.{placedState, holds-placeable}
 
 -- ---- where a pattern starts

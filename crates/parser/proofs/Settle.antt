@@ -1,15 +1,15 @@
 -- Settling the marks of a pattern: the indent at a place, the marks that are passed, and the end of a text that is trimmed.
-use Prim.Native.Nat.{ℕ, zero, suc, _+_, _-_, _*_, _≤_, _<_, _^_, min}
-use mathlib.Core.Path.{_≡_, refl, sym, ap, ap₂, _∙_}
-use mathlib.Core.List.{List, [], _∷_, _++_, map, append-assoc, append-nil}
+use Prim.Native.Nat.{ℕ, suc, _+_, _-_, _*_, _≤_, _<_, _^_, min}
+use mathlib.Core.Path.{_≡_, refl, sym, ap, _∙_}
+use mathlib.Core.List.{List, [], _∷_, _++_, map, append-assoc}
 use mathlib.Core.Bool.{Bool, true, false, _&&_}
-use native.Mathlib.Nat.{add-zero, zero-add, add-suc, add-assoc, min-eq-left, min-eq-right, min-le-left}
+use native.Mathlib.Nat.{add-zero, zero-add, add-assoc, min-eq-left, min-eq-right, min-le-left}
 use native.Mathlib.Numerals.{add-one}
 use native.Mathlib.Decide.{decLe}
 use native.Mathlib.Omega.{arith}
 use borrow.Author.Tests.{eq-eqb, ne-eqb}
 use lib.Dec.{eqb, eqb·suc-zero}
-use lib.ListN.{length, getD, take, drop, set, length-set, length-append, length-drop, length-map, drop-of-length-le}
+use lib.ListN.{length, getD, take, drop, set, length-drop, length-map, drop-of-length-le}
 use lib.Seq.{drop-cons, drop-append-le, getD-set-other, getD-drop, take-suc, length-take-le, drop-at, set-getD}
 use Rattle.syntax.specs.Bytes.{run, spaces}
 use Rattle.syntax.specs.Pattern.{trimmed}

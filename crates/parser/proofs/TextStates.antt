@@ -1,19 +1,17 @@
 -- The state after a text of a pattern, and its marks.
-use Prim.Native.Nat.{ℕ, zero, suc, _+_, _-_, _≤_, _<_, min}
-use mathlib.Core.Path.{_≡_, refl, sym, ap, ap₂, _∙_}
-use mathlib.Core.List.{List, [], _∷_, _++_}
-use mathlib.Core.Bool.{Bool, true, false, _&&_, _||_, not}
-use native.Mathlib.Nat.{add-zero}
+use Prim.Native.Nat.{ℕ, _+_, _-_, _≤_}
+use mathlib.Core.Path.{_≡_, refl}
+use mathlib.Core.List.{List, [], _∷_}
+use mathlib.Core.Bool.{Bool, true, false}
 use native.Mathlib.Omega.{arith}
-use lib.ListN.{length}
 use Rattle.parser.specs.declared.text.TextElementTermination.{TextElementTermination}
 use Rattle.parser.specs.declared.text.TextElementTermination.the-variants.{LineFeed, Crlf, PlaceableStart, Eof}
 use Rattle.parser.specs.declared.pattern.TextElementPosition.{TextElementPosition}
 use Rattle.parser.specs.declared.text.TextSlice.{TextSlice}
 use Rattle.parser.specs.declared.pattern.Reading.{Reading}
-use Rattle.parser.specs.Tree.{Word, word, Step}
+use Rattle.parser.specs.Tree.{word, Step}
 use Rattle.parser.specs.Elements.{opening}
-use Rattle.parser.specs.Slice.{endingOf, sliceOf, crlfWidth, widthOf}
+use Rattle.parser.specs.Slice.{crlfWidth}
 use Rattle.parser.specs.Texts.{startsLine, positionAfter, isPart, leastOf, textWords, afterText}
 use Rattle.parser.proofs.Steps.{step-none}
 

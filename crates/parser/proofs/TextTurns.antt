@@ -1,22 +1,20 @@
 -- The turns of a pattern's loop at a text.
-use Prim.Native.Nat.{ℕ, zero, suc, _+_, _-_, _*_, _≤_, _<_}
-use mathlib.Core.Path.{_≡_, refl, sym, ap, ap₂, _∙_, subst}
-use mathlib.Core.List.{List, [], _∷_, _++_}
-use mathlib.Core.Bool.{Bool, true, false, _&&_, _||_, not}
+use Prim.Native.Nat.{ℕ, zero, suc, _+_, _-_, _≤_, _<_}
+use mathlib.Core.Path.{_≡_, refl, sym, ap, _∙_, subst}
+use mathlib.Core.List.{List, []}
+use mathlib.Core.Bool.{Bool, true, false}
 use native.Mathlib.Nat.{add-zero, add-assoc}
-use native.Mathlib.Numerals.{add-one}
 use native.Mathlib.Omega.{arith}
-use borrow.Author.Tests.{eq-eqb, ne-eqb, eqb-true}
+use borrow.Author.Tests.{eq-eqb, ne-eqb}
 use lib.Dec.{eqb}
-use lib.ListN.{length, getD, take, drop, length-append, length-drop, length-take, drop-of-length-le}
+use lib.ListN.{length, getD, take, drop, length-drop, drop-of-length-le}
 use lib.Seq.{drop-drop, drop-cons, take-all}
 use Rattle.syntax.specs.declared.errors.ErrorKind.the-variants as kinds
 use Rattle.syntax.specs.declared.errors.ParserError.{ParserError}
-use Rattle.syntax.specs.Byte as Byte
 use Rattle.syntax.specs.Bytes.{startsWith, spaces}
 use Rattle.syntax.specs.Errors.{faultAt, upFault}
 use Rattle.syntax.specs.Marks.{Mark}
-use Rattle.syntax.specs.Reader.{Out, ok, bad, deep, after, Turn, again, done}
+use Rattle.syntax.specs.Reader.{ok, bad, after, Turn, again, done}
 use Rattle.syntax.specs.Pattern.{getTextSlice, Slice, State, isLineStart, isContinuation, goesOn, withText, lineTurn, textTurn}
 use Rattle.laws.specs.Bytes.{byCase, clash}
 use Rattle.laws.specs.Bounds.{Bounded, used}
@@ -27,13 +25,13 @@ use Rattle.parser.specs.declared.text.TextRead.the-variants.{Text, Unbal
 use Rattle.parser.specs.declared.pattern.Reading.{Reading}
 use Rattle.parser.specs.declared.pattern.TextTurn.{TextTurn}
 use Rattle.parser.specs.declared.pattern.TextTurn.the-variants.{Next, End, Bad}
-use Rattle.parser.specs.Tree.{Word, word, Step, Fits}
+use Rattle.parser.specs.Tree.{Step, Fits}
 use Rattle.parser.specs.Place.{Passed}
 use Rattle.parser.specs.Did.{Room}
-use Rattle.parser.specs.Slice.{sliceOf, crlfWidth, widthOf, answerOf, Sliced}
-use Rattle.parser.specs.Texts.{startsLine, textWords, afterText, countAfter, isPart, Holds, Taken, Ready, Turned, TextDid}
-use Rattle.parser.proofs.Steps.{step-none, step-cut, step-prefix}
-use Rattle.parser.proofs.Dids.{fault-up, fault-here}
+use Rattle.parser.specs.Slice.{sliceOf, crlfWidth, widthOf, Sliced}
+use Rattle.parser.specs.Texts.{startsLine, textWords, afterText, countAfter, isPart, Ready, Turned, TextDid}
+use Rattle.parser.proofs.Steps.{step-cut}
+use Rattle.parser.proofs.Dids.{fault-up}
 use Rattle.parser.proofs.Held.{line-is, textState, holds-text}
 
 -- ---- the part of the source that a text reader is handed
