@@ -243,16 +243,13 @@ fn with_text(st: Reading, indent: usize, slice: TextSlice, tree: &mut [u32], cap
     let end = st.at + indent + slice.size;
     let at = end + crlf_width(ending);
     let role = role_after(ending);
-    let last_non_blank = st.last_non_blank;
-    let common_indent = st.common_indent;
     if !is_element(line, slice) {
-        let n = st.n;
         return Reading {
             at,
-            n,
+            n: st.n,
             role,
-            last_non_blank,
-            common_indent,
+            last_non_blank: st.last_non_blank,
+            common_indent: st.common_indent,
         };
     }
     let n = put_element(tree, cap, st.n, line, st.at, end);
@@ -261,17 +258,16 @@ fn with_text(st: Reading, indent: usize, slice: TextSlice, tree: &mut [u32], cap
             at,
             n,
             role,
-            last_non_blank,
-            common_indent,
+            last_non_blank: st.last_non_blank,
+            common_indent: st.common_indent,
         };
     }
-    let common_indent = least_indent(line, indent, common_indent);
     Reading {
         at,
         n,
         role,
         last_non_blank: n,
-        common_indent,
+        common_indent: least_indent(line, indent, st.common_indent),
     }
 }
 
