@@ -2,7 +2,7 @@
 use Prim.Native.Nat.{ℕ, zero, suc, _+_, _-_, _≤_, min}
 use mathlib.Core.Path.{_≡_, refl, sym, ap, ap₂, _∙_}
 use mathlib.Core.List.{List, [], _∷_, _++_, map, append-assoc, append-nil}
-use mathlib.Core.Bool.{Bool, true, false}
+use mathlib.Core.Bool.{true, false}
 use mathlib.Core.Option.{Option, some, none}
 use native.Mathlib.Nat.{add-assoc, min-eq-left}
 use native.Mathlib.Omega.{arith}
@@ -14,12 +14,14 @@ use Rattle.syntax.specs.Kind as Kind
 use Rattle.syntax.specs.Bytes.{spaces}
 use Rattle.syntax.specs.Marks.{Mark, plain, placed, moveUp, node, textNode}
 use Rattle.syntax.specs.Pattern.{Element, placeable, text, dedented, trimmed, textMarks, elementMarks}
+use Rattle.laws.specs.Bytes.{spaces-le}
 use Rattle.laws.specs.Moving.{map-append}
+use Rattle.laws.specs.Bounds.Pattern.{dedented-le}
 use Rattle.parser.specs.Tree.{Word, word, wordsAt}
 use Rattle.parser.specs.Settle.{settleWord, trimmedEnd, trimWords, Within}
 use Rattle.parser.specs.Elements.{opening, provisionalOf, provisional, Low, SoundOne, Sound, Common}
 use Rattle.parser.proofs.Dids.{words-append, words-length}
-use Rattle.parser.proofs.Settle.{spaces-le, line-word, other-word}
+use Rattle.parser.proofs.Settle.{line-word, other-word}
 
 pub provisional-append : (at : ℕ) (es fs : List Element) → provisional at (es ++ fs) ≡ provisional at es ++ provisional at fs
 unfolding provisional
@@ -157,12 +159,6 @@ trim-elements s c at (suc n) (e ∷ f ∷ es) h =
     ∙ ap (λ (l : List Word). wordsAt at (settledOf c e) ++ l) (trim-elements s c at n (f ∷ es) (omega arith))
     ∙ sym (words-append at (settledOf c e) (elementMarks (drop at s) c (suc n) (f ∷ es)))
     ∙ ap (wordsAt at) (sym (inner-marks (drop at s) c n e (f ∷ es)))
-
-dedented-le : (c : Option ℕ) (a i : ℕ) (l : Bool) → dedented c a i l ≤ a + i
-unfolding dedented
-dedented-le c a i false = omega arith
-dedented-le none a i true = omega arith
-dedented-le (some c) a i true = omega arith
 
 pub within-elements : (s : List ℕ) (c : Option ℕ) (at : ℕ) (es : List Element) → at ≤ length s → Sound (drop at s) es → Within s (wordsAt at (settled c es))
 within-elements s c at [] h l = unfold Within wordsAt moveUp in tt

@@ -15,7 +15,9 @@ use Rattle.syntax.specs.Bytes.{run, spaces}
 use Rattle.syntax.specs.Pattern.{trimmed}
 use Rattle.parser.specs.Tree.{Word, word, marksIn, Step}
 use Rattle.parser.specs.Settle.{settleWord, isTrimmed, trimWords, trimmedEnd, Within}
+use Rattle.laws.specs.Bytes.{spaces-le}
 use Rattle.laws.specs.Moving.{map-append}
+use Rattle.laws.specs.Bounds.Pattern.{trimmed-le}
 use Rattle.parser.proofs.Steps.{step-put, step-then, step-none, step-same, marks-length, marks-next}
 
 -- ---- the spaces at a place
@@ -30,15 +32,6 @@ spaces-no s i h e = rw (drop-cons s i 0 h, run, ne-eqb (getD s i 0) 32 e)
 pub spaces-end : (s : List ℕ) (i : ℕ) → length s ≤ i → spaces (drop i s) ≡ 0
 unfolding spaces run
 spaces-end s i h = rw (drop-of-length-le s h)
-
-pub spaces-le : (x : List ℕ) → spaces x ≤ length x
-unfolding spaces run
-spaces-le [] = omega arith
-spaces-le (b ∷ x) = go (eqb b 32) (spaces-le x)
-  where
-    go : (v : Bool) → run (λ b. eqb b 32) x ≤ length x → elim v [ true ↦ suc (run (λ b. eqb b 32) x) | false ↦ 0 ] ≤ suc (length x)
-    go true h = omega arith
-    go false h = omega arith
 
 -- n spaces have been passed
 pub record Indenting (s : List ℕ) (at most n : ℕ) : Type 0 where
@@ -221,15 +214,6 @@ pub within : (s : List ℕ) (cap n : ℕ) (t : List ℕ) → Within s (drop n (m
     → (getD t (cap + n + 2) 0 ≤ getD t (cap + (n + 1) + 2) 0) × (getD t (cap + (n + 1) + 2) 0 ≤ length s)
 unfolding Within
 within s cap n t w e = (rw (two-marks cap n t) at w) e
-
-trimmed-le : (x : List ℕ) → trimmed x ≤ length x
-unfolding trimmed
-trimmed-le [] = omega arith
-trimmed-le (a ∷ x) = go (isTrimmed a && eqb (trimmed x) 0) (trimmed-le x)
-  where
-    go : (v : Bool) → trimmed x ≤ length x → elim v [ true ↦ 0 | false ↦ suc (trimmed x) ] ≤ suc (length x)
-    go true h = omega arith
-    go false h = omega arith
 
 pub trimmed-fits : (s : List ℕ) (cap n : ℕ) (t : List ℕ) {r : ℕ} → Within s (drop n (marksIn cap (n + 2) t)) → getD t (n + 1 + 2) 0 ≡ 112 → r ≡ trimmedEnd s (getD t (cap + n + 2) 0) (getD t (cap + (n + 1) + 2) 0)
     → length s < 2 ^ 32 → r < 2 ^ 32

@@ -29,7 +29,7 @@ use syntax::errors::ErrorKind;
 use syntax::errors::ParserError;
 
 // Where in its pattern a text stands.
-pub enum TextElementPosition {
+enum TextElementPosition {
     InitialLineStart,
     LineStart,
     Continuation,
@@ -37,7 +37,7 @@ pub enum TextElementPosition {
 
 // What is known while a pattern is read: the place; the count of marks; where the next text stands; the count of marks
 // through the last element that is not blank; the common indent, or the source's length where there is none yet.
-pub struct Reading {
+struct Reading {
     pub at: usize,
     pub n: usize,
     pub role: TextElementPosition,
@@ -46,17 +46,17 @@ pub struct Reading {
 }
 
 // What became of a text: the state after it; where the pattern ends instead; or an error and where reading stopped.
-pub enum TextTurn {
+enum TextTurn {
     Next(Reading),
     End(usize),
     Bad(ParserError, usize),
 }
 
 // The kind, until its pattern ends, of the mark that opens a text at the start of a line.
-pub const LINE_START: u32 = 200;
+const LINE_START: u32 = 200;
 
 // How many spaces stand at a place; those past `most` don't count.
-pub fn indent(source: &[u8], at: usize, most: usize) -> usize
+fn indent(source: &[u8], at: usize, most: usize) -> usize
     requires { ⌜ at < 2 ^ 32 ⌝ }
     ensures { λ r. ⌜ r ≡ min (spaces (drop at (now (source .entry)))) most ⌝ }
 {
@@ -75,7 +75,7 @@ pub fn indent(source: &[u8], at: usize, most: usize) -> usize
 }
 
 // Each text that starts a line, among the marks from `from` up to `to`, loses the common indent.
-pub fn settle(source: &[u8], tree: &mut [u32], cap: usize, from: usize, to: usize, common: usize)
+fn settle(source: &[u8], tree: &mut [u32], cap: usize, from: usize, to: usize, common: usize)
     requires { ⌜ (from ≤ to) × Fits (now tree) cap to 0 ⌝ }
     requires { ⌜ length (now source) < 2 ^ 32 ⌝ }
     ensures { λ _. ⌜ Step cap from (now (tree .entry)) (now (tree .exit)) (map (settleWord (now (source .entry)) common) (drop from (marksIn cap to (now (tree .entry))))) ⌝ }
@@ -101,7 +101,7 @@ fn is_trimmed(b: u8) -> bool
 }
 
 // The end of a text without the blanks and line ends that it ends with.
-pub fn trim_end(source: &[u8], start: usize, end: usize) -> usize
+fn trim_end(source: &[u8], start: usize, end: usize) -> usize
     requires { ⌜ (start ≤ end) × (end ≤ length (now source)) ⌝ }
     ensures { λ r. ⌜ r ≡ trimmedEnd (now (source .entry)) start end ⌝ }
 {
@@ -118,7 +118,7 @@ pub fn trim_end(source: &[u8], start: usize, end: usize) -> usize
 }
 
 // If the two marks after n others are a text's, the text is trimmed.
-pub fn trim(source: &[u8], tree: &mut [u32], cap: usize, n: usize)
+fn trim(source: &[u8], tree: &mut [u32], cap: usize, n: usize)
     requires { ⌜ Fits (now tree) cap n 2 ⌝ }
     requires { ⌜ length (now source) < 2 ^ 32 ⌝ }
     requires { ⌜ Within (now source) (drop n (marksIn cap (n + 2) (now tree))) ⌝ }
@@ -298,7 +298,7 @@ fn get_text(source: &[u8], st: Reading, indent: usize, tree: &mut [u32], cap: us
 }
 
 // What stands at a place of a pattern where no placeable starts.
-pub fn text_turn(source: &[u8], st: Reading, tree: &mut [u32], cap: usize) -> TextTurn
+fn text_turn(source: &[u8], st: Reading, tree: &mut [u32], cap: usize) -> TextTurn
     requires { ⌜ Room (now source) (now tree) cap (st .at) (st .n) 1 ⌝ }
     requires { ⌜ (st .at < length (now source)) × (startsWith 123 (drop (st .at) (now source)) ≡ false) ⌝ }
     ensures { λ r. ⌜ TextDid (now (source .entry)) cap (now (tree .entry)) (now (tree .exit)) st (λ d. textTurn d (drop (st .at) (now (source .entry)))) r ⌝ }
