@@ -1,3 +1,8 @@
 -- A file cut in two: the theorem on the definitions.
+pub mod Claim
+pub mod Words
+pub mod Clean
 pub mod Tree
 pub mod Text
+pub mod Theorem
+pub mod Table

@@ -3,6 +3,8 @@ pub mod Steps
 pub mod Settle
 pub mod Elements
 pub mod TextStates
+pub mod Zeros
+pub mod ErrorRows
 pub mod Tests
 pub mod Run
 pub mod Places

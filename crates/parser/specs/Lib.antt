@@ -3,6 +3,8 @@ pub mod Tree
 pub mod Settle
 pub mod Elements
 pub mod Texts
+pub mod Laid
+pub mod ErrorList
 pub mod Place
 pub mod Did
 pub mod Scan

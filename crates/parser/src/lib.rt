@@ -3,6 +3,8 @@ pub mod bytes;
 pub mod comment;
 pub mod errors;
 pub mod helper;
+pub mod layout;
+pub mod list;
 pub mod marks;
 pub mod pattern;
 pub mod string;
