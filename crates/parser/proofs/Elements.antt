@@ -47,7 +47,8 @@ settle-low s common at [] l = refl
 settle-low s common at (plain k ∷ ms) l = ap₂ (λ (w : Word) (ws : List Word). w ∷ ws) (other-word s common k 0 (λ e. omega (arith, l .0))) (settle-low s common at ms (l .1))
 settle-low s common at (placed k p ∷ ms) l = ap₂ (λ (w : Word) (ws : List Word). w ∷ ws) (other-word s common k (at + p) (λ e. omega (arith, l .0))) (settle-low s common at ms (l .1))
 
-dedent : (s : List ℕ) (c : Option ℕ) (common at a i : ℕ) → Common s c common → i ≡ spaces (drop a (drop at s)) → at + a + min (spaces (drop (at + a) s)) common ≡ at + dedented c a i true
+dedent : (s : List ℕ) (c : Option ℕ) (common at a i : ℕ) → Common s c common → i ≡ spaces (drop a (drop at s))
+    → at + a + min (spaces (drop (at + a) s)) common ≡ at + dedented c a i true
 unfolding dedented
 dedent s none common at a i h e =
     let q : spaces (drop (at + a) s) ≡ i = ap spaces (sym (drop-drop a at s)) ∙ sym e in
@@ -59,7 +60,8 @@ dedent s (some k) common at a i h e =
     let q : spaces (drop (at + a) s) ≡ i = ap spaces (sym (drop-drop a at s)) ∙ sym e in
     rw (q, h) (add-assoc at a (min i k))
 
-settle-element : (s : List ℕ) (c : Option ℕ) (common at : ℕ) (e : Element) → Common s c common → SoundOne (drop at s) e → map (settleWord s common) (provisionalOf at e) ≡ wordsAt at (settledOf c e)
+settle-element : (s : List ℕ) (c : Option ℕ) (common at : ℕ) (e : Element) → Common s c common → SoundOne (drop at s) e
+    → map (settleWord s common) (provisionalOf at e) ≡ wordsAt at (settledOf c e)
 unfolding provisionalOf opening wordsAt moveUp node textNode
 settle-element s c common at (placeable ms) h l =
     settle-low s common at (node Kind.placeable ms) (omega arith, low-append ms (plain 113 ∷ []) l (omega arith, tt))
@@ -68,7 +70,8 @@ settle-element s c common at (text a e i true) h l =
 settle-element s c common at (text a e i false) h l = unfold dedented in
     ap₂ (λ (w v : Word). w ∷ v ∷ []) (other-word s common 12 (at + a) (λ q. omega arith)) (other-word s common 112 (at + e) (λ q. omega arith))
 
-pub settle-elements : (s : List ℕ) (c : Option ℕ) (common at : ℕ) (es : List Element) → Common s c common → Sound (drop at s) es → map (settleWord s common) (provisional at es) ≡ wordsAt at (settled c es)
+pub settle-elements : (s : List ℕ) (c : Option ℕ) (common at : ℕ) (es : List Element) → Common s c common → Sound (drop at s) es
+    → map (settleWord s common) (provisional at es) ≡ wordsAt at (settled c es)
 unfolding provisional
 settle-elements s c common at [] h l = unfold wordsAt moveUp in refl
 settle-elements s c common at (e ∷ es) h l =
@@ -138,18 +141,21 @@ end-at : (s : List ℕ) (at a e : ℕ) → trimmedEnd s (at + a) (at + e) ≡ at
 unfolding trimmedEnd
 end-at s at a e = let q : at + e - (at + a) ≡ e - a = omega arith in rw (q, drop-drop a at s) (add-assoc at a _)
 
-trim-last : (s : List ℕ) (c : Option ℕ) (at : ℕ) (e : Element) (es : List Element) → trimWords s (wordsAt at (settled c (e ∷ []))) ≡ wordsAt at (elementMarks (drop at s) c 1 (e ∷ es))
+trim-last : (s : List ℕ) (c : Option ℕ) (at : ℕ) (e : Element) (es : List Element)
+    → trimWords s (wordsAt at (settled c (e ∷ []))) ≡ wordsAt at (elementMarks (drop at s) c 1 (e ∷ es))
 unfolding elementMarks textMarks
 trim-last s c at (placeable ms) es = rw (append-nil, node-words at 13 ms) (trim-other s (word 13 0 ∷ wordsAt at ms) 113 0 (λ e. omega arith))
 trim-last s c at (text a e i l) es = unfold trimWords textNode wordsAt moveUp in (ap (λ (p : ℕ). word 12 (at + dedented c a i l) ∷ word 112 p ∷ []) (end-at s at (dedented c a i l) e))
 
 -- an element that is not the last
-inner-marks : (x : List ℕ) (c : Option ℕ) (n : ℕ) (e : Element) (es : List Element) → elementMarks x c (suc (suc n)) (e ∷ es) ≡ settledOf c e ++ elementMarks x c (suc n) es
+inner-marks : (x : List ℕ) (c : Option ℕ) (n : ℕ) (e : Element) (es : List Element)
+    → elementMarks x c (suc (suc n)) (e ∷ es) ≡ settledOf c e ++ elementMarks x c (suc n) es
 unfolding elementMarks
 inner-marks x c n (placeable ms) es = refl
 inner-marks x c n (text a e i l) es = unfold textMarks in (rw (eqb·suc-zero n))
 
-pub trim-elements : (s : List ℕ) (c : Option ℕ) (at n : ℕ) (es : List Element) → suc n ≤ length es → trimWords s (wordsAt at (settled c (take (suc n) es))) ≡ wordsAt at (elementMarks (drop at s) c (suc n) es)
+pub trim-elements : (s : List ℕ) (c : Option ℕ) (at n : ℕ) (es : List Element) → suc n ≤ length es
+    → trimWords s (wordsAt at (settled c (take (suc n) es))) ≡ wordsAt at (elementMarks (drop at s) c (suc n) es)
 trim-elements s c at n [] h = absurd (omega arith)
 trim-elements s c at zero (e ∷ es) h = trim-last s c at e es
 trim-elements s c at (suc n) (e ∷ []) h = absurd (omega arith)

@@ -109,8 +109,10 @@ module _ {s : List ℕ} {cap at n : ℕ} {t₀ t : List ℕ} {st : Reading} {d :
     trim-within i = last-within s (st .«last_non_blank» - 2) (word 11 0) now-settled two settled-step end-of (within-elements s (d .common) at (take (d .kept) (d .elements)) i (sound-take (drop at s) (d .kept) (d .elements) (h .sound)))
 
     -- the whole pattern
-    pattern-did : {t₂ t₃ : List ℕ} {m end : ℕ} (k : ℕ) → d .kept ≡ k → at ≤ end → Step cap (st .«last_non_blank» - 2) t₁ t₂ (trimWords s (drop (st .«last_non_blank» - 2) (marksIn cap (st .«last_non_blank» - 2 + 2) t₁)))
-        → (m ≡ st .«last_non_blank» + 1) × Step cap (st .«last_non_blank») t₂ t₃ (word 111 0 ∷ []) → Did reading cap at n t₀ t₃ (Ok end m) (finish (drop at s) (ok d [] (end - at)))
+    pattern-did : {t₂ t₃ : List ℕ} {m end : ℕ} (k : ℕ) → d .kept ≡ k → at ≤ end
+        → Step cap (st .«last_non_blank» - 2) t₁ t₂ (trimWords s (drop (st .«last_non_blank» - 2) (marksIn cap (st .«last_non_blank» - 2 + 2) t₁)))
+        → (m ≡ st .«last_non_blank» + 1) × Step cap (st .«last_non_blank») t₂ t₃ (word 111 0 ∷ [])
+            → Did reading cap at n t₀ t₃ (Ok end m) (finish (drop at s) (ok d [] (end - at)))
     pattern-did zero ek l w p = absurd (some (h .kept ∙ none))
       where
         none : n + 1 + length (provisional at (take (d .kept) (d .elements))) ≡ n + 1
@@ -156,6 +158,7 @@ module _ {s t : List ℕ} {cap n : ℕ} {st : Reading} (ends : Ends s t cap n st
     pub ends-within : Within s (drop (st .«last_non_blank» - 2) (marksIn cap (st .«last_non_blank» - 2 + 2) t₁))
     ends-within = trim-within (ends .holds) g some (ends .inside)
 
-    pub end-some : {t₂ t₃ : List ℕ} {m end : ℕ} → Step cap (st .«last_non_blank» - 2) t₁ t₂ (trimWords s (drop (st .«last_non_blank» - 2) (marksIn cap (st .«last_non_blank» - 2 + 2) t₁)))
+    pub end-some : {t₂ t₃ : List ℕ} {m end : ℕ}
+        → Step cap (st .«last_non_blank» - 2) t₁ t₂ (trimWords s (drop (st .«last_non_blank» - 2) (marksIn cap (st .«last_non_blank» - 2 + 2) t₁)))
         → (m ≡ st .«last_non_blank» + 1) × Step cap (st .«last_non_blank») t₂ t₃ (word 111 0 ∷ []) → Ended s cap n t t₃ st end (Ok end m)
     end-some w p = record { did = λ at t₀ d l h. pattern-did h g some (d .kept) refl l w p }

@@ -70,7 +70,8 @@ common-by s c common i true false true f h g = g
 common-by s c common i true true false f h g = least s c common i h g
 common-by s c common i true false false f h g = g
 
-common-same : (s : List ℕ) (d : State) (p : TextElementPosition) (common i : ℕ) (x : TextSlice) → d .role ≡ roleOf p → i ≤ length s → Common s (d .common) common
+common-same : (s : List ℕ) (d : State) (p : TextElementPosition) (common i : ℕ) (x : TextSlice) → d .role ≡ roleOf p → i ≤ length s
+    → Common s (d .common) common
     → Common s (commonAfter d i (sliceOf x)) (leastAfter (isPart (startsLine p) x) (x .blank) (startsLine p) i common)
 unfolding commonAfter isPart
 common-same s d p common i x e h g = rw (Common, line-is d p e) (common-by s (d .common) common i (ltb 0 (x .size)) (startsLine p) (x .blank) (isFeed (x .ending)) h g)
@@ -84,7 +85,8 @@ module _ (at : ℕ) (es : List Element) (e : Element) where
   add-count : (n : ℕ) {m : ℕ} → m ≡ n + 1 + length (provisional at es) → m + length (provisionalOf at e) ≡ n + 1 + length (provisional at (es ++ (e ∷ [])))
   add-count n h = rw (add-words, length-append) (omega arith)
 
-  add-wrote : {cap n m : ℕ} {t t₁ t₂ : List ℕ} {w : Word} → Step cap n t t₁ (w ∷ provisional at es) → m ≡ n + 1 + length (provisional at es) → Step cap m t₁ t₂ (provisionalOf at e)
+  add-wrote : {cap n m : ℕ} {t t₁ t₂ : List ℕ} {w : Word} → Step cap n t t₁ (w ∷ provisional at es) → m ≡ n + 1 + length (provisional at es)
+      → Step cap m t₁ t₂ (provisionalOf at e)
       → Step cap n t t₂ (w ∷ provisional at (es ++ (e ∷ [])))
   add-wrote h c g = rw add-words (step-then h (omega arith) g)
 

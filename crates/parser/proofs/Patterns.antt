@@ -53,7 +53,8 @@ module _ (s : List ℕ) (at : ℕ) {a : ℕ} (p : Passed s at (spaces (drop at s
       let k : a - at ≡ spaces (drop at s) = omega (arith, p .end) in
       rw (firstState, eol-at, z) (ap (λ (n : ℕ). stateAt n (roleOf InitialLineStart)) (sym k))
 
-  pub start-below : {e b c : ℕ} → Passed s a (eol (drop a s)) e → (e ≡ a → ⊥) → Went s e (skipBlankBlock (drop e s)) c b → firstState (drop at s) ≡ stateAt (b - at) (roleOf LineStart)
+  pub start-below : {e b c : ℕ} → Passed s a (eol (drop a s)) e → (e ≡ a → ⊥) → Went s e (skipBlankBlock (drop e s)) c b
+      → firstState (drop at s) ≡ stateAt (b - at) (roleOf LineStart)
   unfolding firstState
   start-below {e} {b} q h w =
       let z : ltb 0 (eol (drop a s)) ≡ true = lt-ltb 0 (eol (drop a s)) (omega (arith, q .end)) in
@@ -154,11 +155,13 @@ module _ (sub : Inside) (s : List ℕ) (a : ℕ) (d : State) where
 
 module _ {sub : Inside} {s : List ℕ} {cap at n : ℕ} {t t₁ : List ℕ} {st : Reading} (g : Going sub s cap at n t t₁ st) where
   -- a turn that is the last
-  turn-done : {o : Out State} → patternTurn sub (g .state) (drop (st .at) s) ≡ done o → getPattern sub (drop at s) ≡ finish (drop at s) (after [] (g .state .used) o)
+  turn-done : {o : Out State} → patternTurn sub (g .state) (drop (st .at) s) ≡ done o
+      → getPattern sub (drop at s) ≡ finish (drop at s) (after [] (g .state .used) o)
   turn-done e = g .same ∙ ap (λ (x : Out State). finish (drop at s) (after [] (g .state .used) x)) (repeat-done (patternTurn sub) (g .state) (drop (st .at) s) e)
 
   -- a turn after which the loop goes on
-  turn-again : {left : ℕ} {t₂ : List ℕ} {st′ : Reading} {d′ : State} → InsideBounds left sub → patternTurn sub (g .state) (drop (st .at) s) ≡ again d′ [] (st′ .at - st .at)
+  turn-again : {left : ℕ} {t₂ : List ℕ} {st′ : Reading} {d′ : State} → InsideBounds left sub
+      → patternTurn sub (g .state) (drop (st .at) s) ≡ again d′ [] (st′ .at - st .at)
       → Holds s cap at n t t₂ st′ d′ → Room s t₂ cap (st′ .at) (st′ .n) 1 → st .at ≤ st′ .at → Going sub s cap at n t t₂ st′
   turn-again {t₂ = t₂} {st′} {d′} law e h r l =
       let d = g .state in
@@ -180,7 +183,8 @@ module _ {sub : Inside} {s : List ℕ} {cap at n : ℕ} {t t₁ : List ℕ} {st 
       }
 
   -- the pattern ends at a place
-  end-did : {t₂ t₃ : List ℕ} {e : ℕ} {r : Read} → patternTurn sub (g .state) (drop (st .at) s) ≡ done (ok (g .state) [] (e - st .at)) → st .at ≤ e → Holds s cap at n t t₂ st (g .state)
+  end-did : {t₂ t₃ : List ℕ} {e : ℕ} {r : Read} → patternTurn sub (g .state) (drop (st .at) s) ≡ done (ok (g .state) [] (e - st .at)) → st .at ≤ e
+      → Holds s cap at n t t₂ st (g .state)
       → Ended s cap n t₂ t₃ st e r → Did reading cap at n t t₃ r (getPattern sub (drop at s))
   end-did {e = e} q l h w =
       let d = g .state in
@@ -273,7 +277,8 @@ module _ {sub : Inside} {s : List ℕ} {cap at n : ℕ} {t t₁ : List ℕ} {st 
           let u = uses in
           (omega (arith, u .room), omega (arith, u .within), omega (arith, u .room, p₁ .0, g .room .spent), inner .wrote .long ∙ p₁ .1 .long)
 
-      pub placeable-next : {m₃ : ℕ} {t₄ : List ℕ} {st′ : Reading} → (m₃ ≡ m₂ + 1) × Step cap m₂ t₃ t₄ (word 113 0 ∷ []) → st′ ≡ afterPlaceable st e m₃ → Going sub s cap at n t t₄ st′
+      pub placeable-next : {m₃ : ℕ} {t₄ : List ℕ} {st′ : Reading} → (m₃ ≡ m₂ + 1) × Step cap m₂ t₃ t₄ (word 113 0 ∷ []) → st′ ≡ afterPlaceable st e m₃
+          → Going sub s cap at n t t₄ st′
       placeable-next {m₃} {t₄} {st′} p₂ es =
           let i = inner .place in
           let c = inner .count in
@@ -297,10 +302,12 @@ module _ {sub : Inside} {s : List ℕ} {cap at n : ℕ} {t t₁ : List ℕ} {st 
             counted : n + 1 + length (provisional at (g .state .elements)) ≡ n + length (word 11 0 ∷ provisional at (g .state .elements))
             counted = omega arith
 
-        is-done : {o : Out (Unit {0})} {v : Out State} → sub .braced (drop (st .at) s) ≡ o → withPlaceable (g .state) o ≡ done v → getPattern sub (drop at s) ≡ finish (drop at s) (after [] (g .state .used) v)
+        is-done : {o : Out (Unit {0})} {v : Out State} → sub .braced (drop (st .at) s) ≡ o → withPlaceable (g .state) o ≡ done v
+            → getPattern sub (drop at s) ≡ finish (drop at s) (after [] (g .state .used) v)
         is-done e q = turn-done (brace-turn sub s (st .at) (g .state) l b ∙ ap (withPlaceable (g .state)) e ∙ q)
 
-        go : (o : Out (Unit {0})) → sub .braced (drop (st .at) s) ≡ o → Did reading cap (st .at) m₁ t₂ t₃ r o → Did reading cap at n t t₃ r (getPattern sub (drop at s))
+        go : (o : Out (Unit {0})) → sub .braced (drop (st .at) s) ≡ o → Did reading cap (st .at) m₁ t₂ t₃ r o
+            → Did reading cap at n t t₃ r (getPattern sub (drop at s))
         go (ok u ms k) e q = absurd (f _ _ (q .answers))
         go (bad v k) e q =
             let p = g .holds .place in

@@ -125,12 +125,15 @@ pub other-word : (s : List ℕ) (common k p : ℕ) → (k ≡ 200 → ⊥) → s
 unfolding settleWord
 other-word s common k p f = rw (settleWord, ne-eqb k 200 f)
 
-pub settle-other : (s : List ℕ) (cap from to common : ℕ) (t t′ : List ℕ) (i : ℕ) → Settling s cap from to common t t′ i → i < to → (getD t′ (i + 2) 0 ≡ 200 → ⊥) → Settling s cap from to common t t′ (i + 1)
+pub settle-other : (s : List ℕ) (cap from to common : ℕ) (t t′ : List ℕ) (i : ℕ) → Settling s cap from to common t t′ i → i < to
+    → (getD t′ (i + 2) 0 ≡ 200 → ⊥) → Settling s cap from to common t t′ (i + 1)
 settle-other s cap from to common t t′ i g h f =
     settle-next s cap from to common t t′ t′ i g h (rw (other-word s common (getD t′ (i + 2) 0) (getD t′ (cap + i + 2) 0) f) (step-same cap i t′)) (λ k a b. refl) (λ k a b. refl)
 
-pub settle-line : (s : List ℕ) (cap from to common : ℕ) (t t′ : List ℕ) (i p : ℕ) → to ≤ cap → 2 + 2 * cap ≤ length t → Settling s cap from to common t t′ i → i < to → getD t′ (i + 2) 0 ≡ 200
-    → p ≡ min (spaces (drop (getD t′ (cap + i + 2) 0) s)) common → Settling s cap from to common t (set (set t′ (i + 2) 12) (cap + i + 2) (getD t′ (cap + i + 2) 0 + p)) (i + 1)
+pub settle-line : (s : List ℕ) (cap from to common : ℕ) (t t′ : List ℕ) (i p : ℕ) → to ≤ cap → 2 + 2 * cap ≤ length t
+    → Settling s cap from to common t t′ i → i < to → getD t′ (i + 2) 0 ≡ 200
+    → p ≡ min (spaces (drop (getD t′ (cap + i + 2) 0) s)) common
+        → Settling s cap from to common t (set (set t′ (i + 2) 12) (cap + i + 2) (getD t′ (cap + i + 2) 0 + p)) (i + 1)
 settle-line s cap from to common t t′ i p m l g h e q =
     let z = g .done .long in
     settle-next s cap from to common t t′ _ i g h
@@ -138,7 +141,8 @@ settle-line s cap from to common t t′ i p m l g h e q =
     (λ k a b. getD-set-other (set t′ (i + 2) 12) (cap + i + 2) (k + 2) _ 0 (λ w. omega arith) ∙ getD-set-other t′ (i + 2) (k + 2) 12 0 (λ w. omega arith))
     (λ k a b. getD-set-other (set t′ (i + 2) 12) (cap + i + 2) (cap + k + 2) _ 0 (λ w. omega arith) ∙ getD-set-other t′ (i + 2) (cap + k + 2) 12 0 (λ w. omega arith))
 
-pub settle-end : (s : List ℕ) (cap from to common : ℕ) (t t′ : List ℕ) (i : ℕ) → Settling s cap from to common t t′ i → to ≤ i → Step cap from t t′ (map (settleWord s common) (drop from (marksIn cap to t)))
+pub settle-end : (s : List ℕ) (cap from to common : ℕ) (t t′ : List ℕ) (i : ℕ) → Settling s cap from to common t t′ i → to ≤ i
+    → Step cap from t t′ (map (settleWord s common) (drop from (marksIn cap to t)))
 settle-end s cap from to common t t′ i g h = let e : i ≡ to = omega (arith, g .order) in rw e at (g .done)
 
 -- ---- trimming: the last byte decides
@@ -171,7 +175,8 @@ pub record Trimming (s : List ℕ) (start end e : ℕ) : Type 0 where
 pub trim-none : (s : List ℕ) (start end : ℕ) → start ≤ end → Trimming s start end end
 trim-none s start end h = record { order = (h, omega arith); same = refl }
 
-pub trim-more : (s : List ℕ) (start end e : ℕ) → end ≤ length s → Trimming s start end e → start < e → isTrimmed (getD s (e - 1) 0) ≡ true → Trimming s start end (e - 1)
+pub trim-more : (s : List ℕ) (start end e : ℕ) → end ≤ length s → Trimming s start end e → start < e → isTrimmed (getD s (e - 1) 0) ≡ true
+    → Trimming s start end (e - 1)
 unfolding trimmedEnd
 trim-more s start end e l g h q =
     record {
@@ -179,7 +184,8 @@ trim-more s start end e l g h q =
       same = g .same ∙ rw (shorter s start e h (omega (arith, g .order)), trimmed-yes (take (e - 1 - start) (drop start s)) (getD s (e - 1) 0) q);
     }
 
-pub trim-stop : (s : List ℕ) (start end e : ℕ) → end ≤ length s → Trimming s start end e → start < e → isTrimmed (getD s (e - 1) 0) ≡ false → e ≡ trimmedEnd s start end
+pub trim-stop : (s : List ℕ) (start end e : ℕ) → end ≤ length s → Trimming s start end e → start < e → isTrimmed (getD s (e - 1) 0) ≡ false
+    → e ≡ trimmedEnd s start end
 unfolding trimmedEnd
 trim-stop s start end e l g h q =
     let m : e ≤ length s = omega (arith, g .order) in
@@ -194,12 +200,14 @@ trim-all s start end e g h =
     let r : start - start ≡ 0 = omega arith in
     rw (g .same, q, r, add-zero)
 
-two-marks : (cap n : ℕ) (t : List ℕ) → drop n (marksIn cap (n + 2) t) ≡ word (getD t (n + 2) 0) (getD t (cap + n + 2) 0) ∷ word (getD t (n + 1 + 2) 0) (getD t (cap + (n + 1) + 2) 0) ∷ []
+two-marks : (cap n : ℕ) (t : List ℕ)
+    → drop n (marksIn cap (n + 2) t) ≡ word (getD t (n + 2) 0) (getD t (cap + n + 2) 0) ∷ word (getD t (n + 1 + 2) 0) (getD t (cap + (n + 1) + 2) 0) ∷ []
 two-marks cap n t =
     let e : n + 2 ≡ n + 1 + 1 = omega arith in
     ap (λ (k : ℕ). drop n (marksIn cap k t)) e ∙ rw (marks-next cap (n + 1) t, marks-next cap n t, append-assoc) (drop-at (marksIn cap n t) _ n (marks-length cap n t))
 
-pub trim-yes : (s : List ℕ) (cap n : ℕ) (t : List ℕ) (e : ℕ) → n + 2 ≤ cap → 2 + 2 * cap ≤ length t → getD t (n + 1 + 2) 0 ≡ 112 → e ≡ trimmedEnd s (getD t (cap + n + 2) 0) (getD t (cap + (n + 1) + 2) 0)
+pub trim-yes : (s : List ℕ) (cap n : ℕ) (t : List ℕ) (e : ℕ) → n + 2 ≤ cap → 2 + 2 * cap ≤ length t → getD t (n + 1 + 2) 0 ≡ 112
+    → e ≡ trimmedEnd s (getD t (cap + n + 2) 0) (getD t (cap + (n + 1) + 2) 0)
     → Step cap n t (set t (cap + (n + 1) + 2) e) (trimWords s (drop n (marksIn cap (n + 2) t)))
 unfolding trimWords
 trim-yes s cap n t e h l q r =
@@ -215,7 +223,8 @@ pub within : (s : List ℕ) (cap n : ℕ) (t : List ℕ) → Within s (drop n (m
 unfolding Within
 within s cap n t w e = (rw (two-marks cap n t) at w) e
 
-pub trimmed-fits : (s : List ℕ) (cap n : ℕ) (t : List ℕ) {r : ℕ} → Within s (drop n (marksIn cap (n + 2) t)) → getD t (n + 1 + 2) 0 ≡ 112 → r ≡ trimmedEnd s (getD t (cap + n + 2) 0) (getD t (cap + (n + 1) + 2) 0)
+pub trimmed-fits : (s : List ℕ) (cap n : ℕ) (t : List ℕ) {r : ℕ} → Within s (drop n (marksIn cap (n + 2) t)) → getD t (n + 1 + 2) 0 ≡ 112
+    → r ≡ trimmedEnd s (getD t (cap + n + 2) 0) (getD t (cap + (n + 1) + 2) 0)
     → length s < 2 ^ 32 → r < 2 ^ 32
 unfolding trimmedEnd
 trimmed-fits s cap n t w e q h =

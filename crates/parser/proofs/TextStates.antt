@@ -26,18 +26,21 @@ module _ (st : Reading) (i : ℕ) (x : TextSlice) {p : ℕ} {q : TextElementPosi
   abbrev made : ℕ → ℕ → ℕ → Reading
   made n b c = record { at = st .at + i + x .size + p; n = n; role = q; «last_non_blank» = b; «common_indent» = c }
 
-  pub text-out : {cap : ℕ} {t : List ℕ} → v ≡ false → (made (st .n) (st .«last_non_blank») (st .«common_indent») ≡ afterText st i x) × Step cap (st .n) t t (textWords st i x)
+  pub text-out : {cap : ℕ} {t : List ℕ} → v ≡ false
+      → (made (st .n) (st .«last_non_blank») (st .«common_indent») ≡ afterText st i x) × Step cap (st .n) t t (textWords st i x)
   text-out {cap} {t} e =
       let h : isPart (startsLine (st .role)) x ≡ false = cc in
       rw (h, ep, eq) (refl, step-none cap (st .n) t)
 
-  pub text-blank : {cap n : ℕ} {t t₁ : List ℕ} → v ≡ true → x .blank ≡ true → n ≡ st .n + 2 → Step cap (st .n) t t₁ (word (opening l) (st .at) ∷ word 112 (st .at + i + x .size) ∷ [])
+  pub text-blank : {cap n : ℕ} {t t₁ : List ℕ} → v ≡ true → x .blank ≡ true → n ≡ st .n + 2
+      → Step cap (st .n) t t₁ (word (opening l) (st .at) ∷ word 112 (st .at + i + x .size) ∷ [])
       → (made n (st .«last_non_blank») (st .«common_indent») ≡ afterText st i x) × Step cap (st .n) t t₁ (textWords st i x)
   text-blank e b c w =
       let h : isPart (startsLine (st .role)) x ≡ true = cc in
       (rw (h, b, ep, eq, c), rw h (rw el at w))
 
-  pub text-full : {cap n m : ℕ} {t t₁ : List ℕ} → v ≡ true → x .blank ≡ false → n ≡ st .n + 2 → m ≡ leastOf l i (st .«common_indent») → Step cap (st .n) t t₁ (word (opening l) (st .at) ∷ word 112 (st .at + i + x .size) ∷ [])
+  pub text-full : {cap n m : ℕ} {t t₁ : List ℕ} → v ≡ true → x .blank ≡ false → n ≡ st .n + 2 → m ≡ leastOf l i (st .«common_indent»)
+      → Step cap (st .n) t t₁ (word (opening l) (st .at) ∷ word 112 (st .at + i + x .size) ∷ [])
       → (made n n m ≡ afterText st i x) × Step cap (st .n) t t₁ (textWords st i x)
   text-full e b c d w =
       let h : isPart (startsLine (st .role)) x ≡ true = cc in

@@ -80,7 +80,8 @@ module _ {s t : List ℕ} {cap : ℕ} {st : Reading} {i : ℕ} (ready : Ready s 
   text-onward : (x : TextSlice) → getTextSlice (drop (st .at + i) s) ≡ ok (sliceOf x) [] (widthOf x) → st .at < st .at + i + x .size + crlfWidth (x .ending)
   text-onward x e = byCase (startsWith 123 (drop (st .at + i) s)) (λ q. let m = ready .moves q in omega arith) (λ q. let m = text-moves s (st .at + i) (ready .inside) q e in omega arith)
 
-  pub text-next : {t′ : List ℕ} (x : TextSlice) {r : TextRead} {r₂ : Reading} → Sliced (take (length s - (st .at + i)) (drop (st .at + i) s)) r → r ≡ Text x → (r₂ ≡ afterText st i x) × Step cap (st .n) t t′ (textWords st i x)
+  pub text-next : {t′ : List ℕ} (x : TextSlice) {r : TextRead} {r₂ : Reading} → Sliced (take (length s - (st .at + i)) (drop (st .at + i) s)) r
+      → r ≡ Text x → (r₂ ≡ afterText st i x) × Step cap (st .n) t t′ (textWords st i x)
       → TextDid s cap t t′ st (λ d. withText d i (getTextSlice (drop (st .at + i) s))) (Next r₂)
   text-next {t′} x {r} h e w =
       let g = sliced-at s (st .at + i) h in
@@ -99,7 +100,8 @@ module _ {s t : List ℕ} {cap : ℕ} {st : Reading} {i : ℕ} (ready : Ready s 
         };
       })
 
-  pub text-bad : {r : TextRead} (k : ℕ) {f : ParserError} → Sliced (take (length s - (st .at + i)) (drop (st .at + i) s)) r → r ≡ UnbalancedClosingBrace k → f ≡ faultAt kinds.UnbalancedClosingBrace (st .at + i + k)
+  pub text-bad : {r : TextRead} (k : ℕ) {f : ParserError} → Sliced (take (length s - (st .at + i)) (drop (st .at + i) s)) r
+      → r ≡ UnbalancedClosingBrace k → f ≡ faultAt kinds.UnbalancedClosingBrace (st .at + i + k)
       → TextDid s cap t t st (λ d. withText d i (getTextSlice (drop (st .at + i) s))) (Bad f (st .at + i + k))
   text-bad k {f} h e v =
       let g = sliced-at s (st .at + i) h in
@@ -124,7 +126,8 @@ module _ {s t : List ℕ} {cap : ℕ} {st : Reading} {i : ℕ} (ready : Ready s 
   pub text-fits : (x : TextSlice) {r : TextRead} → Sliced (take (length s - (st .at + i)) (drop (st .at + i) s)) r → r ≡ Text x → st .at + i + x .size ≤ 1000000
   text-fits x h e = let b = sliced-in s (st .at + i) x (omega (arith, ready .inside)) (sliced-at s (st .at + i) h) e in omega (arith, ready .short)
 
-  pub brace-fits : (k : ℕ) {r : TextRead} → Sliced (take (length s - (st .at + i)) (drop (st .at + i) s)) r → r ≡ UnbalancedClosingBrace k → st .at + i + k ≤ 1000000
+  pub brace-fits : (k : ℕ) {r : TextRead} → Sliced (take (length s - (st .at + i)) (drop (st .at + i) s)) r → r ≡ UnbalancedClosingBrace k
+      → st .at + i + k ≤ 1000000
   brace-fits k h e = let b = brace-in s (st .at + i) k (omega (arith, ready .inside)) (sliced-at s (st .at + i) h) e in omega (arith, ready .short)
 
 -- ---- whether a line goes on
@@ -141,7 +144,8 @@ unfolding goesOn
 goes-byte i b e h = rw (goesOn, ne-eqb i 0 e) h
 
 -- ---- a turn at a text
-did-as : {s t t′ : List ℕ} {cap : ℕ} {st : Reading} {r : TextTurn} {f g : State → Turn State State} → TextDid s cap t t′ st f r → ((d : State) → isLineStart (d .role) ≡ startsLine (st .role) → f d ≡ g d) → TextDid s cap t t′ st g r
+did-as : {s t t′ : List ℕ} {cap : ℕ} {st : Reading} {r : TextTurn} {f g : State → Turn State State} → TextDid s cap t t′ st f r
+    → ((d : State) → isLineStart (d .role) ≡ startsLine (st .role) → f d ≡ g d) → TextDid s cap t t′ st g r
 did-as {s} {t} {t′} {cap} {st} {r} {f} {g} h e =
     record {
       long = h .long;
@@ -160,7 +164,8 @@ module _ {s t : List ℕ} {cap : ℕ} (st : Reading) (room : Room s t cap (st .a
   pub ready-text : v ≡ false → Ready s t cap st 0
   ready-text e = record { inside = omega (arith, h .0); short = room .short; fits = fits; spaced = λ q. clash q (sym ev ∙ e); moves = moves-by 0 }
 
-  pub turn-text : {t′ : List ℕ} {r : TextTurn} → v ≡ false → TextDid s cap t t′ st (λ d. withText d 0 (getTextSlice (drop (st .at + 0) s))) r → TextDid s cap t t′ st (λ d. textTurn d (drop (st .at) s)) r
+  pub turn-text : {t′ : List ℕ} {r : TextTurn} → v ≡ false → TextDid s cap t t′ st (λ d. withText d 0 (getTextSlice (drop (st .at + 0) s))) r
+      → TextDid s cap t t′ st (λ d. textTurn d (drop (st .at) s)) r
   unfolding textTurn
   turn-text e g = did-as g (λ d q. rw (textTurn, q ∙ sym ev ∙ e, add-zero))
 
@@ -201,7 +206,9 @@ module _ {s t : List ℕ} {cap : ℕ} (st : Reading) (room : Room s t cap (st .a
       pub ready-line : Ready s t cap st (a - st .at)
       ready-line = record { inside = rw back within; short = room .short; fits = fits; spaced = λ q. indent-is; moves = moves-by (a - st .at) }
 
-      pub turn-line : {t′ : List ℕ} {r : TextTurn} → g ≡ true → TextDid s cap t t′ st (λ d. withText d (a - st .at) (getTextSlice (drop (st .at + (a - st .at)) s))) r → TextDid s cap t t′ st (λ d. textTurn d (drop (st .at) s)) r
+      pub turn-line : {t′ : List ℕ} {r : TextTurn} → g ≡ true
+          → TextDid s cap t t′ st (λ d. withText d (a - st .at) (getTextSlice (drop (st .at + (a - st .at)) s))) r
+          → TextDid s cap t t′ st (λ d. textTurn d (drop (st .at) s)) r
       turn-line e w = did-as w (λ d q. sym (line-is-turn d q ∙ line-goes d e ∙ ap (λ (k : ℕ). withText d (a - st .at) (getTextSlice (drop k s))) (sym back)))
 
       pub line-stop : g ≡ false → TextDid s cap t t st (λ d. textTurn d (drop (st .at) s)) (End (st .at))
