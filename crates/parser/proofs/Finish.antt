@@ -44,7 +44,9 @@ module _ (s : List ℕ) {cap n : ℕ} (m : ℕ) {t t₁ : List ℕ} (u : Word) (
 
   pub step-trim : {t₂ : List ℕ} → Step cap m t₁ t₂ (trimWords s (drop m (marksIn cap (m + 2) t₁))) → Step cap n t t₂ (u ∷ trimWords s ws)
   step-trim {t₂} h =
-      let e : trimWords s ws ≡ take (length ws - 2) ws ++ trimWords s (drop (length ws - 2) ws) = ap (trimWords s) (sym split) ∙ trim-append s (take (length ws - 2) ws) (drop (length ws - 2) ws) (let b = behind in omega arith) in
+      let e : trimWords s ws ≡ take (length ws - 2) ws ++ trimWords s (drop (length ws - 2) ws) =
+          ap (trimWords s) (sym split)
+          ∙ trim-append s (take (length ws - 2) ws) (drop (length ws - 2) ws) (let b = behind in omega arith) in
       rw e (step-over (u ∷ take (length ws - 2) ws) (drop (length ws - 2) ws) parted start (rw last-two at h))
 
   pub last-within : Within s ws → Within s (drop m (marksIn cap (m + 2) t₁))
@@ -71,6 +73,14 @@ sound-take x zero es h = tt
 sound-take x (suc k) [] h = tt
 sound-take x (suc k) (e ∷ es) h = (h .0, sound-take x k es (h .1))
 
+-- what settling and trimming do
+abbrev Settled : List ℕ → ℕ → ℕ → List ℕ → List ℕ → Reading → Type 0
+Settled s cap n t t₁ st = Step cap (n + 1) t t₁ (map (settleWord s (st .«common_indent»)) (drop (n + 1) (marksIn cap (st .«last_non_blank») t)))
+
+abbrev Trimmed : List ℕ → ℕ → List ℕ → List ℕ → Reading → Type 0
+Trimmed s cap t₁ t₂ st =
+    Step cap (st .«last_non_blank» - 2) t₁ t₂ (trimWords s (drop (st .«last_non_blank» - 2) (marksIn cap (st .«last_non_blank» - 2 + 2) t₁)))
+
 module _ {s : List ℕ} {cap at n : ℕ} {t₀ t : List ℕ} {st : Reading} {d : State} (h : Holds s cap at n t₀ t st d) where
   kept-split : provisional at (d .elements) ≡ provisional at (take (d .kept) (d .elements)) ++ provisional at (drop (d .kept) (d .elements))
   kept-split = ap (provisional at) (sym (take-append-drop (d .kept) (d .elements))) ∙ provisional-append at (take (d .kept) (d .elements)) (drop (d .kept) (d .elements))
@@ -93,7 +103,7 @@ module _ {s : List ℕ} {cap at n : ℕ} {t₀ t : List ℕ} {st : Reading} {d :
   settled-length : length now-settled ≡ length (provisional at (take (d .kept) (d .elements)))
   settled-length = ap length (sym settled-words) ∙ simp length-map
 
-  module _ {t₁ : List ℕ} (g : Step cap (n + 1) t t₁ (map (settleWord s (st .«common_indent»)) (drop (n + 1) (marksIn cap (st .«last_non_blank») t)))) (some : st .«last_non_blank» ≡ n + 1 → ⊥) where
+  module _ {t₁ : List ℕ} (g : Settled s cap n t t₁ st) (some : st .«last_non_blank» ≡ n + 1 → ⊥) where
     settled-step : Step cap n t₀ t₁ (word 11 0 ∷ now-settled)
     settled-step =
         let e = step-last (word 11 0 ∷ []) (provisional at (take (d .kept) (d .elements))) kept-step refl (h .kept) in
@@ -106,18 +116,22 @@ module _ {s : List ℕ} {cap at n : ℕ} {t₀ t : List ℕ} {st : Reading} {d :
     end-of = let w = two in omega (arith, h .kept, settled-length)
 
     pub trim-within : at ≤ length s → Within s (drop (st .«last_non_blank» - 2) (marksIn cap (st .«last_non_blank» - 2 + 2) t₁))
-    trim-within i = last-within s (st .«last_non_blank» - 2) (word 11 0) now-settled two settled-step end-of (within-elements s (d .common) at (take (d .kept) (d .elements)) i (sound-take (drop at s) (d .kept) (d .elements) (h .sound)))
+    trim-within i =
+        last-within s (st .«last_non_blank» - 2) (word 11 0) now-settled two settled-step end-of
+        (within-elements s (d .common) at (take (d .kept) (d .elements)) i (sound-take (drop at s) (d .kept) (d .elements) (h .sound)))
 
     -- the whole pattern
     pattern-did : {t₂ t₃ : List ℕ} {m end : ℕ} (k : ℕ) → d .kept ≡ k → at ≤ end
-        → Step cap (st .«last_non_blank» - 2) t₁ t₂ (trimWords s (drop (st .«last_non_blank» - 2) (marksIn cap (st .«last_non_blank» - 2 + 2) t₁)))
+        → Trimmed s cap t₁ t₂ st
         → (m ≡ st .«last_non_blank» + 1) × Step cap (st .«last_non_blank») t₂ t₃ (word 111 0 ∷ [])
             → Did reading cap at n t₀ t₃ (Ok end m) (finish (drop at s) (ok d [] (end - at)))
     pattern-did zero ek l w p = absurd (some (h .kept ∙ none))
       where
         none : n + 1 + length (provisional at (take (d .kept) (d .elements))) ≡ n + 1
         none = rw ek (unfold provisional in (add-zero (n + 1)))
-    pattern-did {t₂} {t₃} {m} {end} (suc k) ek l w p = rw finished (record { answers = ap₂ Ok (omega arith) counted; wrote = rw (node-words at 11 marks) (step-then trimmed-step after (p .1)) })
+    pattern-did {t₂} {t₃} {m} {end} (suc k) ek l w p =
+        rw finished
+        (record { answers = ap₂ Ok (omega arith) counted; wrote = rw (node-words at 11 marks) (step-then trimmed-step after (p .1)) })
       where
         marks : List Mark
         marks = elementMarks (drop at s) (d .common) (suc k) (d .elements)
@@ -154,11 +168,11 @@ module _ {s t : List ℕ} {cap n : ℕ} {st : Reading} (ends : Ends s t cap n st
   pub end-none : {end : ℕ} → st .«last_non_blank» ≡ n + 1 → Ended s cap n t t st end (Ok end n)
   end-none e = record { did = λ at t₀ d l h. none-did h e l }
 
-  module _ {t₁ : List ℕ} (g : Step cap (n + 1) t t₁ (map (settleWord s (st .«common_indent»)) (drop (n + 1) (marksIn cap (st .«last_non_blank») t)))) (some : st .«last_non_blank» ≡ n + 1 → ⊥) where
+  module _ {t₁ : List ℕ} (g : Settled s cap n t t₁ st) (some : st .«last_non_blank» ≡ n + 1 → ⊥) where
     pub ends-within : Within s (drop (st .«last_non_blank» - 2) (marksIn cap (st .«last_non_blank» - 2 + 2) t₁))
     ends-within = trim-within (ends .holds) g some (ends .inside)
 
     pub end-some : {t₂ t₃ : List ℕ} {m end : ℕ}
-        → Step cap (st .«last_non_blank» - 2) t₁ t₂ (trimWords s (drop (st .«last_non_blank» - 2) (marksIn cap (st .«last_non_blank» - 2 + 2) t₁)))
+        → Trimmed s cap t₁ t₂ st
         → (m ≡ st .«last_non_blank» + 1) × Step cap (st .«last_non_blank») t₂ t₃ (word 111 0 ∷ []) → Ended s cap n t t₃ st end (Ok end m)
     end-some w p = record { did = λ at t₀ d l h. pattern-did h g some (d .kept) refl l w p }

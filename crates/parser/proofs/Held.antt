@@ -119,6 +119,27 @@ textState d i t k =
 abbrev partOf : State → ℕ → TextSlice → Element
 partOf d i x = text (d .used) (d .used + i + x .size) i (isLineStart (d .role))
 
+-- the two states after it, by whether it is an element and whether it is blank
+abbrev readingBy : Reading → ℕ → TextSlice → Bool → Bool → Reading
+readingBy st i x v b =
+    record {
+      at = st .at + i + x .size + crlfWidth (x .ending);
+      n = countAfter v (st .n);
+      role = positionAfter (x .ending);
+      «last_non_blank» = lastAfter v b (st .n) (st .«last_non_blank»);
+      «common_indent» = leastAfter v b (startsLine (st .role)) i (st .«common_indent»);
+    }
+
+abbrev stateBy : State → ℕ → TextSlice → Bool → Bool → State
+stateBy d i x v b =
+    record {
+      role = roleAfter (endingOf (x .ending));
+      elements = elim v [ true ↦ d .elements ++ (partOf d i x ∷ []) | false ↦ d .elements ];
+      kept = elim (v && not b) [ true ↦ suc (length (d .elements)) | false ↦ d .kept ];
+      common = commonAfter d i (sliceOf x);
+      used = d .used + (i + widthOf x);
+    }
+
 module _ {s : List ℕ} {cap at n : ℕ} {t t₁ : List ℕ} {st : Reading} {d : State} (i : ℕ) (x : TextSlice) (h : Holds s cap at n t t₁ st d) (inside : st .at + i + x .size ≤ length s)
     (spaced : startsLine (st .role) ≡ true → i ≡ spaces (drop (st .at) s)) where
   part-sound : SoundOne (drop at s) (partOf d i x)
@@ -136,9 +157,7 @@ module _ {s : List ℕ} {cap at n : ℕ} {t t₁ : List ℕ} {st : Reading} {d :
 
   text-by : {t₂ : List ℕ} (v b : Bool) → Step cap (st .n) t₁ t₂ (partWords v (startsLine (st .role)) (st .at) (st .at + i + x .size))
       → Common s (commonAfter d i (sliceOf x)) (leastAfter v b (startsLine (st .role)) i (st .«common_indent»))
-      → Holds s cap at n t t₂
-      (record { at = st .at + i + x .size + crlfWidth (x .ending); n = countAfter v (st .n); role = positionAfter (x .ending); «last_non_blank» = lastAfter v b (st .n) (st .«last_non_blank»); «common_indent» = leastAfter v b (startsLine (st .role)) i (st .«common_indent») })
-      (record { role = roleAfter (endingOf (x .ending)); elements = elim v [ true ↦ d .elements ++ ((partOf d i x) ∷ []) | false ↦ d .elements ]; kept = elim (v && not b) [ true ↦ suc (length (d .elements)) | false ↦ d .kept ]; common = commonAfter d i (sliceOf x); used = d .used + (i + widthOf x) })
+      → Holds s cap at n t t₂ (readingBy st i x v b) (stateBy d i x v b)
   text-by {t₂} false b w c =
       let p = h .place in
       record {
@@ -169,7 +188,7 @@ module _ {s : List ℕ} {cap at n : ℕ} {t t₁ : List ℕ} {st : Reading} {d :
       let p = h .place in
       let g : Step cap (st .n) t₁ t₂ (provisionalOf at (partOf d i x)) = rw part-words w in
       let l : length (provisionalOf at (partOf d i x)) ≡ 2 = rw part-words in
-      let q : st .n + 2 ≡ n + 1 + length (provisional at (d .elements ++ ((partOf d i x) ∷ []))) = rw l at (add-count at (d .elements) (partOf d i x) n (h .count)) in
+      let q : st .n + 2 ≡ n + 1 + length (provisional at (d .elements ++ (partOf d i x ∷ []))) = rw l at (add-count at (d .elements) (partOf d i x) n (h .count)) in
       record {
         role = role-same (x .ending);
         place = omega arith;
@@ -212,15 +231,19 @@ module _ {s : List ℕ} {cap at n : ℕ} {t t₁ t₂ : List ℕ} {st : Reading}
     (w : Step cap (st .n) t₁ t₂ ((word 13 0 ∷ wordsAt (st .at) ms) ++ (word 113 0 ∷ []))) where
   placed-words : provisionalOf at (placeable (moveUp (d .used) ms)) ≡ (word 13 0 ∷ wordsAt (st .at) ms) ++ (word 113 0 ∷ [])
   unfolding provisionalOf
-  placed-words = node-words at 13 (moveUp (d .used) ms) ∙ ap (λ (l : List Word). (word 13 0 ∷ l) ++ (word 113 0 ∷ [])) (words-up at (d .used) ms ∙ ap (λ (k : ℕ). wordsAt k ms) (sym (h .place)))
+  placed-words =
+      node-words at 13 (moveUp (d .used) ms)
+      ∙ ap (λ (l : List Word). (word 13 0 ∷ l) ++ (word 113 0 ∷ [])) (words-up at (d .used) ms ∙ ap (λ (k : ℕ). wordsAt k ms) (sym (h .place)))
 
   pub holds-placeable : (k : ℕ) {e m : ℕ} → e ≡ st .at + k → m ≡ st .n + 2 + length ms → Holds s cap at n t t₂ (afterPlaceable st e m) (placedState d ms k)
   holds-placeable k {e} {m} ee em =
       let p = h .place in
       let es = d .elements in
       let o = placeable (moveUp (d .used) ms) in
-      let l : length (provisionalOf at o) ≡ 2 + length ms = rw placed-words (let z = length-append (word 13 0 ∷ wordsAt (st .at) ms) (word 113 0 ∷ []) in let y = words-length (st .at) ms in omega arith) in
-      let q : m ≡ n + 1 + length (provisional at (es ++ (o ∷ []))) = let z = add-count at es o n (h .count) in omega arith in
+      let z = length-append (word 13 0 ∷ wordsAt (st .at) ms) (word 113 0 ∷ []) in
+      let y = words-length (st .at) ms in
+      let l : length (provisionalOf at o) ≡ 2 + length ms = rw placed-words (omega arith) in
+      let q : m ≡ n + 1 + length (provisional at (es ++ (o ∷ []))) = let c = add-count at es o n (h .count) in omega arith in
       record {
         role = refl;
         place = omega arith;

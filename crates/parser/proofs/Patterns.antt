@@ -62,14 +62,16 @@ module _ (s : List ℕ) (at : ℕ) {a : ℕ} (p : Passed s at (spaces (drop at s
       let k : spaces x + eol (drop (spaces x) x) ≡ e - at = omega (arith, p .end, q .end, eol-at) in
       let r : at + (e - at) ≡ e = omega (arith, p .end, q .end) in
       let d : drop (e - at) x ≡ drop e s = drop-drop (e - at) at s ∙ ap (λ (n : ℕ). drop n s) r in
-      let u : usedBy (skipBlankBlock (drop (spaces x + eol (drop (spaces x) x)) x)) ≡ b - e = ap (λ (n : ℕ). usedBy (skipBlankBlock (drop n x))) k ∙ ap (λ (y : List ℕ). usedBy (skipBlankBlock y)) d ∙ ap usedBy (w .answers) ∙ used-ok _ _ in
+      let u : usedBy (skipBlankBlock (drop (spaces x + eol (drop (spaces x) x)) x)) ≡ b - e =
+          ap (λ (n : ℕ). usedBy (skipBlankBlock (drop n x))) k ∙ ap (λ (y : List ℕ). usedBy (skipBlankBlock y)) d ∙ ap usedBy (w .answers) ∙ used-ok _ _ in
       rw (firstState, eol-at, z) (ap (λ (n : ℕ). stateAt n (roleOf LineStart)) (omega (arith, w .onward)))
 
 -- ---- the marks inside a placeable are none that is settled
 forest-low : {k : ℕ} {ms : List Mark} → Forest k ms → Low ms
 forest-low empty = tt
 forest-low (Balanced.text {kind} q h l f) = let z = ltb-true kind 100 (q .0) in (omega arith, (omega arith, forest-low f))
-forest-low (tree {kind} {inner} {ms} q i f) = let z = ltb-true kind 100 (q .0) in (omega arith, low-append inner (plain (100 + kind) ∷ ms) (forest-low i) (omega arith, forest-low f))
+forest-low (tree {kind} {inner} {ms} q i f) = let z = ltb-true kind 100 (q .0) in
+    (omega arith, low-append inner (plain (100 + kind) ∷ ms) (forest-low i) (omega arith, forest-low f))
 
 -- ---- the loop's invariant: the code's state holds one of the definition's, and what the loop gives from there on is what the pattern's reader gives
 pub record Going (sub : Inside) (s : List ℕ) (cap at n : ℕ) (t t₁ : List ℕ) (st : Reading) : Type 0 where
@@ -107,7 +109,8 @@ module _ {sub : Inside} {s : List ℕ} {cap at n : ℕ} {t t₁ : List ℕ} {st 
         };
         from = o;
         same = ap (λ (d : State). finish (drop at s) (after [] (d .used) (repeat (patternTurn sub) d (drop (d .used) (drop at s))))) e
-            ∙ ap (λ (x : List ℕ). finish (drop at s) (after [] (st .at - at) (repeat (patternTurn sub) (stateAt (st .at - at) (roleOf (st .role))) x))) (drop-drop (st .at - at) at s ∙ ap (λ (k : ℕ). drop k s) p);
+            ∙ ap (λ (x : List ℕ). finish (drop at s) (after [] (st .at - at) (repeat (patternTurn sub) (stateAt (st .at - at) (roleOf (st .role))) x)))
+            (drop-drop (st .at - at) at s ∙ ap (λ (k : ℕ). drop k s) p);
       }
 
 after-twice : {A : Type 0} (j k : ℕ) (o : Out A) → after [] j (after [] k o) ≡ after [] (j + k) o
@@ -215,10 +218,13 @@ module _ {sub : Inside} {s : List ℕ} {cap at n : ℕ} {t t₁ : List ℕ} {st 
   exit-ends = ends-with (g .holds) refl
 
   pub exit-did : {t₂ : List ℕ} {r : Read} → length s ≤ st .at → Ended s cap n t₁ t₂ st (st .at) r → Did reading cap at n t t₂ r (getPattern sub (drop at s))
-  exit-did l w = let z : st .at - st .at ≡ 0 = omega arith in end-did (no-turn sub s (st .at) (g .state) l ∙ ap (λ (k : ℕ). done (ok (g .state) [] k)) (sym z)) (omega arith) (g .holds) w
+  exit-did l w =
+      let z : st .at - st .at ≡ 0 = omega arith in
+      end-did (no-turn sub s (st .at) (g .state) l ∙ ap (λ (k : ℕ). done (ok (g .state) [] k)) (sym z)) (omega arith) (g .holds) w
 
   -- ---- at a text
-  module _ (l : st .at < length s) (b : startsWith 123 (drop (st .at) s) ≡ false) {t₂ : List ℕ} {w : TextTurn} (h : TextDid s cap t₁ t₂ st (λ d. textTurn d (drop (st .at) s)) w) where
+  module _ (l : st .at < length s) (b : startsWith 123 (drop (st .at) s) ≡ false) {t₂ : List ℕ} {w : TextTurn}
+    (h : TextDid s cap t₁ t₂ st (λ d. textTurn d (drop (st .at) s)) w) where
     turned : Turned s cap at n t t₂ st (g .state) (textTurn (g .state) (drop (st .at) s)) w
     turned = h .held at n t (g .state) (g .holds)
 
@@ -288,7 +294,9 @@ module _ {sub : Inside} {s : List ℕ} {cap at n : ℕ} {t t₁ : List ℕ} {st 
           let w = step-then (step-then (p₁ .1) (p₁ .0) (inner .wrote)) (omega (arith, p₁ .0)) (p₂ .1) in
           let k : inner .k ≡ e - st .at = omega arith in
           rw es
-          (turn-again law (brace-turn sub s (st .at) (g .state) l b ∙ ap (withPlaceable (g .state)) (inner .is) ∙ with-placeable (g .state) (inner .value) (inner .ms) (inner .k) ∙ ap (again (placedState (g .state) (inner .ms) (inner .k)) []) k)
+          (turn-again law
+          (brace-turn sub s (st .at) (g .state) l b ∙ ap (withPlaceable (g .state)) (inner .is)
+          ∙ with-placeable (g .state) (inner .value) (inner .ms) (inner .k) ∙ ap (again (placedState (g .state) (inner .ms) (inner .k)) []) k)
           (holds-placeable (g .holds) (inner .ms) (forest-low (uses .forest)) w (inner .k) i (omega (arith, p₁ .0, p₂ .0)))
           (record { inside = o .1; spent = omega (arith, o, p₂ .0); short = r .short; holds = r .holds; layout = rw (p₂ .1 .long ∙ o .3) (r .layout) }) (omega (arith, o .0)))
 

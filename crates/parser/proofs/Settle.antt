@@ -115,7 +115,10 @@ settle-next s cap from to common t t′ t″ i g h d f e =
     count = simp (length-map, length-drop, marks-length) (omega arith)
 
     grown : map (settleWord s common) (drop from (marksIn cap (i + 1) t)) ≡ map (settleWord s common) (drop from (marksIn cap i t)) ++ (settleWord s common w ∷ [])
-    grown = rw marks-next (ap (map (settleWord s common)) (drop-append-le from (marksIn cap i t) (w ∷ []) (rw (marks-length cap i t) (omega arith))) ∙ map-append (settleWord s common) (drop from (marksIn cap i t)) (w ∷ []))
+    grown =
+        rw marks-next
+        (ap (map (settleWord s common)) (drop-append-le from (marksIn cap i t) (w ∷ []) (rw (marks-length cap i t) (omega arith)))
+        ∙ map-append (settleWord s common) (drop from (marksIn cap i t)) (w ∷ []))
 
 pub line-word : (s : List ℕ) (common k p : ℕ) → k ≡ 200 → settleWord s common (word k p) ≡ word 12 (p + min (spaces (drop p s)) common)
 unfolding settleWord

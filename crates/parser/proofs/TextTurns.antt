@@ -78,7 +78,10 @@ with-bad d i f k = refl
 
 module _ {s t : List ℕ} {cap : ℕ} {st : Reading} {i : ℕ} (ready : Ready s t cap st i) where
   text-onward : (x : TextSlice) → getTextSlice (drop (st .at + i) s) ≡ ok (sliceOf x) [] (widthOf x) → st .at < st .at + i + x .size + crlfWidth (x .ending)
-  text-onward x e = byCase (startsWith 123 (drop (st .at + i) s)) (λ q. let m = ready .moves q in omega arith) (λ q. let m = text-moves s (st .at + i) (ready .inside) q e in omega arith)
+  text-onward x e =
+      byCase (startsWith 123 (drop (st .at + i) s))
+      (λ q. let m = ready .moves q in omega arith)
+      (λ q. let m = text-moves s (st .at + i) (ready .inside) q e in omega arith)
 
   pub text-next : {t′ : List ℕ} (x : TextSlice) {r : TextRead} {r₂ : Reading} → Sliced (take (length s - (st .at + i)) (drop (st .at + i) s)) r
       → r ≡ Text x → (r₂ ≡ afterText st i x) × Step cap (st .n) t t′ (textWords st i x)
@@ -96,7 +99,8 @@ module _ {s t : List ℕ} {cap : ℕ} {st : Reading} {i : ℕ} (ready : Ready s 
         onward = (m, omega arith, c);
         held = λ at n t₀ d hd. record {
           it = textState d i (sliceOf x) (widthOf x);
-          is = (ap (withText d i) q ∙ with-next d i (sliceOf x) [] (widthOf x) ∙ ap (again (textState d i (sliceOf x) (widthOf x)) []) z, holds-text i x hd (omega arith) (ready .spaced) (w .1));
+          is = (ap (withText d i) q ∙ with-next d i (sliceOf x) [] (widthOf x) ∙ ap (again (textState d i (sliceOf x) (widthOf x)) []) z,
+              holds-text i x hd (omega arith) (ready .spaced) (w .1));
         };
       })
 
@@ -153,7 +157,8 @@ did-as {s} {t} {t′} {cap} {st} {r} {f} {g} h e =
       held = λ at n t₀ d hd. subst (λ (o : Turn State State). Turned s cap at n t₀ t′ st d o r) (e d (line-is d (st .role) (hd .role))) (h .held at n t₀ d hd);
     }
 
-module _ {s t : List ℕ} {cap : ℕ} (st : Reading) (room : Room s t cap (st .at) (st .n) 1) (h : (st .at < length s) × (startsWith 123 (drop (st .at) s) ≡ false)) {v : Bool} (ev : v ≡ startsLine (st .role)) where
+module _ {s t : List ℕ} {cap : ℕ} (st : Reading) (room : Room s t cap (st .at) (st .n) 1)
+  (h : (st .at < length s) × (startsWith 123 (drop (st .at) s) ≡ false)) {v : Bool} (ev : v ≡ startsLine (st .role)) where
   fits : Fits t cap (st .n) 2
   fits = record { fits = omega (arith, room .spent, room .holds, h .0); layout = room .layout }
 
@@ -176,7 +181,9 @@ module _ {s t : List ℕ} {cap : ℕ} (st : Reading) (room : Room s t cap (st .a
 
     line-is-turn : (d : State) → isLineStart (d .role) ≡ startsLine (st .role) → textTurn d (drop (st .at) s) ≡ lineTurn d (a - st .at) (drop a s)
     unfolding textTurn
-    line-is-turn d q = rw (textTurn, q ∙ sym ev ∙ et, indent-is) (ap (lineTurn d (spaces (drop (st .at) s))) (drop-drop (spaces (drop (st .at) s)) (st .at) s ∙ ap (λ (k : ℕ). drop k s) (sym (p .end))))
+    line-is-turn d q =
+        rw (textTurn, q ∙ sym ev ∙ et, indent-is)
+        (ap (lineTurn d (spaces (drop (st .at) s))) (drop-drop (spaces (drop (st .at) s)) (st .at) s ∙ ap (λ (k : ℕ). drop k s) (sym (p .end))))
 
     pub line-end : a ≡ length s → TextDid s cap t t st (λ d. textTurn d (drop (st .at) s)) (End a)
     unfolding lineTurn
