@@ -29,11 +29,11 @@ provisional-append at [] fs = refl
 provisional-append at (e ∷ es) fs = rw (provisional-append at es fs) (sym (append-assoc (provisionalOf at e) (provisional at es) (provisional at fs)))
 
 -- ---- elements that are settled and not trimmed
-abbrev pub settledOf : Option ℕ → Element → List Mark
+abbrev settledOf : Option ℕ → Element → List Mark
 settledOf c (placeable ms) = node Kind.placeable ms
 settledOf c (text a e i l) = textNode Kind.text (dedented c a i l) e
 
-abbrev pub settled : Option ℕ → List Element → List Mark
+abbrev settled : Option ℕ → List Element → List Mark
 settled c [] = []
 settled c (e ∷ es) = settledOf c e ++ settled c es
 
@@ -70,7 +70,7 @@ settle-element s c common at (text a e i true) h l =
 settle-element s c common at (text a e i false) h l = unfold dedented in
     ap₂ (λ (w v : Word). w ∷ v ∷ []) (other-word s common 12 (at + a) (λ q. omega arith)) (other-word s common 112 (at + e) (λ q. omega arith))
 
-pub settle-elements : (s : List ℕ) (c : Option ℕ) (common at : ℕ) (es : List Element) → Common s c common → Sound (drop at s) es
+settle-elements : (s : List ℕ) (c : Option ℕ) (common at : ℕ) (es : List Element) → Common s c common → Sound (drop at s) es
     → map (settleWord s common) (provisional at es) ≡ wordsAt at (settled c es)
 unfolding provisional
 settle-elements s c common at [] h l = unfold wordsAt moveUp in refl
@@ -130,7 +130,7 @@ pub node-words : (at kind : ℕ) (ms : List Mark) → wordsAt at (node kind ms) 
 unfolding node wordsAt moveUp
 node-words at kind ms = ap (λ (l : List Word). word kind 0 ∷ l) (words-append at ms (plain (100 + kind) ∷ []))
 
-pub two-words : (c : Option ℕ) (at : ℕ) (e : Element) (es : List Element) → 2 ≤ length (wordsAt at (settled c (e ∷ es)))
+two-words : (c : Option ℕ) (at : ℕ) (e : Element) (es : List Element) → 2 ≤ length (wordsAt at (settled c (e ∷ es)))
 two-words c at e es = rw (words-length, length-append) (go e)
   where
     go : (e : Element) → 2 ≤ length (settledOf c e) + length (settled c es)
@@ -154,7 +154,7 @@ unfolding elementMarks
 inner-marks x c n (placeable ms) es = refl
 inner-marks x c n (text a e i l) es = unfold textMarks in (rw (eqb·suc-zero n))
 
-pub trim-elements : (s : List ℕ) (c : Option ℕ) (at n : ℕ) (es : List Element) → suc n ≤ length es
+trim-elements : (s : List ℕ) (c : Option ℕ) (at n : ℕ) (es : List Element) → suc n ≤ length es
     → trimWords s (wordsAt at (settled c (take (suc n) es))) ≡ wordsAt at (elementMarks (drop at s) c (suc n) es)
 trim-elements s c at n [] h = absurd (omega arith)
 trim-elements s c at zero (e ∷ es) h = trim-last s c at e es
@@ -166,7 +166,7 @@ trim-elements s c at (suc n) (e ∷ f ∷ es) h =
     ∙ sym (words-append at (settledOf c e) (elementMarks (drop at s) c (suc n) (f ∷ es)))
     ∙ ap (wordsAt at) (sym (inner-marks (drop at s) c n e (f ∷ es)))
 
-pub within-elements : (s : List ℕ) (c : Option ℕ) (at : ℕ) (es : List Element) → at ≤ length s → Sound (drop at s) es → Within s (wordsAt at (settled c es))
+within-elements : (s : List ℕ) (c : Option ℕ) (at : ℕ) (es : List Element) → at ≤ length s → Sound (drop at s) es → Within s (wordsAt at (settled c es))
 within-elements s c at [] h l = unfold Within wordsAt moveUp in tt
 within-elements s c at (placeable ms ∷ []) h l = rw (append-nil, node-words at 13 ms) (within-other s (word 13 0 ∷ wordsAt at ms) 113 0 (λ e. omega arith))
 within-elements s c at (text a e i v ∷ []) h l = unfold Within textNode wordsAt moveUp in
@@ -174,3 +174,23 @@ within-elements s c at (text a e i v ∷ []) h l = unfold Within textNode wordsA
 within-elements s c at (e ∷ f ∷ es) h l =
     rw (words-append at (settledOf c e) (settled c (f ∷ es)))
     (within-append s (wordsAt at (settledOf c e)) (wordsAt at (settled c (f ∷ es))) (two-words c at f es) .0 (within-elements s c at (f ∷ es) h (l .1)))
+
+-- ---- the first k elements of a pattern, settled and trimmed, are the definition's marks; and the last of them lies in the source
+sound-take : (x : List ℕ) (k : ℕ) (es : List Element) → Sound x es → Sound x (take k es)
+sound-take x zero es h = tt
+sound-take x (suc k) [] h = tt
+sound-take x (suc k) (e ∷ es) h = (h .0, sound-take x k es (h .1))
+
+module _ (s : List ℕ) (c : Option ℕ) (common at k : ℕ) (es : List Element) (h : Common s c common) (l : Sound (drop at s) es) where
+  settled-words : map (settleWord s common) (provisional at (take k es)) ≡ wordsAt at (settled c (take k es))
+  settled-words = settle-elements s c common at (take k es) h (sound-take (drop at s) k es l)
+
+  pub kept-marks : k ≤ length es → trimWords s (map (settleWord s common) (provisional at (take k es))) ≡ wordsAt at (elementMarks (drop at s) c k es)
+  kept-marks i = ap (trimWords s) settled-words ∙ go k i
+    where
+      go : (k : ℕ) → k ≤ length es → trimWords s (wordsAt at (settled c (take k es))) ≡ wordsAt at (elementMarks (drop at s) c k es)
+      go zero i = unfold trimWords elementMarks wordsAt moveUp in refl
+      go (suc k) i = trim-elements s c at k es i
+
+  pub kept-within : at ≤ length s → Within s (map (settleWord s common) (provisional at (take k es)))
+  kept-within i = rw settled-words (within-elements s c at (take k es) i (sound-take (drop at s) k es l))

@@ -16,11 +16,11 @@ use Rattle.parser.specs.declared.pattern.Reading.{Reading}
 use Rattle.parser.specs.Tree.{Word, word, wordsAt, marksIn, Step}
 use Rattle.parser.specs.Did.{reading, Did}
 use Rattle.parser.specs.Settle.{settleWord, trimWords, Within}
-use Rattle.parser.specs.Elements.{provisionalOf, provisional, Sound}
+use Rattle.parser.specs.Elements.{provisionalOf, provisional}
 use Rattle.parser.specs.Texts.{Holds, Ends, Ended}
 use Rattle.parser.proofs.Steps.{step-prefix, step-cut, step-then, step-over, step-last}
 use Rattle.parser.proofs.Dids.{words-length, words-none}
-use Rattle.parser.proofs.Elements.{provisional-append, settled, settle-elements, trim-append, trim-length, trim-elements, node-words, within-append, within-elements}
+use Rattle.parser.proofs.Elements.{provisional-append, trim-append, trim-length, node-words, within-append, kept-marks, kept-within}
 
 -- ---- the last two marks of a step are trimmed
 module _ (s : List ℕ) {cap n : ℕ} (m : ℕ) {t t₁ : List ℕ} (u : Word) (ws : List Word) (two : 2 ≤ length ws) (w : Step cap n t t₁ (u ∷ ws)) (em : m + 2 ≡ n + 1 + length ws) where
@@ -68,11 +68,6 @@ kept-two at zero es f = absurd (f (unfold provisional in refl))
 kept-two at (suc k) [] f = absurd (f (unfold provisional in refl))
 kept-two at (suc k) (e ∷ es) f = some-words at e (take k es)
 
-sound-take : (x : List ℕ) (k : ℕ) (es : List Element) → Sound x es → Sound x (take k es)
-sound-take x zero es h = tt
-sound-take x (suc k) [] h = tt
-sound-take x (suc k) (e ∷ es) h = (h .0, sound-take x k es (h .1))
-
 -- what settling and trimming do
 abbrev Settled : List ℕ → ℕ → ℕ → List ℕ → List ℕ → Reading → Type 0
 Settled s cap n t t₁ st = Step cap (n + 1) t t₁ (map (settleWord s (st .«common_indent»)) (drop (n + 1) (marksIn cap (st .«last_non_blank») t)))
@@ -95,19 +90,16 @@ module _ {s : List ℕ} {cap at n : ℕ} {t₀ t : List ℕ} {st : Reading} {d :
 
   -- settled, and with no text trimmed yet
   abbrev now-settled : List Word
-  now-settled = wordsAt at (settled (d .common) (take (d .kept) (d .elements)))
-
-  settled-words : map (settleWord s (st .«common_indent»)) (provisional at (take (d .kept) (d .elements))) ≡ now-settled
-  settled-words = settle-elements s (d .common) (st .«common_indent») at (take (d .kept) (d .elements)) (h .common) (sound-take (drop at s) (d .kept) (d .elements) (h .sound))
+  now-settled = map (settleWord s (st .«common_indent»)) (provisional at (take (d .kept) (d .elements)))
 
   settled-length : length now-settled ≡ length (provisional at (take (d .kept) (d .elements)))
-  settled-length = ap length (sym settled-words) ∙ simp length-map
+  settled-length = simp length-map
 
   module _ {t₁ : List ℕ} (g : Settled s cap n t t₁ st) (some : st .«last_non_blank» ≡ n + 1 → ⊥) where
     settled-step : Step cap n t₀ t₁ (word 11 0 ∷ now-settled)
     settled-step =
         let e = step-last (word 11 0 ∷ []) (provisional at (take (d .kept) (d .elements))) kept-step refl (h .kept) in
-        step-over (word 11 0 ∷ []) (provisional at (take (d .kept) (d .elements))) kept-step refl (rw settled-words at (rw e at g))
+        step-over (word 11 0 ∷ []) (provisional at (take (d .kept) (d .elements))) kept-step refl (rw e at g)
 
     two : 2 ≤ length now-settled
     two = rw settled-length (kept-two at (d .kept) (d .elements) (λ e. some (omega (arith, h .kept))))
@@ -118,7 +110,7 @@ module _ {s : List ℕ} {cap at n : ℕ} {t₀ t : List ℕ} {st : Reading} {d :
     pub trim-within : at ≤ length s → Within s (drop (st .«last_non_blank» - 2) (marksIn cap (st .«last_non_blank» - 2 + 2) t₁))
     trim-within i =
         last-within s (st .«last_non_blank» - 2) (word 11 0) now-settled two settled-step end-of
-        (within-elements s (d .common) at (take (d .kept) (d .elements)) i (sound-take (drop at s) (d .kept) (d .elements) (h .sound)))
+        (kept-within s (d .common) (st .«common_indent») at (d .kept) (d .elements) (h .common) (h .sound) i)
 
     -- the whole pattern
     pattern-did : {t₂ t₃ : List ℕ} {m end : ℕ} (k : ℕ) → d .kept ≡ k → at ≤ end
@@ -140,7 +132,9 @@ module _ {s : List ℕ} {cap at n : ℕ} {t₀ t : List ℕ} {st : Reading} {d :
         finished = unfold finish in (rw (finish, ek, eqb·suc-zero k) (rw ek))
 
         trimmed-is : trimWords s now-settled ≡ wordsAt at marks
-        trimmed-is = rw ek (trim-elements s (d .common) at k (d .elements) (rw (sym ek) (h .few)))
+        trimmed-is =
+            kept-marks s (d .common) (st .«common_indent») at (d .kept) (d .elements) (h .common) (h .sound) (h .few)
+            ∙ ap (λ (j : ℕ). wordsAt at (elementMarks (drop at s) (d .common) j (d .elements))) ek
 
         trimmed-step : Step cap n t₀ t₂ (word 11 0 ∷ wordsAt at marks)
         trimmed-step = rw (sym trimmed-is) (step-trim s (st .«last_non_blank» - 2) (word 11 0) now-settled two settled-step end-of w)
