@@ -1,5 +1,8 @@
 -- What the contracts of the parser say of results and of lent words.
 pub mod Tree
+pub mod Settle
+pub mod Elements
+pub mod Texts
 pub mod Laid
 pub mod ErrorList
 pub mod Place
