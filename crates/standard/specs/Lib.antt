@@ -9,3 +9,5 @@ pub mod Lexical
 pub mod Grammar
 pub mod Blank
 pub mod Same
+pub mod Turns
+pub mod Texts

@@ -1,0 +1,121 @@
+-- Loops of readers and repetitions of parsers, a turn at a time. Where each turn uses a byte, how many turns are allowed does not matter.
+use Prim.Native.Nat.{ℕ, zero, suc, _+_, _≤_, _<_}
+use native.Mathlib.Nat.{not-suc-le-zero}
+use native.Mathlib.Omega.{arith}
+use mathlib.Core.Path.{_≡_, refl, sym, ap, _∙_}
+use mathlib.Core.Bool.{Bool, true, false}
+use mathlib.Core.List.{List, [], _∷_, _++_}
+use lib.ListN.{drop, length, length-drop}
+use lib.Dec.{eqb, eqb·suc-zero}
+use borrow.Author.Tests.{eqb-true, eqb-false, ne-eqb}
+use Rattle.syntax.specs.Marks.{Mark, moveUp}
+use Rattle.syntax.specs.Reader as Reader
+use Rattle.syntax.specs.Reader.{Out, ok, bad, deep, Reader, Turn, again, done, loop, repeat}
+use Rattle.laws.specs.Bytes.{byCase}
+use Rattle.standard.specs.Peg as Peg
+use Rattle.standard.specs.Peg.{Answer, fits, fails, Parser, many, turns, withFirst, sized, ahead, bar}
+
+-- a turn that goes on leaves less
+abbrev pub Shrinks : {S A : Type 0} → List ℕ → Turn S A → Type 0
+Shrinks s (again st ms k) = length (drop k s) < length s
+Shrinks s (done o) = Unit {0}
+
+module _ {S A : Type 0} (t : S → List ℕ → Turn S A) (h : (st : S) (s : List ℕ) → Shrinks s (t st s)) where
+  loop-any : (n m : ℕ) (st : S) (s : List ℕ) → length s < n → length s < m → loop n t st s ≡ loop m t st s
+  unfolding loop
+  loop-any zero m st s l k = absurd (not-suc-le-zero l)
+  loop-any (suc n) zero st s l k = absurd (not-suc-le-zero k)
+  loop-any (suc n) (suc m) st s l k = go (t st s) (h st s) (λ st′ r p q. loop-any n m st′ r p q)
+    where
+      go : (w : Turn S A) → Shrinks s w → ((st′ : S) (r : List ℕ) → length r < n → length r < m → loop n t st′ r ≡ loop m t st′ r)
+          → _≡_ {A = Out A} (elim w [ again st′ ms k ↦ Reader.after ms k (loop n t st′ (drop k s)) | done o ↦ o ]) (elim w [ again st′ ms k ↦ Reader.after ms k (loop m t st′ (drop k s)) | done o ↦ o ])
+      go (again st′ ms j) z f = ap (Reader.after ms j) (f st′ (drop j s) (omega arith) (omega arith))
+      go (done o) z f = refl
+
+  pub repeat-again : (st : S) (s : List ℕ) (st′ : S) (ms : List Mark) (k : ℕ) → t st s ≡ again st′ ms k → repeat t st s ≡ Reader.after ms k (repeat t st′ (drop k s))
+  unfolding repeat loop
+  repeat-again st s st′ ms k e = rw (e, loop) (ap (Reader.after ms k) (loop-any (length s) (suc (length (drop k s))) st′ (drop k s) (rw e at (h st s)) (omega arith)))
+
+pub repeat-done : {S A : Type 0} (t : S → List ℕ → Turn S A) (st : S) (s : List ℕ) (o : Out A) → t st s ≡ done o → repeat t st s ≡ o
+unfolding repeat loop
+repeat-done t st s o e = rw (e, loop) refl
+
+-- nothing is used at the end of input
+abbrev pub AtEnd : {A : Type 0} → Answer A → Type 0
+AtEnd (fits a ms k) = k ≡ 0
+AtEnd fails = Unit {0}
+
+-- repetitions
+module _ {A : Type 0} (p : Parser A) (e : AtEnd (p [])) where
+  shorter : (k : ℕ) (s : List ℕ) (n : ℕ) → eqb k 0 ≡ false → length s ≤ suc n → length (drop k s) ≤ n
+  shorter zero s n q l = absurd (eqb-false 0 0 q refl)
+  shorter (suc k) s n q l = omega (arith, length-drop (suc k) s)
+
+  turns-nil : (n : ℕ) → turns n p [] ≡ fits [] [] 0
+  unfolding turns
+  turns-nil zero = refl
+  turns-nil (suc n) = go (p []) e
+    where
+      go : (o : Answer A) → AtEnd o
+          → _≡_ {A = Answer (List A)} (elim o [ fits a ms k ↦ elim (eqb k 0) [ true ↦ fits [] [] 0 | false ↦ withFirst a (Peg.after ms k (turns n p (drop k []))) ] | fails ↦ fits [] [] 0 ]) (fits [] [] 0)
+      go (fits a ms k) q = rw q refl
+      go fails q = refl
+
+  turns-short : (n : ℕ) (s : List ℕ) → length s ≤ 0 → turns n p s ≡ fits [] [] 0
+  turns-short n [] l = turns-nil n
+  turns-short n (b ∷ bs) l = absurd (not-suc-le-zero l)
+
+  turns-any : (n m : ℕ) (s : List ℕ) → length s ≤ n → length s ≤ m → turns n p s ≡ turns m p s
+  unfolding turns
+  turns-any zero m s l k = sym (turns-short m s l)
+  turns-any (suc n) zero s l k = turns-short (suc n) s k
+  turns-any (suc n) (suc m) s l k = go (p s) (λ r a c. turns-any n m r a c)
+    where
+      go : (o : Answer A) → ((r : List ℕ) → length r ≤ n → length r ≤ m → turns n p r ≡ turns m p r)
+          → _≡_ {A = Answer (List A)} (elim o [ fits a ms k ↦ elim (eqb k 0) [ true ↦ fits [] [] 0 | false ↦ withFirst a (Peg.after ms k (turns n p (drop k s))) ] | fails ↦ fits [] [] 0 ])
+              (elim o [ fits a ms k ↦ elim (eqb k 0) [ true ↦ fits [] [] 0 | false ↦ withFirst a (Peg.after ms k (turns m p (drop k s))) ] | fails ↦ fits [] [] 0 ])
+      go (fits a ms j) f = byCase (eqb j 0) (λ q. rw q refl) (λ q. rw q (ap (λ z. withFirst a (Peg.after ms j z)) (f (drop j s) (shorter j s n q l) (shorter j s m q k))))
+      go fails f = refl
+
+  -- one turn, and the others
+  pub many-again : (s : List ℕ) (a : A) (ms : List Mark) (k : ℕ) → p s ≡ fits a ms (suc k) → many p s ≡ withFirst a (Peg.after ms (suc k) (many p (drop (suc k) s)))
+  unfolding many turns
+  many-again [] a ms k q = let z : suc k ≡ 0 = rw q at e in absurd (omega arith)
+  many-again (b ∷ bs) a ms k q = rw (q, turns) (rw eqb·suc-zero (ap (λ z. withFirst a (Peg.after ms (suc k) z)) (turns-any (length bs) (length (drop k bs)) (drop k bs) (omega (arith, length-drop k bs)) (omega arith))))
+
+  -- no turn: none fits, or it uses nothing
+  pub many-none : (s : List ℕ) → p s ≡ fails → many p s ≡ fits [] [] 0
+  unfolding many turns
+  many-none [] q = refl
+  many-none (b ∷ bs) q = rw (q, turns) refl
+
+  pub many-still : (s : List ℕ) (a : A) (ms : List Mark) → p s ≡ fits a ms 0 → many p s ≡ fits [] [] 0
+  unfolding many turns
+  many-still [] a ms q = refl
+  many-still (b ∷ bs) a ms q = rw (q, turns) refl
+
+-- further steps
+module _ {A : Type 0} (p : Parser A) (s : List ℕ) where
+  pub sized-fits : {a : A} {ms : List Mark} {k : ℕ} → p s ≡ fits a ms k → sized p s ≡ fits k ms k
+  unfolding sized
+  sized-fits e = rw (e, sized) refl
+
+  pub sized-fails : p s ≡ fails → sized p s ≡ fails
+  unfolding sized
+  sized-fails e = rw (e, sized) refl
+
+  pub ahead-fits : {a : A} {ms : List Mark} {k : ℕ} → p s ≡ fits a ms k → ahead p s ≡ fits tt [] 0
+  unfolding ahead
+  ahead-fits e = rw (e, ahead) refl
+
+  pub ahead-fails : p s ≡ fails → ahead p s ≡ fails
+  unfolding ahead
+  ahead-fails e = rw (e, ahead) refl
+
+  pub bar-fits : {a : A} {ms : List Mark} {k : ℕ} → p s ≡ fits a ms k → bar p s ≡ fails
+  unfolding bar
+  bar-fits e = rw (e, bar) refl
+
+  pub bar-fails : p s ≡ fails → bar p s ≡ fits tt [] 0
+  unfolding bar
+  bar-fails e = rw (e, bar) refl
