@@ -11,3 +11,4 @@ pub mod Blank
 pub mod Same
 pub mod Turns
 pub mod Texts
+pub mod Blocks

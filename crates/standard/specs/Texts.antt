@@ -100,7 +100,7 @@ many-text (b ∷ bs) = go (sign-of (b ∷ bs)) (many-text bs)
     go (cr-lf s) ih = many-none text-char tt (13 ∷ 10 ∷ s) refl
     go (opens s) ih = many-none text-char tt (123 ∷ s) refl
     go (closes s) ih = many-none text-char tt (125 ∷ s) refl
-    go (plain b s q r u v) ih = many-again text-char tt (b ∷ s) tt [] 0 (text-char-plain b s q r u v) ∙ ap (λ o. withFirst tt (Peg.after [] 1 o)) ih ∙ rw (run-plain b s q r u v) (ap (fits (tt ∷ units (textRun s)) []) (omega arith))
+    go (plain b s q r u v) ih = many-again text-char tt (b ∷ s) tt [] 1 (text-char-plain b s q r u v) (omega arith) ∙ ap (λ o. withFirst tt (Peg.after [] 1 o)) ih ∙ rw (run-plain b s q r u v) (ap (fits (tt ∷ units (textRun s)) []) (omega arith))
 
 -- inline-text, by how many text-chars there are
 pub inline-text-some : (s : List ℕ) (m : ℕ) → textRun s ≡ suc m → inline-text s ≡ fits (suc m) [] (suc m)

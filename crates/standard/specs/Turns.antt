@@ -1,10 +1,10 @@
 -- Loops of readers and repetitions of parsers, a turn at a time. Where each turn uses a byte, how many turns are allowed does not matter.
 use Prim.Native.Nat.{ℕ, zero, suc, _+_, _≤_, _<_}
-use native.Mathlib.Nat.{not-suc-le-zero}
+use native.Mathlib.Nat.{not-suc-le-zero, add-zero}
 use native.Mathlib.Omega.{arith}
-use mathlib.Core.Path.{_≡_, refl, sym, ap, _∙_}
+use mathlib.Core.Path.{_≡_, refl, sym, ap, ap₂, _∙_}
 use mathlib.Core.Bool.{Bool, true, false}
-use mathlib.Core.List.{List, [], _∷_, _++_}
+use mathlib.Core.List.{List, [], _∷_, _++_, append-nil}
 use lib.ListN.{drop, length, length-drop}
 use lib.Dec.{eqb, eqb·suc-zero}
 use borrow.Author.Tests.{eqb-true, eqb-false, ne-eqb}
@@ -13,7 +13,8 @@ use Rattle.syntax.specs.Reader as Reader
 use Rattle.syntax.specs.Reader.{Out, ok, bad, deep, Reader, Turn, again, done, loop, repeat}
 use Rattle.laws.specs.Bytes.{byCase}
 use Rattle.standard.specs.Peg as Peg
-use Rattle.standard.specs.Peg.{Answer, fits, fails, Parser, many, turns, withFirst, sized, ahead, bar}
+use Rattle.standard.specs.Peg.{Answer, fits, fails, Parser, many, some, turns, withFirst, pure, _>>=_, sized, ahead, bar}
+use Rattle.standard.specs.Steps.{bind-fits, bind-fails, some-fits}
 
 -- a turn that goes on leaves less
 abbrev pub Shrinks : {S A : Type 0} → List ℕ → Turn S A → Type 0
@@ -78,10 +79,11 @@ module _ {A : Type 0} (p : Parser A) (e : AtEnd (p [])) where
       go fails f = refl
 
   -- one turn, and the others
-  pub many-again : (s : List ℕ) (a : A) (ms : List Mark) (k : ℕ) → p s ≡ fits a ms (suc k) → many p s ≡ withFirst a (Peg.after ms (suc k) (many p (drop (suc k) s)))
+  pub many-again : (s : List ℕ) (a : A) (ms : List Mark) (k : ℕ) → p s ≡ fits a ms k → 0 < k → many p s ≡ withFirst a (Peg.after ms k (many p (drop k s)))
   unfolding many turns
-  many-again [] a ms k q = let z : suc k ≡ 0 = rw q at e in absurd (omega arith)
-  many-again (b ∷ bs) a ms k q = rw (q, turns) (rw eqb·suc-zero (ap (λ z. withFirst a (Peg.after ms (suc k) z)) (turns-any (length bs) (length (drop k bs)) (drop k bs) (omega (arith, length-drop k bs)) (omega arith))))
+  many-again s a ms zero q h = absurd (not-suc-le-zero h)
+  many-again [] a ms (suc k) q h = let z : suc k ≡ 0 = rw q at e in absurd (omega arith)
+  many-again (b ∷ bs) a ms (suc k) q h = rw (q, turns) (rw eqb·suc-zero (ap (λ z. withFirst a (Peg.after ms (suc k) z)) (turns-any (length bs) (length (drop k bs)) (drop k bs) (omega (arith, length-drop k bs)) (omega arith))))
 
   -- no turn: none fits, or it uses nothing
   pub many-none : (s : List ℕ) → p s ≡ fails → many p s ≡ fits [] [] 0
@@ -93,6 +95,16 @@ module _ {A : Type 0} (p : Parser A) (e : AtEnd (p [])) where
   unfolding many turns
   many-still [] a ms q = refl
   many-still (b ∷ bs) a ms q = rw (q, turns) refl
+
+  first-many : (a : A) (ms : List Mark) (k : ℕ) (r : List ℕ) (o : Answer (List A)) → many p r ≡ o → Peg.after ms k ((many p >>= λ more. pure (a ∷ more)) r) ≡ withFirst a (Peg.after ms k (many p r))
+  unfolding withFirst pure Peg.after moveUp
+  first-many a ms k r (fits more ns j) f = rw f (ap (Peg.after ms k) (bind-fits (many p) (λ more. pure (a ∷ more)) r f ∙ ap₂ (λ x n. fits (a ∷ more) x n) (append-nil ns) (add-zero j)))
+  first-many a ms k r fails f = rw f (ap (Peg.after ms k) (bind-fails (many p) (λ more. pure (a ∷ more)) r f))
+
+  -- p+ is p* where a turn uses something
+  pub some-many : (s : List ℕ) (a : A) (ms : List Mark) (k : ℕ) → p s ≡ fits a ms k → 0 < k → some p s ≡ many p s
+  unfolding some
+  some-many s a ms k q h = bind-fits p (λ x. many p >>= λ more. pure (x ∷ more)) s q ∙ first-many a ms k (drop k s) (many p (drop k s)) refl ∙ sym (many-again s a ms k q h)
 
 -- further steps
 module _ {A : Type 0} (p : Parser A) (s : List ℕ) where
