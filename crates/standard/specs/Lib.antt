@@ -12,3 +12,4 @@ pub mod Same
 pub mod Turns
 pub mod Texts
 pub mod Blocks
+pub mod Dedent
