@@ -92,11 +92,11 @@ line-fits : (s : List ℕ) → lineEnds (drop (spaces s) s) ≡ true → blank-l
 unfolding blank-line Peg.after pure moveUp
 line-fits s h = bind-fits (opt 0 blank-inline) (λ n. line-end >>= λ e. pure (record { spaces = n; ending = e })) s (opt-inline s) ∙ ap (Peg.after [] (spaces s)) (bind-fits line-end (λ e. pure (record { spaces = spaces s; ending = e })) (drop (spaces s) s) (line-end-is (drop (spaces s) s) h)) ∙ ap (fits (record { spaces = spaces s; ending = eol (drop (spaces s) s) }) []) (ap (λ k. spaces s + k) (add-zero (eol (drop (spaces s) s))))
 
-line-fails : (s : List ℕ) → lineEnds (drop (spaces s) s) ≡ false → blank-line s ≡ fails
+pub line-fails : (s : List ℕ) → lineEnds (drop (spaces s) s) ≡ false → blank-line s ≡ fails
 unfolding blank-line Peg.after
 line-fails s h = bind-fits (opt 0 blank-inline) (λ n. line-end >>= λ e. pure (record { spaces = n; ending = e })) s (opt-inline s) ∙ ap (Peg.after [] (spaces s)) (bind-fails line-end (λ e. pure (record { spaces = spaces s; ending = e })) (drop (spaces s) s) (no-line-end (drop (spaces s) s) h))
 
-line-at-end : AtEnd (blank-line [])
+pub line-at-end : AtEnd (blank-line [])
 unfolding spaces run eol lineEnds
 line-at-end = rw (line-fits [] refl) refl
 

@@ -13,3 +13,4 @@ pub mod Turns
 pub mod Texts
 pub mod Blocks
 pub mod Dedent
+pub mod Elements
