@@ -11,15 +11,15 @@ use lib.Dec.{eqb, ltb, eqb·suc-zero}
 use borrow.Author.Tests.{eqb-true, eqb-false}
 use Rattle.syntax.specs.Bytes.{startsWith, starts, spaces, eol, run}
 use Rattle.syntax.specs.Marks.{Mark, moveUp}
-use Rattle.syntax.specs.Pattern.{goesOn, isContinuation}
+use Rattle.syntax.specs.Pattern.{goesOn, isContinuation, isTextByte}
 use Rattle.laws.specs.Bytes.{byCase, clash}
 use Rattle.standard.specs.Dialect as Dialect
 use Rattle.standard.specs.Dialect.{rust}
 use Rattle.standard.specs.Peg as Peg
-use Rattle.standard.specs.Peg.{Answer, fits, fails, Parser, many, some, withFirst, pure, opt, _>>=_, _>>_, _/_, ahead, bar, void, given, sized, byte, one, _but_}
+use Rattle.standard.specs.Peg.{Answer, fits, fails, Parser, many, some, withFirst, pure, opt, _>>=_, _>>_, _/_, ahead, bar, void, given, sized, byte, one, eof, _but_}
 use Rattle.standard.specs.Steps.{bind-fits, bind-fails, then-fits, then-fails, first, second, some-fails, void-fits, byte-fits, byte-fails, opt-fits, opt-fails, after-fails}
 use Rattle.standard.specs.Abstract.{Line, Raw, text, lines, indent, brace-indent, placeable}
-use Rattle.standard.specs.Lexical.{line-end, blank-inline, blank-inline?, blank-line, blank-block, text-char, indented-char, inline-text, indented-text, cr-text, block-brace}
+use Rattle.standard.specs.Lexical.{line-end, blank-inline, blank-inline?, blank-line, blank-block, any-char, special-text-char, text-char, indented-char, inline-text, indented-text, cr-text, block-brace}
 use Rattle.standard.specs.Grammar as Grammar
 use Rattle.standard.specs.Grammar.{Inside, rawPlaceable, flat, block-text, raw-placeable, block-placeable, PatternElement}
 use Rattle.standard.specs.Blank.{lineEnds, line-end-is, no-line-end, opt-inline, blank-inline?-is}
@@ -121,6 +121,71 @@ indented-fails b bs c e = byCase (eqb b 46) (λ q. rw (indented-char, _but_, bar
     (λ r. byCase (eqb b 91) (λ u. rw (indented-char, _but_, bar, byte, one, starts, q, r, u) refl)
     (λ u. clash {v = true} refl (rw (isContinuation, q, e, u, r) at c))))
 
+pub opt-text : (s : List ℕ) → opt 0 inline-text s ≡ fits (textRun s) [] (textRun s)
+opt-text s = go (textRun s) refl
+  where
+    go : (m : ℕ) → textRun s ≡ m → opt 0 inline-text s ≡ fits (textRun s) [] (textRun s)
+    go zero e = opt-fails 0 inline-text s (inline-text-none s e) ∙ ap (λ z. fits z [] z) (sym e)
+    go (suc m) e = opt-fits 0 inline-text s (inline-text-some s m e) ∙ ap (λ z. fits z [] z) (sym e)
+
+-- a first character, and text
+text-behind : (p : Parser (Unit {0})) (b : ℕ) (bs : List ℕ) → p (b ∷ bs) ≡ fits tt [] 1 → sized (p >> opt 0 inline-text) (b ∷ bs) ≡ fits (suc (textRun bs)) [] (suc (textRun bs))
+unfolding Peg.after moveUp
+text-behind p b bs e = sized-fits (p >> opt 0 inline-text) (b ∷ bs) (then-fits p (opt 0 inline-text) (b ∷ bs) e ∙ ap (Peg.after [] 1) (opt-text bs) ∙ ap (fits (textRun bs) []) (omega arith))
+
+cr-alone : (b : ℕ) (bs : List ℕ) → eqb b 13 ≡ true → startsWith 10 bs ≡ false → (byte 13 >> bar (byte 10)) (b ∷ bs) ≡ fits tt [] 1
+unfolding Peg.after moveUp startsWith
+cr-alone b bs q r = then-fits (byte 13) (bar (byte 10)) (b ∷ bs) (byte-fits 13 (b ∷ bs) q) ∙ ap (Peg.after [] 1) (bar-fails (byte 10) bs (byte-fails 10 bs r))
+
+-- a line that starts with spaces starts with no CR
+spaced : (s : List ℕ) (n : ℕ) → spaces s ≡ suc n → startsWith 13 s ≡ false
+unfolding spaces run startsWith
+spaced [] n e = refl
+spaced (b ∷ bs) n e = byCase (eqb b 32) (λ q. rw (eqb-true b 32 q) refl) (λ q. absurd (omega (arith, rw (q, run) at e)))
+
+-- a line goes on behind its spaces with a byte that ends no line
+cr-goes-on : (b : ℕ) (bs : List ℕ) → eol (b ∷ bs) ≡ 0 → eqb b 13 ≡ true → startsWith 10 bs ≡ false
+unfolding eol
+cr-goes-on b bs e q = let f : eol (13 ∷ bs) ≡ 0 = subst (λ x. eol (x ∷ bs) ≡ 0) (eqb-true b 13 q) e in byCase (startsWith 10 bs) (λ r. absurd (omega (arith, rw (eol, r) at f))) (λ r. r)
+
+no-feed : (b : ℕ) (bs : List ℕ) → eol (b ∷ bs) ≡ 0 → eqb b 10 ≡ false
+unfolding eol
+no-feed b bs e = byCase (eqb b 10) (λ q. absurd (omega (arith, rw (q, eol) at e))) (λ q. q)
+
+no-cr-feed : (b : ℕ) (bs : List ℕ) → eol (b ∷ bs) ≡ 0 → (eqb b 13 && startsWith 10 bs) ≡ false
+no-cr-feed b bs e = byCase (eqb b 13) (λ q. rw (cr-goes-on b bs e q) (rw q refl)) (λ q. rw q refl)
+
+cr-plain : (b : ℕ) → eqb b 13 ≡ true → (eqb b 123 ≡ false) × (eqb b 125 ≡ false)
+cr-plain b q = rw (eqb-true b 13 q) (refl, refl)
+
+continues : (b : ℕ) → isContinuation b ≡ true → eqb b 125 ≡ false
+unfolding isContinuation
+continues b c = byCase (eqb b 125) (λ q. byCase (eqb b 46) (λ r. clash {v = false} (rw (isContinuation, r) at c) refl) (λ r. clash {v = false} (rw (isContinuation, r, q) at c) refl)) (λ q. q)
+
+pub goesOn-suc : (n b : ℕ) → goesOn (suc n) b ≡ isContinuation b
+unfolding goesOn
+goesOn-suc n b = rw (goesOn, eqb·suc-zero) refl
+
+no-text-char : (s : List ℕ) → textRun s ≡ 0 → text-char s ≡ fails
+unfolding text-char any-char special-text-char _but_ bar _>>_ Peg.next Peg.after _/_ byte one starts line-end sized eof moveUp
+no-text-char s e = go (sign-of s) e
+  where
+    go : {s : List ℕ} → Sign s → textRun s ≡ 0 → text-char s ≡ fails
+    go end e = refl
+    go (lf s) e = refl
+    go (cr-lf s) e = refl
+    go (opens s) e = refl
+    go (closes s) e = refl
+    go (plain b s q r u v) e = absurd (omega (arith, run-plain b s q r u v))
+
+brace-text : (b : ℕ) (bs : List ℕ) → eqb b 123 ≡ true → textRun (b ∷ bs) ≡ 0
+unfolding textRun isTextAt isTextByte
+brace-text b bs q = rw (eqb-true b 123 q) refl
+
+close-text : (b : ℕ) (bs : List ℕ) → eqb b 125 ≡ true → textRun (b ∷ bs) ≡ 0
+unfolding textRun isTextAt isTextByte
+close-text b bs q = rw (eqb-true b 125 q) refl
+
 -- no blank-block stands where a line goes on
 block-fails : (s : List ℕ) → lineEnds (drop (spaces s) s) ≡ false → blank-block s ≡ fails
 unfolding blank-block
@@ -193,3 +258,89 @@ module _ (sub : Inside) (no-brace : (s : List ℕ) → startsWith 123 s ≡ fals
     braced-is : block-placeable rust sub s ≡ Peg.after [] u (braced (drop u s))
     unfolding block-placeable braced
     braced-is = bind-fits blank-block _ s blanks
+
+    -- no text on the line, or one behind spaces, or one that starts with a CR
+    indented-fits-is : (n b : ℕ) (bs : List ℕ) → spaces (drop u s) ≡ suc n → drop (suc n) (drop u s) ≡ b ∷ bs → indented-char (b ∷ bs) ≡ fits tt [] 1
+        → indented (drop u s) ≡ fits (lines ls ∷ indent (suc n) ∷ text (suc (textRun bs)) ∷ []) [] (suc n + suc (textRun bs))
+    unfolding indented Peg.after pure moveUp
+    indented-fits-is n b bs e d h = bind-fits blank-inline _ (drop u s) (inline-some (drop u s) n e)
+        ∙ rw (d, bind-fits (sized (indented-char >> opt 0 inline-text)) (λ m. pure (lines ls ∷ indent (suc n) ∷ text m ∷ [])) (b ∷ bs) (text-behind indented-char b bs h)) (ap (fits (lines ls ∷ indent (suc n) ∷ text (suc (textRun bs)) ∷ []) []) (omega arith))
+
+    indented-no : spaces (drop u s) ≡ 0 → indented (drop u s) ≡ fails
+    unfolding indented
+    indented-no e = bind-fails blank-inline _ (drop u s) (inline-none (drop u s) e)
+
+    indented-not : (n b : ℕ) (bs : List ℕ) → spaces (drop u s) ≡ suc n → drop (suc n) (drop u s) ≡ b ∷ bs → indented-char (b ∷ bs) ≡ fails → indented (drop u s) ≡ fails
+    unfolding indented Peg.after
+    indented-not n b bs e d h = bind-fits blank-inline _ (drop u s) (inline-some (drop u s) n e)
+        ∙ rw (d, bind-fails (sized (indented-char >> opt 0 inline-text)) (λ m. pure (lines ls ∷ indent (suc n) ∷ text m ∷ [])) (b ∷ bs) (sized-fails (indented-char >> opt 0 inline-text) (b ∷ bs) (then-fails indented-char (opt 0 inline-text) (b ∷ bs) h))) refl
+
+    carried-fits-is : (b : ℕ) (bs : List ℕ) → drop u s ≡ b ∷ bs → eqb b 13 ≡ true → startsWith 10 bs ≡ false → carried (drop u s) ≡ fits (lines ls ∷ indent 0 ∷ text (suc (textRun bs)) ∷ []) [] (suc (textRun bs))
+    unfolding carried Peg.after pure moveUp
+    carried-fits-is b bs d q r = rw (d, bind-fits (sized (byte 13 >> bar (byte 10) >> opt 0 inline-text)) (λ m. pure (lines ls ∷ indent 0 ∷ text m ∷ [])) (b ∷ bs) (text-behind (byte 13 >> bar (byte 10)) b bs (cr-alone b bs q r))) (ap (fits (lines ls ∷ indent 0 ∷ text (suc (textRun bs)) ∷ []) []) (add-zero (suc (textRun bs))))
+
+    carried-not : startsWith 13 (drop u s) ≡ false → carried (drop u s) ≡ fails
+    unfolding carried
+    carried-not q = bind-fails (sized (byte 13 >> bar (byte 10) >> opt 0 inline-text)) _ (drop u s) (sized-fails (byte 13 >> bar (byte 10) >> opt 0 inline-text) (drop u s)
+        (then-fails (byte 13 >> bar (byte 10)) (opt 0 inline-text) (drop u s) (then-fails (byte 13) (bar (byte 10)) (drop u s) (byte-fails 13 (drop u s) q))))
+
+    -- what the element is
+    module _ (no-text : textRun s ≡ 0) (no-open : startsWith 123 s ≡ false) where
+      by-indent : {x : List Raw} {k : ℕ} → indented (drop u s) ≡ fits x [] k → PatternElement rust sub s ≡ fits x [] (u + k)
+      unfolding block-text Peg.after moveUp given
+      by-indent {x} {k} e = element-else s no-text ∙ first (block-text rust) (one-raw / block-placeable rust sub) s (first indented-text (given (rust .cr-continues) cr-text) s (indented-is ∙ ap (Peg.after [] u) e))
+
+      by-cr : {x : List Raw} {k : ℕ} → indented (drop u s) ≡ fails → carried (drop u s) ≡ fits x [] k → PatternElement rust sub s ≡ fits x [] (u + k)
+      unfolding block-text Peg.after moveUp given rust Dialect.all
+      by-cr {x} {k} e f = element-else s no-text ∙ first (block-text rust) (one-raw / block-placeable rust sub) s (second indented-text cr-text s (indented-is ∙ ap (Peg.after [] u) e) ∙ carried-is ∙ ap (Peg.after [] u) f)
+
+      by-brace : indented (drop u s) ≡ fails → carried (drop u s) ≡ fails → PatternElement rust sub s ≡ Peg.after [] u (braced (drop u s))
+      unfolding block-text Peg.after given rust Dialect.all
+      by-brace e f = element-else s no-text ∙ second (block-text rust) (one-raw / block-placeable rust sub) s (second indented-text cr-text s (indented-is ∙ ap (Peg.after [] u) e) ∙ carried-is ∙ ap (Peg.after [] u) f)
+          ∙ second one-raw (block-placeable rust sub) s (raw-none s (no-brace s no-open)) ∙ braced-is
+
+      braced-fits-is : {v : Unit {0}} {ms : List Mark} {k : ℕ} → sub .inline-placeable (drop (spaces (drop u s)) (drop u s)) ≡ fits v ms k
+          → braced (drop u s) ≡ fits (lines ls ∷ brace-indent (spaces (drop u s)) ∷ placeable ms k ∷ []) [] (spaces (drop u s) + k)
+      unfolding braced Peg.after pure moveUp
+      braced-fits-is {v} {ms} {k} e = bind-fits (opt 0 blank-inline) _ (drop u s) (opt-inline (drop u s)) ∙ ap (Peg.after [] (spaces (drop u s))) (bind-fits (raw-placeable rust sub) (λ r. pure (lines ls ∷ brace-indent (spaces (drop u s)) ∷ r ∷ [])) (drop (spaces (drop u s)) (drop u s)) (raw-fits (drop (spaces (drop u s)) (drop u s)) e))
+          ∙ ap (fits (lines ls ∷ brace-indent (spaces (drop u s)) ∷ placeable ms k ∷ []) []) (ap (λ z. spaces (drop u s) + z) (add-zero k))
+
+      braced-not : sub .inline-placeable (drop (spaces (drop u s)) (drop u s)) ≡ fails → braced (drop u s) ≡ fails
+      unfolding braced Peg.after
+      braced-not e = bind-fits (opt 0 blank-inline) _ (drop u s) (opt-inline (drop u s)) ∙ ap (Peg.after [] (spaces (drop u s))) (bind-fails (raw-placeable rust sub) (λ r. pure (lines ls ∷ brace-indent (spaces (drop u s)) ∷ r ∷ [])) (drop (spaces (drop u s)) (drop u s)) (raw-fails (drop (spaces (drop u s)) (drop u s)) e))
+
+      -- the element is the one of the line behind the blank-block
+      pub element-line : (b : ℕ) (bs : List ℕ) → drop (spaces (drop u s)) (drop u s) ≡ b ∷ bs → eol (b ∷ bs) ≡ 0 → PatternElement rust sub s ≡ onward (λ rs. lines ls ∷ rs) u (onLine sub (spaces (drop u s)) (b ∷ bs))
+      unfolding onward onLine goesOn startsWith braceLine Peg.after moveUp
+      element-line b bs d e = byCase (eqb b 123) (λ q. braces q (sub .inline-placeable (b ∷ bs)) refl)
+          (λ q. byCase (goesOn (spaces (drop u s)) b) (λ g. on q (spaces (drop u s)) refl g) (λ g. off q (spaces (drop u s)) refl g ∙ rw (onLine, q, g) refl))
+        where
+          not-indented : indented-char (b ∷ bs) ≡ fails → indented (drop u s) ≡ fails
+          not-indented h = go (spaces (drop u s)) refl
+            where
+              go : (n : ℕ) → spaces (drop u s) ≡ n → indented (drop u s) ≡ fails
+              go zero z = indented-no z
+              go (suc n) z = indented-not n b bs z (rw z at d) h
+
+          not-carried : eqb b 13 ≡ false → carried (drop u s) ≡ fails
+          not-carried h = go (spaces (drop u s)) refl
+            where
+              go : (n : ℕ) → spaces (drop u s) ≡ n → carried (drop u s) ≡ fails
+              go zero z = let y : drop u s ≡ b ∷ bs = rw z at d in carried-not (rw (y, startsWith) h)
+              go (suc n) z = carried-not (spaced (drop u s) n z)
+
+          braces : eqb b 123 ≡ true → (o : Answer (Unit {0})) → sub .inline-placeable (b ∷ bs) ≡ o → PatternElement rust sub s ≡ onward (λ rs. lines ls ∷ rs) u (onLine sub (spaces (drop u s)) (b ∷ bs))
+          braces q (fits v ms k) h = by-brace (not-indented (indented-no-text b bs (no-text-char (b ∷ bs) (brace-text b bs q)))) (not-carried (rw (eqb-true b 123 q) refl)) ∙ ap (Peg.after [] u) (braced-fits-is {v = v} {ms = ms} {k = k} (rw d h)) ∙ rw (onLine, q, h) refl
+          braces q fails h = by-brace (not-indented (indented-no-text b bs (no-text-char (b ∷ bs) (brace-text b bs q)))) (not-carried (rw (eqb-true b 123 q) refl)) ∙ ap (Peg.after [] u) (braced-not (rw d h)) ∙ rw (onLine, q, h) refl
+
+          on : eqb b 123 ≡ false → (n : ℕ) → spaces (drop u s) ≡ n → goesOn n b ≡ true → PatternElement rust sub s ≡ onward (λ rs. lines ls ∷ rs) u (onLine sub n (b ∷ bs))
+          on q zero z g =
+              let c : eqb b 13 ≡ true = byCase (eqb b 13) (λ c. c) (λ c. clash {v = false} (rw (no-feed b bs e, c) at g) refl) in
+              by-cr (indented-no z) (carried-fits-is b bs (rw z at d) c (cr-goes-on b bs e c)) ∙ rw (onLine, q, c, run-plain b bs (no-feed b bs e) q (cr-plain b c .1) (no-cr-feed b bs e)) (ap (fits (lines ls ∷ indent 0 ∷ text (suc (textRun bs)) ∷ []) []) (omega arith))
+          on q (suc n) z g =
+              let c : isContinuation b ≡ true = sym (goesOn-suc n b) ∙ g in
+              by-indent (indented-fits-is n b bs z (rw z at d) (indented-fits b bs c (text-char-plain b bs (no-feed b bs e) q (continues b c) (no-cr-feed b bs e)))) ∙ rw (onLine, q, g, run-plain b bs (no-feed b bs e) q (continues b c) (no-cr-feed b bs e)) refl
+
+          off : eqb b 123 ≡ false → (n : ℕ) → spaces (drop u s) ≡ n → goesOn n b ≡ false → PatternElement rust sub s ≡ fails
+          off q zero z g = by-brace (indented-no z) (not-carried (byCase (eqb b 13) (λ c. clash {v = true} refl (rw c at g)) (λ c. c))) ∙ ap (Peg.after [] u) (braced-not (rw (d) (no-brace (b ∷ bs) q)))
+          off q (suc n) z g = by-brace (not-indented (byCase (eqb b 125) (λ c. indented-no-text b bs (no-text-char (b ∷ bs) (close-text b bs c))) (λ c. indented-fails b bs (sym (goesOn-suc n b) ∙ g) c))) (carried-not (spaced (drop u s) n z)) ∙ ap (Peg.after [] u) (braced-not (rw d (no-brace (b ∷ bs) q)))
