@@ -76,6 +76,19 @@ module _ (sub : Inside) where
   unfoldable pub lineTail : List ℕ → Answer (List Raw)
   lineTail s = lineBy s (onLine (spaces s) (drop (spaces s) s))
 
+  -- by what stands on the line
+  pub line-end-tail : (s : List ℕ) → drop (spaces s) s ≡ [] → lineTail s ≡ fits [] [] (spaces s)
+  unfolding lineTail lineBy offLine onLine
+  line-end-tail s d = rw (lineTail, d, lineBy) (rw d refl)
+
+  pub line-on-tail : (s : List ℕ) (c : ℕ) (cs : List ℕ) (rs : List Raw) (ms : List Mark) (k : ℕ) → drop (spaces s) s ≡ c ∷ cs → onLine (spaces s) (c ∷ cs) ≡ fits rs ms k → lineTail s ≡ onward (λ more. rs ++ more) k (tail (drop k s))
+  unfolding lineTail lineBy
+  line-on-tail s c cs rs ms k d e = rw (lineTail, d, e) refl
+
+  pub line-off-tail : (s : List ℕ) (c : ℕ) (cs : List ℕ) → drop (spaces s) s ≡ c ∷ cs → onLine (spaces s) (c ∷ cs) ≡ fails → lineTail s ≡ elim (eqb c 123) [ true ↦ fails | false ↦ fits [] [] 0 ]
+  unfolding lineTail lineBy offLine
+  line-off-tail s c cs d e = rw (lineTail, d, e) (rw d refl)
+
 -- blank lines before more
 unfoldable pub behind : List Line → List Raw → List Raw
 behind ls [] = []
@@ -190,6 +203,31 @@ close-text b bs q = rw (eqb-true b 125 q) refl
 block-fails : (s : List ℕ) → lineEnds (drop (spaces s) s) ≡ false → blank-block s ≡ fails
 unfolding blank-block
 block-fails s h = some-fails blank-line s (line-fails s h)
+
+-- What may follow a pattern --------------------------------------------------------------------------------------------------------------------
+
+block-brace-is : (s : List ℕ) {ls : List Line} {u : ℕ} → blank-block s ≡ fits ls [] u → block-brace s ≡ Peg.after [] (u + spaces (drop u s)) (byte 123 (drop (spaces (drop u s)) (drop u s)))
+unfolding block-brace Peg.after moveUp
+block-brace-is s {ls} {u} e = then-fits (blank-block >> blank-inline?) (byte 123) s (then-fits blank-block blank-inline? s e ∙ ap (Peg.after [] u) (blank-inline?-is (drop u s))) ∙ rw (drop-drop (spaces (drop u s)) u s) refl
+
+-- the bar is passed, and so is the line end
+closing-fits : (s : List ℕ) {ls : List Line} {u : ℕ} → lineEnds s ≡ true → blank-block s ≡ fits ls [] u → startsWith 123 (drop (spaces (drop u s)) (drop u s)) ≡ false → closing s ≡ fits tt [] u
+unfolding closing Peg.after moveUp
+closing-fits s {ls} {u} h e q = then-fits (bar block-brace) (ahead line-end >> void blank-block) s (bar-fails block-brace s (block-brace-is s e ∙ ap (Peg.after [] (u + spaces (drop u s))) (byte-fails 123 (drop (spaces (drop u s)) (drop u s)) q)))
+    ∙ ap (Peg.after [] 0) (then-fits (ahead line-end) (void blank-block) s (ahead-fits line-end s (line-end-is s h)) ∙ ap (Peg.after [] 0) (void-fits blank-block s e)) ∙ ap (fits tt []) (omega arith)
+
+closing-brace : (s : List ℕ) {ls : List Line} {u : ℕ} → blank-block s ≡ fits ls [] u → startsWith 123 (drop (spaces (drop u s)) (drop u s)) ≡ true → closing s ≡ fails
+unfolding closing Peg.after
+closing-brace s {ls} {u} e q = then-fails (bar block-brace) (ahead line-end >> void blank-block) s (bar-fits block-brace s (block-brace-is s e ∙ ap (Peg.after [] (u + spaces (drop u s))) (byte-fits 123 (drop (spaces (drop u s)) (drop u s)) q)))
+
+-- no line end
+pub closing-fails : (s : List ℕ) → lineEnds s ≡ false → closing s ≡ fails
+unfolding closing Peg.after
+closing-fails s h = go (block-brace s) refl
+  where
+    go : (o : Answer (Unit {0})) → block-brace s ≡ o → (bar block-brace >> (ahead line-end >> void blank-block)) s ≡ fails
+    go (fits u ms k) e = then-fails (bar block-brace) (ahead line-end >> void blank-block) s (bar-fits block-brace s e)
+    go fails e = then-fits (bar block-brace) (ahead line-end >> void blank-block) s (bar-fails block-brace s e) ∙ ap (Peg.after [] 0) (then-fails (ahead line-end) (void blank-block) s (ahead-fails line-end s (no-line-end s h)))
 
 module _ (sub : Inside) (no-brace : (s : List ℕ) → startsWith 123 s ≡ false → sub .inline-placeable s ≡ fails) where
   raw-fails : (s : List ℕ) → sub .inline-placeable s ≡ fails → raw-placeable rust sub s ≡ fails
@@ -344,3 +382,87 @@ module _ (sub : Inside) (no-brace : (s : List ℕ) → startsWith 123 s ≡ fals
           off : eqb b 123 ≡ false → (n : ℕ) → spaces (drop u s) ≡ n → goesOn n b ≡ false → PatternElement rust sub s ≡ fails
           off q zero z g = by-brace (indented-no z) (not-carried (byCase (eqb b 13) (λ c. clash {v = true} refl (rw c at g)) (λ c. c))) ∙ ap (Peg.after [] u) (braced-not (rw (d) (no-brace (b ∷ bs) q)))
           off q (suc n) z g = by-brace (not-indented (byCase (eqb b 125) (λ c. indented-no-text b bs (no-text-char (b ∷ bs) (close-text b bs c))) (λ c. indented-fails b bs (sym (goesOn-suc n b) ∙ g) c))) (carried-not (spaced (drop u s) n z)) ∙ ap (Peg.after [] u) (braced-not (rw d (no-brace (b ∷ bs) q)))
+
+      -- there is none at the end
+      pub element-end : drop u s ≡ [] → PatternElement rust sub s ≡ fails
+      unfolding startsWith spaces run Peg.after
+      element-end d = by-brace (indented-no (rw d refl)) (carried-not (rw d refl)) ∙ ap (Peg.after [] u) (braced-not (rw d (no-brace [] refl)))
+
+  -- at the end of input
+  block-at-end : blank-block [] ≡ fits (record { spaces = 0; ending = 0 } ∷ []) [] 0
+  unfolding blank-block some blank-line opt blank-inline sized byte one starts line-end _>>=_ _>>_ _/_ Peg.next Peg.after pure eof many Peg.turns moveUp
+  block-at-end = refl
+
+  pub element-nil : PatternElement rust sub [] ≡ fails
+  unfolding textRun startsWith
+  element-nil = element-end [] (record { spaces = 0; ending = 0 } ∷ []) 0 block-at-end refl refl refl
+
+  element-stays : AtEnd (PatternElement rust sub [])
+  element-stays = rw element-nil tt
+
+  -- one element, and the others
+  pub tail-again : (s : List ℕ) (rs : List Raw) (k : ℕ) → PatternElement rust sub s ≡ fits rs [] k → 0 < k → tail sub s ≡ onward (λ more. rs ++ more) k (tail sub (drop k s))
+  unfolding tail ended closed onward withFirst Peg.after flat moveUp
+  tail-again s rs k e h = rw (many-again (PatternElement rust sub) element-stays s rs [] k e h) (go (many (PatternElement rust sub) (drop k s)))
+    where
+      close : (rss : List (List Raw)) (j : ℕ) (o : Answer (Unit {0})) → closed (rs ++ flat rss) (k + j) o ≡ onward (λ more. rs ++ more) k (closed (flat rss) j o)
+      close rss j (fits u ms i) = ap (fits (rs ++ flat rss) []) (add-assoc k j i)
+      close rss j fails = refl
+
+      go : (o : Answer (List (List Raw))) → ended s (withFirst rs (Peg.after [] k o)) ≡ onward (λ more. rs ++ more) k (ended (drop k s) o)
+      go (fits rss ms j) = rw (drop-drop j k s) (close rss j (closing (drop (k + j) s)))
+      go fails = refl
+
+  pub tail-none : (s : List ℕ) → PatternElement rust sub s ≡ fails → tail sub s ≡ closed [] 0 (closing s)
+  unfolding tail ended flat
+  tail-none s e = rw (many-none (PatternElement rust sub) element-stays s e) refl
+
+  -- an element of a line is not nothing
+  abbrev Full : Answer (List Raw) → Type 0
+  Full (fits [] ms k) = ⊥
+  Full (fits (r ∷ rs) ms k) = Unit {0}
+  Full fails = Unit {0}
+
+  brace-full : (n : ℕ) (o : Answer (Unit {0})) → Full (braceLine n o)
+  unfolding braceLine
+  brace-full n (fits u ms k) = tt
+  brace-full n fails = tt
+
+  line-full : (n : ℕ) (s : List ℕ) → Full (onLine sub n s)
+  unfolding onLine
+  line-full n [] = tt
+  line-full n (b ∷ bs) = byCase (eqb b 123) (λ q. rw (onLine, q) (brace-full n (sub .inline-placeable (b ∷ bs)))) (λ q. byCase (goesOn n b) (λ g. rw (onLine, q, g) tt) (λ g. rw (onLine, q, g) tt))
+
+  -- a line end, blank lines, and what stands on the next line
+  pub tail-block : {s : List ℕ} {l : Line} {ls : List Line} {u : ℕ} → Block s (l ∷ ls) u → textRun s ≡ 0 → startsWith 123 s ≡ false → lineEnds s ≡ true → 0 < u → tail sub s ≡ onward (behind (l ∷ ls)) u (lineTail sub (drop u s))
+  unfolding onward behind lineTail lineBy offLine closed startsWith
+  tail-block {s} {l} {ls} {u} b t q h z = go (drop (spaces (drop u s)) (drop u s)) refl
+    where
+      nothing : (k : ℕ) → drop k s ≡ [] → startsWith 123 (drop (spaces (drop k s)) (drop k s)) ≡ false
+      nothing k r = unfold spaces run in (rw r refl)
+
+      go : (r : List ℕ) → drop (spaces (drop u s)) (drop u s) ≡ r → tail sub s ≡ onward (behind (l ∷ ls)) u (lineTail sub (drop u s))
+      go [] d =
+          let n = spaces (drop u s) in
+          let (ks, f) = lines-end b d in
+          let bb : blank-block s ≡ fits ks [] (u + n) = block-many b ∙ f in
+          let r : drop (u + n) s ≡ [] = sym (drop-drop n u s) ∙ d in
+          tail-none s (element-end s ks (u + n) bb t q r) ∙ ap (closed [] 0) (closing-fits s h bb (nothing (u + n) r)) ∙ rw (line-end-tail sub (drop u s) d) (ap (fits [] []) (omega arith))
+      go (c ∷ cs) d = by (onLine sub (spaces (drop u s)) (c ∷ cs)) refl (line-full (spaces (drop u s)) (c ∷ cs))
+        where
+          bb : blank-block s ≡ fits (l ∷ ls) [] u
+          bb = block-many b ∙ lines-many b c cs d
+
+          el : PatternElement rust sub s ≡ onward (λ rs. lines (l ∷ ls) ∷ rs) u (onLine sub (spaces (drop u s)) (c ∷ cs))
+          el = element-line s (l ∷ ls) u bb t q c cs d (rw d at (block-stops b))
+
+          by : (o : Answer (List Raw)) → onLine sub (spaces (drop u s)) (c ∷ cs) ≡ o → Full o → tail sub s ≡ onward (behind (l ∷ ls)) u (lineTail sub (drop u s))
+          by (fits [] ms k) e f = absurd f
+          by (fits (r ∷ rs) ms k) e f = tail-again s (lines (l ∷ ls) ∷ r ∷ rs) (u + k) (el ∙ ap (onward (λ rs. lines (l ∷ ls) ∷ rs) u) e) (omega arith) ∙ rw (line-on-tail sub (drop u s) c cs (r ∷ rs) ms k d e, drop-drop k u s) (on (tail sub (drop (u + k) s)))
+            where
+              on : (o : Answer (List Raw)) → onward (λ more. (lines (l ∷ ls) ∷ r ∷ rs) ++ more) (u + k) o ≡ onward (behind (l ∷ ls)) u (onward (λ more. (r ∷ rs) ++ more) k o)
+              on (fits more ns j) = ap (fits (lines (l ∷ ls) ∷ r ∷ (rs ++ more)) []) (add-assoc u k j)
+              on fails = refl
+          by fails e f = tail-none s (el ∙ ap (onward (λ rs. lines (l ∷ ls) ∷ rs) u) e) ∙ rw (line-off-tail sub (drop u s) c cs d e) (byCase (eqb c 123)
+              (λ w. rw (w, closing-brace s bb (rw (d, startsWith) w)) refl)
+              (λ w. rw (w, closing-fits s h bb (rw (d, startsWith) w)) (ap (fits [] []) (omega arith))))
