@@ -14,3 +14,4 @@ pub mod Texts
 pub mod Blocks
 pub mod Dedent
 pub mod Elements
+pub mod PatternTurns
