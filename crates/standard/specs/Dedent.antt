@@ -38,7 +38,7 @@ unfolding Pattern.trimmed Abstract.trimmed isTrimmed rust Dialect.all
 trimmed-same [] = refl
 trimmed-same (b ∷ bs) = ap (onward (goes b)) (trimmed-same bs) ∙ onward-one (goes b) (Abstract.trimmed (isTrimmed rust) bs)
 
-trimmed-feed : (w : List ℕ) → Pattern.trimmed (w ++ (10 ∷ [])) ≡ Pattern.trimmed w
+pub trimmed-feed : (w : List ℕ) → Pattern.trimmed (w ++ (10 ∷ [])) ≡ Pattern.trimmed w
 unfolding Pattern.trimmed
 trimmed-feed [] = refl
 trimmed-feed (b ∷ bs) = ap (onward (goes b)) (trimmed-feed bs)
@@ -53,7 +53,7 @@ blank-trimmed (b ∷ bs) q =
 
 -- Joining -------------------------------------------------------------------------------------------------------------------------------------
 
-abbrev run-of : ℕ → ℕ → Span
+abbrev pub run-of : ℕ → ℕ → Span
 run-of a e = record { from = a; till = e }
 
 onto-feed : (a e : ℕ) (es : List Element) → onto rust true a e es ≡ joined (run-of a e) [] ∷ es
@@ -62,14 +62,14 @@ onto-feed a e [] = refl
 onto-feed a e (nested ms ∷ es) = refl
 onto-feed a e (joined t ts ∷ es) = refl
 
-onto-touch : (a b : ℕ) (t : Span) (ts : List Span) (es : List Element) → eqb b (t .from) ≡ true → onto rust false a b (joined t ts ∷ es) ≡ joined (run-of a (t .till)) ts ∷ es
+pub onto-touch : (a b : ℕ) (t : Span) (ts : List Span) (es : List Element) → eqb b (t .from) ≡ true → onto rust false a b (joined t ts ∷ es) ≡ joined (run-of a (t .till)) ts ∷ es
 unfolding onto rust Dialect.all touches
 onto-touch a b t ts es q = rw (onto, q) (rw q refl)
 
 onto-join : (a b e : ℕ) (ts : List Span) (es : List Element) → onto rust false a b (joined (run-of b e) ts ∷ es) ≡ joined (run-of a e) ts ∷ es
 onto-join a b e ts es = onto-touch a b (run-of b e) ts es (eq-eqb b b refl)
 
-onto-apart : (a b : ℕ) (t : Span) (ts : List Span) (es : List Element) → eqb b (t .from) ≡ false → onto rust false a b (joined t ts ∷ es) ≡ joined (run-of a b) [] ∷ joined t ts ∷ es
+pub onto-apart : (a b : ℕ) (t : Span) (ts : List Span) (es : List Element) → eqb b (t .from) ≡ false → onto rust false a b (joined t ts ∷ es) ≡ joined (run-of a b) [] ∷ joined t ts ∷ es
 unfolding onto rust Dialect.all touches
 onto-apart a b t ts es q = rw (onto, q) refl
 
@@ -86,7 +86,7 @@ A6-empty : (a e : ℕ) (ps : List Piece) → a ≡ e → A6 rust (span a e ∷ p
 unfolding A6
 A6-empty a e ps q = rw (A6, eq-eqb a e q) refl
 
-A6-span : (a e : ℕ) (ps : List Piece) → a < e → A6 rust (span a e ∷ ps) ≡ onto rust false a e (A6 rust ps)
+pub A6-span : (a e : ℕ) (ps : List Piece) → a < e → A6 rust (span a e ∷ ps) ≡ onto rust false a e (A6 rust ps)
 unfolding A6
 A6-span a e ps q = rw (A6, ne-eqb a e (λ z. omega arith)) refl
 
@@ -115,7 +115,7 @@ unfoldable pub feeds : Option ℕ → ℕ → List Line → List Element → Lis
 feeds c p [] es = es
 feeds c p (l ∷ ls) es = joined (run-of (feedFrom c p l) (p + l .spaces + l .ending)) [] ∷ feeds c (p + l .spaces + l .ending) ls es
 
-cut-within : (c : Option ℕ) (n : ℕ) → cut c n ≤ n
+pub cut-within : (c : Option ℕ) (n : ℕ) → cut c n ≤ n
 unfolding cut
 cut-within none n = omega arith
 cut-within (some c) n = omega arith
@@ -141,16 +141,16 @@ A6-lines c p (l ∷ ls) ps h = byCase (eqb (l .ending) 1)
 
 -- what the reading and the grammar count from: src is the reading's source, and the grammar's starts k₀ bytes on
 module _ (src : List ℕ) (k₀ : ℕ) where
-  abbrev behind : List ℕ
+  abbrev pub behind : List ℕ
   behind = drop k₀ src
 
   -- the first n + 1 elements of the reading make the same marks as the grammar's elements, trimmed
-  abbrev Shown : Option ℕ → ℕ → List Pattern.Element → List Element → Type 0
+  abbrev pub Shown : Option ℕ → ℕ → List Pattern.Element → List Element → Type 0
   Shown c n xs [] = ⊥
   Shown c n xs (e ∷ es) = Pattern.elementMarks src c (suc n) xs ≡ moveUp k₀ (Abstract.elementMarks (A7 rust behind (e ∷ es)))
 
   -- an element that is not the last
-  abbrev Match : Option ℕ → Pattern.Element → Element → Type 0
+  abbrev pub Match : Option ℕ → Pattern.Element → Element → Type 0
   Match c (placeable ms) (nested ns) = node 13 ms ≡ moveUp k₀ ns
   Match c (placeable ms) (joined t ts) = ⊥
   Match c (text a e i l) (nested ns) = ⊥
@@ -182,19 +182,19 @@ module _ (src : List ℕ) (k₀ : ℕ) where
       go (suc n) h = rw (Abstract.elementMarks, trimText, span-some t w n e h, h) refl
 
   -- nothing is left of a blank text
-  trim-blank : (t : Span) (w : List ℕ) → bytesOf behind t ≡ w → all isSpace w ≡ true → trimText rust behind t [] ≡ []
+  pub trim-blank : (t : Span) (w : List ℕ) → bytesOf behind t ≡ w → all isSpace w ≡ true → trimText rust behind t [] ≡ []
   unfolding trimText onlySpaces rust Dialect.all
   trim-blank t w e q = rw (trimText, span-none t w e (blank-trimmed w q), e, q) refl
 
   -- the last text
-  shown-text : (c : Option ℕ) (a e i : ℕ) (l : Bool) (xs : List Pattern.Element) (t : Span) (w v : List ℕ)
+  pub shown-text : (c : Option ℕ) (a e i : ℕ) (l : Bool) (xs : List Pattern.Element) (t : Span) (w v : List ℕ)
       → Pattern.dedented c a i l ≡ k₀ + t .from → bytesOf behind t ≡ w → all isSpace w ≡ false
       → take (e - (k₀ + t .from)) (drop (k₀ + t .from) src) ≡ v → Pattern.trimmed v ≡ Pattern.trimmed w → Shown c 0 (text a e i l ∷ xs) (joined t [] ∷ [])
   unfolding Pattern.elementMarks A7 trimLast textMarks moveUp textNode
   shown-text c a e i l xs t w v d b q r s = rw (d, r, s, trimmed-same w, trim-last t w b q) (ap (λ z. textNode 12 (k₀ + t .from) z) (add-assoc k₀ (t .from) (Abstract.trimmed (isTrimmed rust) w)))
 
   -- the last placeable, with nothing but a blank text behind it
-  shown-placeable : (c : Option ℕ) (ms ns : List Mark) (xs : List Pattern.Element) (es : List Element) → node 13 ms ≡ moveUp k₀ ns → A7 rust behind es ≡ [] → Shown c 0 (placeable ms ∷ xs) (nested ns ∷ es)
+  pub shown-placeable : (c : Option ℕ) (ms ns : List Mark) (xs : List Pattern.Element) (es : List Element) → node 13 ms ≡ moveUp k₀ ns → A7 rust behind es ≡ [] → Shown c 0 (placeable ms ∷ xs) (nested ns ∷ es)
   unfolding Pattern.elementMarks Abstract.elementMarks A7 trimLast
   shown-placeable c ms ns xs [] m h = rw m (append-nil (moveUp k₀ ns) ∙ ap (moveUp k₀) (sym (append-nil ns)))
   shown-placeable c ms ns xs (f ∷ fs) m h = rw (m, h) (append-nil (moveUp k₀ ns) ∙ ap (moveUp k₀) (sym (append-nil ns)))
@@ -234,7 +234,7 @@ module _ (src : List ℕ) (k₀ : ℕ) where
   pub passed-then : (st st₁ st₂ : State) (f g : Option ℕ → List Element → List Element) → Passed st st₁ f → Passed st₁ st₂ g → Passed st st₂ (λ c es. f c (g c es))
   passed-then st st₁ st₂ f g p q = record { live = λ h. p .live (q .live h); idle = λ h. p .idle (q .idle h) }
 
-  live-one : (st st₁ st′ : State) (x : Pattern.Element) (e : Option ℕ → Element) (es : Option ℕ → List Element) → st₁ .elements ≡ st .elements ++ (x ∷ []) → ((c : Option ℕ) → Match c x (e c)) → Live st₁ st′ es → Live st st′ (λ c. e c ∷ es c)
+  pub live-one : (st st₁ st′ : State) (x : Pattern.Element) (e : Option ℕ → Element) (es : Option ℕ → List Element) → st₁ .elements ≡ st .elements ++ (x ∷ []) → ((c : Option ℕ) → Match c x (e c)) → Live st₁ st′ es → Live st st′ (λ c. e c ∷ es c)
   live-one st st₁ st′ x e es q m h = record {
     count = suc (h .count);
     added = x ∷ h .added;

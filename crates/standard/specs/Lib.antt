@@ -15,3 +15,4 @@ pub mod Blocks
 pub mod Dedent
 pub mod Elements
 pub mod PatternTurns
+pub mod Growth
