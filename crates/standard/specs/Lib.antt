@@ -16,3 +16,4 @@ pub mod Dedent
 pub mod Elements
 pub mod PatternTurns
 pub mod Growth
+pub mod BlankLines
