@@ -200,7 +200,7 @@ unfolding textRun isTextAt isTextByte
 close-text b bs q = rw (eqb-true b 125 q) refl
 
 -- no blank-block stands where a line goes on
-block-fails : (s : List ℕ) → lineEnds (drop (spaces s) s) ≡ false → blank-block s ≡ fails
+pub block-fails : (s : List ℕ) → lineEnds (drop (spaces s) s) ≡ false → blank-block s ≡ fails
 unfolding blank-block
 block-fails s h = some-fails blank-line s (line-fails s h)
 

@@ -17,3 +17,4 @@ pub mod Elements
 pub mod PatternTurns
 pub mod Growth
 pub mod BlankLines
+pub mod PatternAgrees
