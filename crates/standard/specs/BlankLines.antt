@@ -26,7 +26,7 @@ use Rattle.standard.specs.Abstract.{Line, Element, joined, cut, width}
 use Rattle.standard.specs.Turns.{repeat-again}
 use Rattle.standard.specs.Texts.{Sign, end, lf, cr-lf, opens, closes, plain, sign-of, textRun, isTextAt, sliceAt, slice-is, plain-eol}
 use Rattle.standard.specs.Blocks.{Block, stop, step}
-use Rattle.standard.specs.Dedent.{run-of, feeds, feedFrom, Ended, Passed, passed-none, passed-one, passed-then, cut-within}
+use Rattle.standard.specs.Dedent.{run-of, feeds, feedFrom, Passed, passed-none, passed-one, passed-then, cut-within}
 use Rattle.standard.specs.Elements.{goesOn-suc}
 use Rattle.standard.specs.Growth.{dedent-from, fromAt}
 use Rattle.standard.specs.PatternTurns.{textState, text-again, text-elements, blank-kept, blank-common, turn-on, turn-shrinks}

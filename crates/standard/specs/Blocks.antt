@@ -18,10 +18,15 @@ use Rattle.laws.specs.Bytes.{byCase, clash}
 use Rattle.standard.specs.Peg as Peg
 use Rattle.standard.specs.Peg.{Answer, fits, fails, Parser, many, some, withFirst, pure, opt, turns, _>>=_}
 use Rattle.standard.specs.Steps.{bind-fits, bind-fails, some-fits, some-fails}
-use Rattle.standard.specs.Abstract.{Line}
+use Rattle.standard.specs.Abstract.{Line, width}
 use Rattle.standard.specs.Lexical.{line-end, blank-inline, blank-line, blank-block}
 use Rattle.standard.specs.Blank.{lineEnds, line-end-is, no-line-end, opt-inline}
 use Rattle.standard.specs.Turns.{Shrinks, AtEnd, repeat-again, repeat-done, many-again, many-none, many-still, some-many}
+
+-- each line has a line end
+abbrev pub Ended : List Line → Type 0
+Ended [] = Unit {0}
+Ended (l ∷ ls) = (0 < l .ending) × Ended ls
 
 -- s starts with the blank lines ls, of u bytes together, each with its line end; no further one follows
 pub data Block : List ℕ → List Line → ℕ → Type 0 where
@@ -58,6 +63,15 @@ block-of s = block-by (suc (length s)) s (omega arith)
 pub block-stops : {s : List ℕ} {ls : List Line} {u : ℕ} → Block s ls u → eol (drop (spaces (drop u s)) (drop u s)) ≡ 0
 block-stops (stop q) = q
 block-stops {s} (step {u = u} e q b) = subst (λ r. eol (drop (spaces r) r) ≡ 0) (drop-drop u (spaces s + suc e) s) (block-stops b)
+
+pub block-ended : {s : List ℕ} {ls : List Line} {u : ℕ} → Block s ls u → Ended ls
+block-ended (stop q) = tt
+block-ended (step e q b) = (omega arith, block-ended b)
+
+pub block-width : {s : List ℕ} {ls : List Line} {u : ℕ} → Block s ls u → width ls ≡ u
+unfolding width
+block-width (stop q) = refl
+block-width {s} (step {u = u} e q b) = ap (λ k. spaces s + suc e + k) (block-width b)
 
 -- the reading's block
 block-again : (n : ℕ) (s : List ℕ) (e : ℕ) → eol (drop (spaces s) s) ≡ suc e → blockTurn n s ≡ again (suc n) [] (spaces s + suc e)

@@ -20,6 +20,7 @@ use Rattle.laws.specs.Moving.{moveUp-append, moveUp-twice}
 use Rattle.standard.specs.Dialect as Dialect
 use Rattle.standard.specs.Dialect.{rust}
 use Rattle.standard.specs.Abstract as Abstract
+use Rattle.standard.specs.Blocks.{Ended}
 use Rattle.standard.specs.Abstract.{Line, Raw, Span, Piece, span, feed, inner, cut, dedented, Element, joined, nested, A5, A6, A7, onto, touches, isSpace, isTrimmed, bytesOf, trimSpan, trimSpans, onlySpaces, trimText, trimLast, furtherMarks}
 
 -- Trimming ------------------------------------------------------------------------------------------------------------------------------------
@@ -100,11 +101,6 @@ A6-two a b e ps h q = byCase (eqb a b)
     (λ r. A6-span a b (span b e ∷ ps) (below a b h r) ∙ ap (onto rust false a b) (A6-span b e ps q) ∙ onto-onto a b e (A6 rust ps))
 
 -- Lines ---------------------------------------------------------------------------------------------------------------------------------------
-
--- each line has a line end
-abbrev pub Ended : List Line → Type 0
-Ended [] = Unit {0}
-Ended (l ∷ ls) = (0 < l .ending) × Ended ls
 
 -- where the text of a blank line at p starts
 unfoldable pub feedFrom : Option ℕ → ℕ → Line → ℕ

@@ -229,6 +229,15 @@ closing-fails s h = go (block-brace s) refl
     go (fits u ms k) e = then-fails (bar block-brace) (ahead line-end >> void blank-block) s (bar-fits block-brace s e)
     go fails e = then-fits (bar block-brace) (ahead line-end >> void blank-block) s (bar-fails block-brace s e) ∙ ap (Peg.after [] 0) (then-fails (ahead line-end) (void blank-block) s (ahead-fails line-end s (no-line-end s h)))
 
+-- at the end of input
+block-at-end : blank-block [] ≡ fits (record { spaces = 0; ending = 0 } ∷ []) [] 0
+unfolding blank-block some blank-line opt blank-inline sized byte one starts line-end _>>=_ _>>_ _/_ Peg.next Peg.after pure eof many Peg.turns moveUp
+block-at-end = refl
+
+pub closing-nil : closing [] ≡ fits tt [] 0
+unfolding lineEnds startsWith spaces run
+closing-nil = closing-fits [] refl block-at-end refl
+
 module _ (sub : Inside) (no-brace : (s : List ℕ) → startsWith 123 s ≡ false → sub .inline-placeable s ≡ fails) where
   raw-fails : (s : List ℕ) → sub .inline-placeable s ≡ fails → raw-placeable rust sub s ≡ fails
   unfolding raw-placeable rawPlaceable
@@ -387,11 +396,6 @@ module _ (sub : Inside) (no-brace : (s : List ℕ) → startsWith 123 s ≡ fals
       pub element-end : drop u s ≡ [] → PatternElement rust sub s ≡ fails
       unfolding startsWith spaces run Peg.after
       element-end d = by-brace (indented-no (rw d refl)) (carried-not (rw d refl)) ∙ ap (Peg.after [] u) (braced-not (rw d (no-brace [] refl)))
-
-  -- at the end of input
-  block-at-end : blank-block [] ≡ fits (record { spaces = 0; ending = 0 } ∷ []) [] 0
-  unfolding blank-block some blank-line opt blank-inline sized byte one starts line-end _>>=_ _>>_ _/_ Peg.next Peg.after pure eof many Peg.turns moveUp
-  block-at-end = refl
 
   pub element-nil : PatternElement rust sub [] ≡ fails
   unfolding textRun startsWith

@@ -22,7 +22,8 @@ use Rattle.standard.specs.Dialect as Dialect
 use Rattle.standard.specs.Dialect.{rust}
 use Rattle.standard.specs.Abstract as Abstract
 use Rattle.standard.specs.Abstract.{Line, Raw, text, lines, indent, brace-indent, placeable, least, common, cut, dedented, pieces, width, Element, joined, nested, Span, A5, A6, A7, onto, isSpace, bytesOf, trimLast}
-use Rattle.standard.specs.Dedent.{run-of, onto-touch, onto-apart, A6-span, A6-two, A6-lines, feeds, feedFrom, Ended, Shown, Match, shown-text, shown-placeable, trim-blank, Live, Idle, idle-same, Passed, Keeps, passed-none, passed-one, passed-then, keeps-one, live-one, trimmed-feed, cut-within}
+use Rattle.standard.specs.Blocks.{Ended}
+use Rattle.standard.specs.Dedent.{run-of, onto-touch, onto-apart, A6-span, A6-two, A6-lines, feeds, feedFrom, Shown, Match, shown-text, shown-placeable, trim-blank, Live, Idle, idle-same, Passed, Keeps, passed-none, passed-one, passed-then, keeps-one, live-one, trimmed-feed, cut-within}
 
 -- The common indent ---------------------------------------------------------------------------------------------------------------------------
 
@@ -94,6 +95,10 @@ feeds-crlf c e ls es = ap₂ (λ x y. joined (run-of x y) [] ∷ feeds c y ls es
 
     rest : e + 0 + 2 ≡ e + 1 + 0 + 1
     rest = omega arith
+
+pub onto-later : (c : Option ℕ) (a e E : ℕ) (ls : List Line) (es : List Element) → e < E → onto rust false a e (feeds c E (record { spaces = 0; ending = 1 } ∷ ls) es) ≡ joined (run-of a e) [] ∷ feeds c E (record { spaces = 0; ending = 1 } ∷ ls) es
+unfolding feeds feedFrom
+onto-later c a e E ls es h = onto-apart a e (run-of (E + cut c 0) (E + 0 + 1)) [] (feeds c (E + 0 + 1) ls es) (ne-eqb e (E + cut c 0) (λ z. omega arith))
 
 -- Texts ---------------------------------------------------------------------------------------------------------------------------------------
 
