@@ -38,11 +38,11 @@ feedSlice = record { size = 1; blank = true; ending = lineFeed }
 abbrev pub crSlice : Slice
 crSlice = record { size = 0; blank = true; ending = crlf }
 
-slice-lf : (t : List ℕ) → getTextSlice (10 ∷ t) ≡ ok feedSlice [] 1
+pub slice-lf : (t : List ℕ) → getTextSlice (10 ∷ t) ≡ ok feedSlice [] 1
 unfolding textRun isTextAt isTextByte sliceAt isBlank all
 slice-lf t = slice-is (10 ∷ t) (lf t) refl
 
-slice-crlf : (t : List ℕ) → getTextSlice (13 ∷ 10 ∷ t) ≡ ok crSlice [] 1
+pub slice-crlf : (t : List ℕ) → getTextSlice (13 ∷ 10 ∷ t) ≡ ok crSlice [] 1
 unfolding textRun isTextAt isTextByte sliceAt isBlank all startsWith
 slice-crlf t = slice-is (13 ∷ 10 ∷ t) (cr-lf t) refl
 

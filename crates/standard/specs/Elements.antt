@@ -179,6 +179,12 @@ pub goesOn-suc : (n b : ℕ) → goesOn (suc n) b ≡ isContinuation b
 unfolding goesOn
 goesOn-suc n b = rw (goesOn, eqb·suc-zero) refl
 
+-- what goes on with a line's text
+pub run-on : (n c : ℕ) (cs : List ℕ) → eol (c ∷ cs) ≡ 0 → eqb c 123 ≡ false → goesOn n c ≡ true → textRun (c ∷ cs) ≡ suc (textRun cs)
+unfolding goesOn
+run-on zero c cs e q g = let r : eqb c 13 ≡ true = byCase (eqb c 13) (λ r. r) (λ r. clash {v = false} (rw (no-feed c cs e, r) at g) refl) in run-plain c cs (no-feed c cs e) q (cr-plain c r .1) (no-cr-feed c cs e)
+run-on (suc n) c cs e q g = run-plain c cs (no-feed c cs e) q (continues c (sym (goesOn-suc n c) ∙ g)) (no-cr-feed c cs e)
+
 no-text-char : (s : List ℕ) → textRun s ≡ 0 → text-char s ≡ fails
 unfolding text-char any-char special-text-char _but_ bar _>>_ Peg.next Peg.after _/_ byte one starts line-end sized eof moveUp
 no-text-char s e = go (sign-of s) e

@@ -96,6 +96,16 @@ feeds-crlf c e ls es = ap₂ (λ x y. joined (run-of x y) [] ∷ feeds c y ls es
     rest : e + 0 + 2 ≡ e + 1 + 0 + 1
     rest = omega arith
 
+pub feeds-lf : (c : Option ℕ) (p : ℕ) (ls : List Line) (es : List Element) → feeds c p (record { spaces = 0; ending = 1 } ∷ ls) es ≡ joined (run-of p (p + 1)) [] ∷ feeds c (p + 1) ls es
+unfolding feeds feedFrom
+feeds-lf c p ls es = ap₂ (λ x y. joined (run-of x y) [] ∷ feeds c y ls es) start rest
+  where
+    start : p + cut c 0 ≡ p
+    start = omega (arith, cut-within c 0)
+
+    rest : p + 0 + 1 ≡ p + 1
+    rest = omega arith
+
 pub onto-later : (c : Option ℕ) (a e E : ℕ) (ls : List Line) (es : List Element) → e < E → onto rust false a e (feeds c E (record { spaces = 0; ending = 1 } ∷ ls) es) ≡ joined (run-of a e) [] ∷ feeds c E (record { spaces = 0; ending = 1 } ∷ ls) es
 unfolding feeds feedFrom
 onto-later c a e E ls es h = onto-apart a e (run-of (E + cut c 0) (E + 0 + 1)) [] (feeds c (E + 0 + 1) ls es) (ne-eqb e (E + cut c 0) (λ z. omega arith))

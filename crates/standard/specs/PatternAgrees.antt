@@ -16,7 +16,7 @@ use Rattle.syntax.specs.Marks.{Mark, moveUp, node}
 use Rattle.syntax.specs.Reader as Reader
 use Rattle.syntax.specs.Reader.{Out, ok, bad, deep, wrap, again, done, repeat}
 use Rattle.syntax.specs.Pattern as Pattern
-use Rattle.syntax.specs.Pattern.{State, Slice, continuation, lineFeed, crlf, placeableStart, eof, isLineStart, isBlank, isTextByte, roleAfter, leastIndent, withPlaceable, withText, goesOn, isContinuation, patternTurn, getTextSlice}
+use Rattle.syntax.specs.Pattern.{State, Slice, continuation, lineFeed, crlf, placeableStart, eof, isLineStart, isBlank, isTextByte, isElement, isLineFeed, roleAfter, leastIndent, withPlaceable, withText, goesOn, isContinuation, patternTurn, getTextSlice}
 use Rattle.laws.specs.Bytes.{byCase, clash}
 use Rattle.laws.specs.Moving.{after-after}
 use Rattle.laws.specs.Stable.{Takes}
@@ -32,11 +32,11 @@ use Rattle.standard.specs.Same.{Same, nothing, Agree}
 use Rattle.standard.specs.Turns.{repeat-again, repeat-done}
 use Rattle.standard.specs.Texts.{Sign, end, lf, cr-lf, opens, closes, plain, sign-of, isTextAt, textRun, run-plain, run-over, sliceAt, slice-is}
 use Rattle.standard.specs.Blocks.{Block, step, block-of, block-stops, block-ended, block-width, Ended}
-use Rattle.standard.specs.Dedent.{run-of, feeds, feedFrom, Live, Idle, idle-same, Passed, onto-apart}
-use Rattle.standard.specs.Elements.{onward, closing, closed, braceLine, tail, onLine, lineTail, behind, closing-fails, closing-nil, element-text, element-placeable, element-none, element-nil, tail-again, tail-none, tail-block, block-fails, line-end-tail, line-on-tail, line-off-tail, goesOn-suc}
+use Rattle.standard.specs.Dedent.{run-of, feeds, feedFrom, Live, Idle, idle-same, Passed, passed-one, passed-none, passed-then}
+use Rattle.standard.specs.Elements.{onward, closing, closed, braceLine, tail, onLine, lineTail, behind, closing-fails, closing-nil, element-text, element-placeable, element-none, element-nil, tail-again, tail-none, tail-block, block-fails, line-end-tail, line-on-tail, line-off-tail, goesOn-suc, run-on}
 use Rattle.standard.specs.PatternTurns.{textState, text-again, is-element, text-elements, text-kept, text-common, blank-kept, inline-common, blank-common, turn-brace, turn-nil, turn-text, turn-end, turn-off, turn-on, turn-shrinks}
-use Rattle.standard.specs.Growth.{both, both-none, both-least, both-zero, made, made-brace, onto-lf, onto-later, feeds-crlf, fromAt, textRaws, Indented, Content, Line-content, Common, live-as, place-grows, Text-step, text-step, text-last, text-brace, text-lines, lines-grow}
-use Rattle.standard.specs.BlankLines.{Blanked, block-passes, no-brace-first}
+use Rattle.standard.specs.Growth.{both, both-none, both-least, both-zero, made, made-brace, onto-lf, onto-later, feeds-lf, feeds-crlf, fromAt, textRaws, Indented, Content, Line-content, Common, live-as, place-grows, Text-step, text-step, text-last, text-brace, text-lines, lines-grow}
+use Rattle.standard.specs.BlankLines.{Blanked, block-passes, no-brace-first, feedSlice, crSlice, slice-lf, slice-crlf}
 
 -- an answer of the loop against raw elements
 abbrev pub Rel : (State → List Raw → Type 0) → Out State → Answer (List Raw) → Type 0
@@ -114,6 +114,11 @@ module _ (sub₁ : Pattern.Inside) (sub₂ : Grammar.Inside) (takes : (s : List 
   at-drop : (st st₁ : State) (p k : ℕ) (s : List ℕ) → At st p s → st₁ .used ≡ st .used + k → At st₁ (p + k) (drop k s)
   at-drop st st₁ p k s at q = record { used = omega (arith, at .used); here = sym (ap (drop k) (sym (at .here)) ∙ drop-drop k (k₀ + p) src ∙ ap (λ j. drop j src) (add-assoc k₀ p k)) }
 
+  -- what a text of m bytes behind i spaces adds, with what follows it
+  Text-grown : State → ℕ → ℕ → ℕ → Bool → State → List Raw → Type 0
+  Text-grown st p i m l st′ rs = Common src k₀ st st′ rs × ((more : List Raw) × (rs ≡ textRaws l i m more))
+      × ((Live src k₀ st st′ (made p rs)) ⊎ ((rs ≡ textRaws l i m []) × (all isSpace (take m (drop (k₀ + (p + i)) src)) ≡ true) × Idle src k₀ st st′))
+
   -- a placeable
   Placed : ℕ → State → State → List Raw → Type 0
   Placed p st st′ rs = (ms : List Mark) × (k : ℕ) × (more : List Raw) × (rs ≡ placeable ms k ∷ more) × Live src k₀ st st′ (made p rs)
@@ -169,9 +174,6 @@ module _ (sub₁ : Pattern.Inside) (sub₂ : Grammar.Inside) (takes : (s : List 
       sliceOf : ℕ → Pattern.Ending → Slice
       sliceOf size ending = record { size = size; blank = isBlank (take m (drop i s)); ending = ending }
 
-      Grown : State → List Raw → Type 0
-      Grown st′ rs = Common src k₀ st st′ rs × ((Live src k₀ st st′ (made p rs)) ⊎ ((rs ≡ textRaws l i m []) × (all isSpace (take m (drop (k₀ + (p + i)) src)) ≡ true) × Idle src k₀ st st′))
-
       behind-indent : drop (k₀ + (p + i)) src ≡ drop i s
       behind-indent = sym (ap (drop i) (sym (at .here)) ∙ drop-drop i (k₀ + p) src ∙ ap (λ j. drop j src) (add-assoc k₀ p i))
 
@@ -224,9 +226,9 @@ module _ (sub₁ : Pattern.Inside) (sub₂ : Grammar.Inside) (takes : (s : List 
       Followed : State → State → List Raw → Type 0
       Followed st₁ st′ rs = Common src k₀ st₁ st′ rs × (((rs ≡ []) × Idle src k₀ st₁ st′) ⊎ Live src k₀ st st′ (made p (textRaws l i m rs)))
 
-      followed : (size k till : ℕ) (e : Pattern.Ending) → Tills size till → (st′ : State) (rs : List Raw) → Followed (textState st i (sliceOf size e) k) st′ rs → Grown st′ (textRaws l i m rs)
-      unfolding Followed Grown
-      followed size k till e d st′ rs (c, f) = (common-up size k till e d st′ rs c, go f)
+      followed : (size k till : ℕ) (e : Pattern.Ending) → Tills size till → (st′ : State) (rs : List Raw) → Followed (textState st i (sliceOf size e) k) st′ rs → (Text-grown st p i m l) st′ (textRaws l i m rs)
+      unfolding Followed Text-grown
+      followed size k till e d st′ rs (c, f) = (common-up size k till e d st′ rs c, (rs, refl), go f)
         where
           Wanted : Type 0
           Wanted = (Live src k₀ st st′ (made p (textRaws l i m rs))) ⊎ ((textRaws l i m rs ≡ textRaws l i m []) × (all isSpace (take m (drop (k₀ + (p + i)) src)) ≡ true) × Idle src k₀ st st′)
@@ -248,15 +250,15 @@ module _ (sub₁ : Pattern.Inside) (sub₂ : Grammar.Inside) (takes : (s : List 
       unfolding loop
       text-reads x d size k e q = repeat-again (patternTurn sub₁) (turn-shrinks sub₁ takes) st s (textState st i (sliceOf size e) k) [] (i + k) (turn-is ∙ rw (slice-here x d, q) (text-again st i (sliceOf size e) [] k))
 
-      text-ends : drop m (drop i s) ≡ [] → Rel Grown (loop st s) (onward (textRaws l i m) (i + m) (tail sub₂ []))
+      text-ends : drop m (drop i s) ≡ [] → Rel (Text-grown st p i m l) (loop st s) (onward (textRaws l i m) (i + m) (tail sub₂ []))
       unfolding loop sliceAt sliceOf Tills closed Followed common
       text-ends d =
           let st₁ = textState st i (sliceOf m eof) m in
           let r : drop (i + m) s ≡ [] = sym (drop-drop m i s) ∙ d in
           rw (text-reads end d m m eof refl, r, repeat-done (patternTurn sub₁) st₁ [] (ok st₁ [] 0) (turn-nil sub₁ st₁), tail-nil)
-          (rel-step (Followed st₁) Grown (textRaws l i m) (i + m) (i + m) refl (followed m m (p + i + m) eof (inl (refl, refl))) (ok st₁ [] 0) (fits [] [] 0) (refl, refl, (sym (both-none (st₁ .common)), inl (refl, idle-same src k₀ st₁))))
+          (rel-step (Followed st₁) (Text-grown st p i m l) (textRaws l i m) (i + m) (i + m) refl (followed m m (p + i + m) eof (inl (refl, refl))) (ok st₁ [] 0) (fits [] [] 0) (refl, refl, (sym (both-none (st₁ .common)), inl (refl, idle-same src k₀ st₁))))
 
-      text-closes : (t : List ℕ) → drop m (drop i s) ≡ 125 ∷ t → Rel Grown (loop st s) (onward (textRaws l i m) (i + m) (tail sub₂ (125 ∷ t)))
+      text-closes : (t : List ℕ) → drop m (drop i s) ≡ 125 ∷ t → Rel (Text-grown st p i m l) (loop st s) (onward (textRaws l i m) (i + m) (tail sub₂ (125 ∷ t)))
       unfolding loop sliceAt withText Reader.after onward
       text-closes t d = rw (repeat-done (patternTurn sub₁) st s _ (turn-is ∙ ap (withText st i) (slice-here (closes t) d)), tail-close t) tt
 
@@ -265,14 +267,14 @@ module _ (sub₁ : Pattern.Inside) (sub₂ : Grammar.Inside) (takes : (s : List 
       unfolding textState
       at-text size k e = at-drop st (textState st i (sliceOf size e) k) p (i + k) s at refl
 
-      text-opens : (t : List ℕ) → drop m (drop i s) ≡ 123 ∷ t → Rel Grown (loop st s) (onward (textRaws l i m) (i + m) (tail sub₂ (123 ∷ t)))
+      text-opens : (t : List ℕ) → drop m (drop i s) ≡ 123 ∷ t → Rel (Text-grown st p i m l) (loop st s) (onward (textRaws l i m) (i + m) (tail sub₂ (123 ∷ t)))
       unfolding sliceAt sliceOf Tills Placed placeState textState roleAfter isLineStart Followed
       text-opens t d =
           let st₁ = textState st i (sliceOf m placeableStart) m in
           let r : drop (i + m) s ≡ 123 ∷ t = sym (drop-drop m i s) ∙ d in
           let a : At st₁ (p + i + m) (123 ∷ t) = subst (λ q. At st₁ q (123 ∷ t)) (sym (add-assoc p i m)) (subst (At st₁ (p + (i + m))) r (at-text m m placeableStart)) in
           rw (text-reads (opens t) d m m placeableStart refl, r)
-          (rel-step (λ st′ rs. (st′ .common ≡ both (st₁ .common) (common rust rs)) × Placed (p + i + m) st₁ st′ rs) Grown (textRaws l i m) (i + m) (i + m) refl
+          (rel-step (λ st′ rs. (st′ .common ≡ both (st₁ .common) (common rust rs)) × Placed (p + i + m) st₁ st′ rs) (Text-grown st p i m l) (textRaws l i m) (i + m) (i + m) refl
             (λ st′ rs x. followed m m (p + i + m) placeableStart (inl (refl, refl)) st′ rs (x .0, inr (put st′ rs (x .1))))
             (loop st₁ (123 ∷ t)) (tail sub₂ (123 ∷ t)) (place-claim st₁ (p + i + m) t a (omega (arith, ap length r, length-drop (i + m) s))))
         where
@@ -284,11 +286,11 @@ module _ (sub₁ : Pattern.Inside) (sub₂ : Grammar.Inside) (takes : (s : List 
           → loop st s ≡ Reader.after [] (i + k) (loop (textState st i (sliceOf size e) k) s₁) → drop (i + k) s ≡ s₁ → length s₁ < n
           → (b : Blanked sub₁ takes src k₀ (textState st i (sliceOf size e) k) (p + (i + k)) s₁ v g) → eol (drop (spaces (drop v s₁)) (drop v s₁)) ≡ 0
           → ((c : Option ℕ) (es : List Element) → onto rust false (fromAt l p i c) (p + i + m) (feeds c (p + i + m) L es) ≡ joined (run-of (fromAt l p i c) till) [] ∷ g c es)
-          → tail sub₂ r ≡ onward (behind L) w (lineTail sub₂ (drop v s₁)) → k + v ≡ m + w → width L ≡ w → Rel Grown (loop st s) (onward (textRaws l i m) (i + m) (tail sub₂ r))
+          → tail sub₂ r ≡ onward (behind L) w (lineTail sub₂ (drop v s₁)) → k + v ≡ m + w → width L ≡ w → Rel (Text-grown st p i m l) (loop st s) (onward (textRaws l i m) (i + m) (tail sub₂ r))
       unfolding Followed behind common Line-claim loop moveUp
       text-line-ends size k till v w e s₁ r L g d en reads eq pos b stops glue tl num wid =
           rw (reads, b .reads, after-after [] (i + k) [] v (repeat (patternTurn sub₁) (b .state) (drop v s₁)), tl, onward-onward (textRaws l i m) (behind L) (i + m) w (lineTail sub₂ (drop v s₁)))
-          (rel-step (λ st′ rs. Common src k₀ (b .state) st′ rs × Line-content src k₀ (p + (i + k) + v) (b .state) st′ rs) Grown (λ rs. textRaws l i m (behind L rs)) (i + k + v) (i + m + w) (omega arith)
+          (rel-step (λ st′ rs. Common src k₀ (b .state) st′ rs × Line-content src k₀ (p + (i + k) + v) (b .state) st′ rs) (Text-grown st p i m l) (λ rs. textRaws l i m (behind L rs)) (i + k + v) (i + m + w) (omega arith)
             (λ st′ rs x. go st′ rs (x .0) (x .1))
             (repeat (patternTurn sub₁) (b .state) (drop v s₁)) (lineTail sub₂ (drop v s₁))
             (ih .lines (b .state) (p + (i + k) + v) (drop v s₁) (omega (arith, length-drop v s₁)) (record { used = b .used; here = at-drop (textState st i (sliceOf size e) k) (record { role = continuation; elements = []; kept = 0; common = none; used = textState st i (sliceOf size e) k .used + v }) (p + (i + k)) v s₁ (subst (At (textState st i (sliceOf size e) k) (p + (i + k))) eq (at-text size k e)) refl .here }) (b .role) stops))
@@ -296,11 +298,11 @@ module _ (sub₁ : Pattern.Inside) (sub₂ : Grammar.Inside) (takes : (s : List 
           numbers : p + (i + k) + v ≡ p + i + m + width L
           numbers = omega arith
 
-          go : (st′ : State) (rs : List Raw) → Common src k₀ (b .state) st′ rs → Line-content src k₀ (p + (i + k) + v) (b .state) st′ rs → Grown st′ (textRaws l i m (behind L rs))
+          go : (st′ : State) (rs : List Raw) → Common src k₀ (b .state) st′ rs → Line-content src k₀ (p + (i + k) + v) (b .state) st′ rs → (Text-grown st p i m l) st′ (textRaws l i m (behind L rs))
           go st′ rs c (Line-content.nothing q x) = rw q (followed size k till e d st′ [] ((rw (q, b .common) at c), inl (refl, b .passed .idle x)))
           go st′ rs c (Line-content.something r more q x) = rw q (followed size k till e d st′ (lines L ∷ r ∷ more) ((rw (q, b .common) at c), inr (text-lines src k₀ (step-of size k till e d) z h L g (r ∷ more) en glue (b .passed) (rw (q, numbers) at x))))
 
-      text-lf : (t : List ℕ) → drop m (drop i s) ≡ 10 ∷ t → Rel Grown (loop st s) (onward (textRaws l i m) (i + m) (tail sub₂ (10 ∷ t)))
+      text-lf : (t : List ℕ) → drop m (drop i s) ≡ 10 ∷ t → Rel (Text-grown st p i m l) (loop st s) (onward (textRaws l i m) (i + m) (tail sub₂ (10 ∷ t)))
       unfolding sliceAt sliceOf Tills textState roleAfter isLineStart width
       text-lf t d =
           let (ls, u, b) = block-of t in
@@ -313,7 +315,7 @@ module _ (sub₁ : Pattern.Inside) (sub₂ : Grammar.Inside) (takes : (s : List 
           (λ c es. onto-lf c (fromAt l p i c) (p + i + m) ls es ∙ ap (λ k. joined (run-of (fromAt l p i c) (p + i + m + 1)) [] ∷ feeds c k ls es) w)
           (tail-lf t b) (omega arith) (ap (λ k. 1 + k) (block-width b))
 
-      text-crlf : (t : List ℕ) → drop m (drop i s) ≡ 13 ∷ 10 ∷ t → Rel Grown (loop st s) (onward (textRaws l i m) (i + m) (tail sub₂ (13 ∷ 10 ∷ t)))
+      text-crlf : (t : List ℕ) → drop m (drop i s) ≡ 13 ∷ 10 ∷ t → Rel (Text-grown st p i m l) (loop st s) (onward (textRaws l i m) (i + m) (tail sub₂ (13 ∷ 10 ∷ t)))
       unfolding sliceAt sliceOf Tills textState roleAfter isLineStart width
       text-crlf t d =
           let (ls, u, b) = block-of t in
@@ -326,10 +328,116 @@ module _ (sub₁ : Pattern.Inside) (sub₂ : Grammar.Inside) (takes : (s : List 
           (λ c es. ap (onto rust false (fromAt l p i c) (p + i + m)) (feeds-crlf c (p + i + m) ls es ∙ ap (λ k. feeds c k (record { spaces = 0; ending = 1 } ∷ ls) es) w) ∙ onto-later c (fromAt l p i c) (p + i + m) (p + (i + (m + 1))) ls es (omega arith))
           (tail-crlf t b ∙ rw (drop-drop u 1 (10 ∷ t)) refl) (omega arith) (ap (λ k. 2 + k) (block-width b))
 
-      text-follow : {r : List ℕ} → Sign r → drop m (drop i s) ≡ r → Rel Grown (loop st s) (onward (textRaws l i m) (i + m) (tail sub₂ r))
+      text-follow : {r : List ℕ} → Sign r → drop m (drop i s) ≡ r → Rel (Text-grown st p i m l) (loop st s) (onward (textRaws l i m) (i + m) (tail sub₂ r))
       text-follow end d = text-ends d
       text-follow (lf t) d = text-lf t d
       text-follow (cr-lf t) d = text-crlf t d
       text-follow (opens t) d = text-opens t d
       text-follow (closes t) d = text-closes t d
       text-follow (plain b t x y w v) d = let o : textRun (b ∷ t) ≡ 0 = rw (run-is, d) at (run-over (drop i s)) in absurd (omega (arith, run-plain b t x y w v))
+
+    -- line ends with no text before them: the reading takes a byte, then v more of s₁ as blank lines
+    ends-claim : (st st₁ : State) (p v w : ℕ) (s s₁ : List ℕ) (L : List Line) (f g : Option ℕ → List Element → List Element) → Ended L → loop st s ≡ Reader.after [] 1 (loop st₁ s₁) → length s₁ < n → At st₁ (p + 1) s₁
+        → st₁ .common ≡ st .common → Passed src k₀ st st₁ f → (b : Blanked sub₁ takes src k₀ st₁ (p + 1) s₁ v g) → eol (drop (spaces (drop v s₁)) (drop v s₁)) ≡ 0
+        → ((c : Option ℕ) (es : List Element) → feeds c p L es ≡ f c (g c es)) → tail sub₂ s ≡ onward (behind L) w (lineTail sub₂ (drop v s₁)) → 1 + v ≡ w → width L ≡ w → Text-claim st p s
+    unfolding behind common Line-claim Text-claim loop moveUp
+    ends-claim st st₁ p v w s s₁ L f g en reads short at same ps b stops glue tl num wid =
+        rw (reads, b .reads, after-after [] 1 [] v (repeat (patternTurn sub₁) (b .state) (drop v s₁)), tl)
+        (rel-step (λ st′ rs. Common src k₀ (b .state) st′ rs × Line-content src k₀ (p + 1 + v) (b .state) st′ rs) (λ st′ rs. Common src k₀ st st′ rs × Content src k₀ p st st′ rs) (behind L) (1 + v) w num
+          (λ st′ rs x. go st′ rs (x .0) (x .1))
+          (repeat (patternTurn sub₁) (b .state) (drop v s₁)) (lineTail sub₂ (drop v s₁))
+          (ih .lines (b .state) (p + 1 + v) (drop v s₁) (omega (arith, length-drop v s₁)) (record { used = b .used; here = at-drop st₁ (record { role = continuation; elements = []; kept = 0; common = none; used = st₁ .used + v }) (p + 1) v s₁ at refl .here }) (b .role) stops))
+      where
+        numbers : p + 1 + v ≡ p + width L
+        numbers = omega arith
+
+        go : (st′ : State) (rs : List Raw) → Common src k₀ (b .state) st′ rs → Line-content src k₀ (p + 1 + v) (b .state) st′ rs → Common src k₀ st st′ (behind L rs) × Content src k₀ p st st′ (behind L rs)
+        go st′ rs c (Line-content.nothing q x) = rw q ((rw (q, b .common, same) at c), Content.nothing refl (ps .idle (b .passed .idle x)))
+        go st′ rs c (Line-content.something r more q x) = rw q ((rw (q, b .common, same) at c), Content.something (lines-grow src k₀ st (b .state) st′ p L (λ c es. f c (g c es)) (r ∷ more) en glue (passed-then src k₀ st st₁ (b .state) f g ps (b .passed)) (rw (q, numbers) at x)))
+
+    feed-passes : (st : State) (p : ℕ) → st .used ≡ k₀ + p → isLineStart (st .role) ≡ false → Passed src k₀ st (textState st 0 feedSlice 1) (λ c es. joined (run-of p (p + 1)) [] ∷ es)
+    unfolding isElement Pattern.dedented
+    feed-passes st p q r =
+        let e : isElement st feedSlice ≡ true = rw r refl in
+        passed-one src k₀ st (textState st 0 feedSlice 1) (Pattern.text (st .used) (st .used + 0 + 1) 0 false) (λ c. joined (run-of p (p + 1)) []) (text-elements st 0 1 feedSlice (omega arith) e ∙ rw r refl) (blank-kept st 0 1 feedSlice refl) (λ c. (refl, q, omega arith))
+
+    inline-lf : (st : State) (p : ℕ) (t : List ℕ) → At st p (10 ∷ t) → length t < n → isLineStart (st .role) ≡ false → Text-claim st p (10 ∷ t)
+    unfolding loop textState roleAfter isLineStart width
+    inline-lf st p t at short r =
+        let (ls, u, b) = block-of t in
+        let st₁ = textState st 0 feedSlice 1 in
+        let a : At st₁ (p + 1) t = at-drop st st₁ p 1 (10 ∷ t) at (ap (λ k. st .used + k) refl) in
+        ends-claim st st₁ p u (1 + u) (10 ∷ t) t (record { spaces = 0; ending = 1 } ∷ ls) (λ c es. joined (run-of p (p + 1)) [] ∷ es) (λ c es. feeds c (p + 1) ls es) (omega arith, block-ended b)
+        (repeat-again (patternTurn sub₁) (turn-shrinks sub₁ takes) st (10 ∷ t) st₁ [] 1 (turn-text sub₁ st 10 t refl r ∙ rw (slice-lf t) (text-again st 0 feedSlice [] 1))) short a
+        (inline-common st 0 1 feedSlice r) (feed-passes st p (at .used) r) (block-passes sub₁ takes src k₀ st₁ (p + 1) refl (a .used) b) (block-stops b) (λ c es. feeds-lf c p ls es) (tail-lf t b) refl (ap (λ k. 1 + k) (block-width b))
+
+    inline-crlf : (st : State) (p : ℕ) (t : List ℕ) → At st p (13 ∷ 10 ∷ t) → length (10 ∷ t) < n → isLineStart (st .role) ≡ false → Text-claim st p (13 ∷ 10 ∷ t)
+    unfolding loop textState roleAfter isLineStart width isElement
+    inline-crlf st p t at short r =
+        let (ls, u, b) = block-of t in
+        let st₁ = textState st 0 crSlice 1 in
+        let a : At st₁ (p + 1) (10 ∷ t) = at-drop st st₁ p 1 (13 ∷ 10 ∷ t) at (ap (λ k. st .used + k) refl) in
+        ends-claim st st₁ p (1 + u) (2 + u) (13 ∷ 10 ∷ t) (10 ∷ t) (record { spaces = 0; ending = 2 } ∷ ls) (λ c es. es) (λ c es. feeds c (p + 1) (record { spaces = 0; ending = 1 } ∷ ls) es) (omega arith, block-ended b)
+        (repeat-again (patternTurn sub₁) (turn-shrinks sub₁ takes) st (13 ∷ 10 ∷ t) st₁ [] 1 (turn-text sub₁ st 13 (10 ∷ t) refl r ∙ rw (slice-crlf t) (text-again st 0 crSlice [] 1))) short a
+        (inline-common st 0 1 crSlice r) (passed-none src k₀ st st₁ refl (blank-kept st 0 1 crSlice refl)) (block-passes sub₁ takes src k₀ st₁ (p + 1) refl (a .used) (lf-block t b)) (block-stops (lf-block t b)) (λ c es. feeds-crlf c p ls es)
+        (tail-crlf t b ∙ rw (drop-drop u 1 (10 ∷ t)) refl) (omega arith) (ap (λ k. 2 + k) (block-width b))
+
+    place-common : (st : State) → isLineStart (st .role) ≡ false → placeState st [] 0 .common ≡ st .common
+    unfolding placeState
+    place-common st r = rw (r, placeState) refl
+
+    -- texts: claim by claim
+    text-claim : (st : State) (p : ℕ) (s : List ℕ) → length s < suc n → At st p s → isLineStart (st .role) ≡ false → Text-claim st p s
+    unfolding Text-claim common loop Placed sliceAt textRun isTextAt isTextByte withText Reader.after textRaws Text-grown
+    text-claim st p s short at r = go (sign-of s) short at
+      where
+        go : {s : List ℕ} → Sign s → length s < suc n → At st p s → Rel (λ st′ rs. Common src k₀ st st′ rs × Content src k₀ p st st′ rs) (repeat (patternTurn sub₁) st s) (tail sub₂ s)
+        go end short at = rw (repeat-done (patternTurn sub₁) st [] (ok st [] 0) (turn-nil sub₁ st), tail-nil) (refl, refl, (sym (both-none (st .common)), Content.nothing refl (idle-same src k₀ st)))
+        go (lf t) short at = inline-lf st p t at (omega arith) r
+        go (cr-lf t) short at = inline-crlf st p t at (omega arith) r
+        go (opens t) short at = rel-map (λ st′ rs. (st′ .common ≡ both (placeState st [] 0 .common) (common rust rs)) × Placed p st st′ rs) (λ st′ rs. Common src k₀ st st′ rs × Content src k₀ p st st′ rs) (λ st′ rs x. (rw (place-common st r) at (x .0), Content.something (x .1 .4))) (loop st (123 ∷ t)) (tail sub₂ (123 ∷ t)) (place-claim st p t at (omega arith))
+        go (closes t) short at = rw (repeat-done (patternTurn sub₁) st (125 ∷ t) _ (turn-text sub₁ st 125 t refl r ∙ ap (withText st 0) (slice-is (125 ∷ t) (closes t) refl)), tail-close t) tt
+        go (plain b t x y w v) short at =
+            let m = suc (textRun t) in
+            let e : textRun (b ∷ t) ≡ suc (textRun t) = run-plain b t x y w v in
+            rw (tail-again sub₂ (agree .no-brace) (b ∷ t) (text m ∷ []) m (element-text sub₂ (agree .no-brace) (b ∷ t) (textRun t) e) (omega arith))
+            (rel-map (Text-grown st p 0 m false) (λ st′ rs. Common src k₀ st st′ rs × Content src k₀ p st st′ rs)
+              (λ st′ rs x. (x .0, content m (omega arith) st′ rs (x .2))) (loop st (b ∷ t)) (onward (λ more. text m ∷ more) m (tail sub₂ (drop m (b ∷ t))))
+              (subst (λ k. Rel (Text-grown st p 0 m false) (loop st (b ∷ t)) (onward (λ more. text m ∷ more) k (tail sub₂ (drop m (b ∷ t))))) (zero-add m)
+                (text-follow st p 0 m false (b ∷ t) at r refl (omega arith) (omega arith) e (turn-text sub₁ st b t y r) (λ q. clash {v = false} q refl) (sign-of (drop m (b ∷ t))) refl)))
+          where
+            content : (m : ℕ) → 0 < m → (st′ : State) (rs : List Raw) → (Live src k₀ st st′ (made p rs)) ⊎ ((rs ≡ textRaws false 0 m []) × (all isSpace (take m (drop (k₀ + (p + 0)) src)) ≡ true) × Idle src k₀ st st′) → Content src k₀ p st st′ rs
+            content m h st′ rs (inl x) = Content.something x
+            content m h st′ rs (inr x) = Content.blank m (x .0) h (rw (add-zero p) at (x .1)) (x .2)
+
+    -- lines: a brace behind spaces
+    brace-fits : (s t : List ℕ) {u : Unit {0}} {ms : List Mark} {k : ℕ} → drop (spaces s) s ≡ 123 ∷ t → sub₂ .inline-placeable (123 ∷ t) ≡ fits u ms k → 0 < k → lineTail sub₂ s ≡ onward (λ rs. brace-indent (spaces s) ∷ rs) (spaces s) (tail sub₂ (123 ∷ t))
+    unfolding onLine braceLine textRun isTextAt isTextByte
+    brace-fits s t {u} {ms} {k} d e z =
+        let n = spaces s in
+        line-on-tail sub₂ s 123 t (brace-indent n ∷ placeable ms k ∷ []) [] (n + k) d (rw (onLine, e) refl)
+        ∙ rw (tail-again sub₂ (agree .no-brace) (123 ∷ t) (placeable ms k ∷ []) k (element-placeable sub₂ (agree .no-brace) (123 ∷ t) refl (no-block t) e) z, onward-onward (λ rs. brace-indent n ∷ rs) (λ rs. placeable ms k ∷ rs) n k (tail sub₂ (drop k (123 ∷ t))))
+          (ap (λ r. onward (λ rs. brace-indent n ∷ placeable ms k ∷ rs) (n + k) (tail sub₂ r)) (sym (drop-drop k n s) ∙ ap (drop k) d))
+
+    brace-fails : (s t : List ℕ) → drop (spaces s) s ≡ 123 ∷ t → sub₂ .inline-placeable (123 ∷ t) ≡ fails → lineTail sub₂ s ≡ onward (λ rs. brace-indent (spaces s) ∷ rs) (spaces s) (tail sub₂ (123 ∷ t))
+    unfolding onLine braceLine textRun isTextAt isTextByte onward closed lineEnds eol
+    brace-fails s t d e = line-off-tail sub₂ s 123 t d (rw (onLine, e) refl) ∙ rw (tail-none sub₂ (agree .no-brace) (123 ∷ t) (element-none sub₂ (agree .no-brace) (123 ∷ t) refl (no-block t) e), closing-fails (123 ∷ t) refl) refl
+
+    -- an answer of a line with a brace, unless it is too deep
+    brace-line : (s t : List ℕ) (H : State → List Raw → Type 0) (o : Out State) → drop (spaces s) s ≡ 123 ∷ t → ((k : ℕ) → sub₁ .braced (123 ∷ t) ≡ deep k → (j : ℕ) × (o ≡ deep j))
+        → Rel H o (onward (λ rs. brace-indent (spaces s) ∷ rs) (spaces s) (tail sub₂ (123 ∷ t))) → Rel H o (lineTail sub₂ s)
+    unfolding wrap
+    brace-line s t H o d deeper x = go (sub₁ .braced (123 ∷ t)) refl (takes (123 ∷ t)) (agree .placeables (123 ∷ t))
+      where
+        go : (b : Out (Unit {0})) → sub₁ .braced (123 ∷ t) ≡ b → Takes b → Same nothing (wrap 13 (sub₁ .braced (123 ∷ t))) (sub₂ .inline-placeable (123 ∷ t)) → Rel H o (lineTail sub₂ s)
+        go (ok u ms k) e z h = rw (brace-fits s t d (rw e at h) z) x
+        go (bad f k) e z h = rw (brace-fails s t d (rw e at h)) x
+        go (deep k) e z h = let (j, q) = deeper k e in rw q tt
+
+    line-brace-0 : (st : State) (p : ℕ) (t : List ℕ) → At st p (123 ∷ t) → length t < n → isLineStart (st .role) ≡ true → Line-claim st p (123 ∷ t)
+    unfolding Line-claim spaces run loop withPlaceable Placed common placeState rust Dialect.all
+    line-brace-0 st p t at short r = brace-line (123 ∷ t) t (λ st′ rs. Common src k₀ st st′ rs × Line-content src k₀ p st st′ rs) (repeat (patternTurn sub₁) st (123 ∷ t)) refl
+        (λ k e. (k, repeat-done (patternTurn sub₁) st (123 ∷ t) (deep k) (turn-brace sub₁ st t ∙ ap (withPlaceable st) e)))
+        (rel-here (λ st′ rs. (st′ .common ≡ both (placeState st [] 0 .common) (common rust rs)) × Placed p st st′ rs) (λ st′ rs. Common src k₀ st st′ rs × Line-content src k₀ p st st′ rs) (λ rs. brace-indent 0 ∷ rs)
+          (λ st′ rs x. (?c0, Line-content.something (brace-indent 0) rs refl (live-as src k₀ st st′ (made p rs) (made p (brace-indent 0 ∷ rs)) (λ c. ?l0) (x .1 .4))))
+          (loop st (123 ∷ t)) (tail sub₂ (123 ∷ t)) (place-claim st p t at short))
