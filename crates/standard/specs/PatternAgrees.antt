@@ -87,6 +87,19 @@ crlf-block t b = step 1 refl b
 next-drop : (n : ℕ) (s : List ℕ) (b : ℕ) (t : List ℕ) → drop n s ≡ b ∷ t → drop (n + 1) s ≡ t
 next-drop n s b t d = sym (drop-drop 1 n s) ∙ ap (drop 1) d
 
+-- nothing before a brace
+abbrev openSlice : Slice
+openSlice = record { size = 0; blank = true; ending = placeableStart }
+
+slice-open : (t : List ℕ) → getTextSlice (123 ∷ t) ≡ ok openSlice [] 0
+unfolding textRun isTextAt isTextByte sliceAt isBlank all
+slice-open t = slice-is (123 ∷ t) (opens t) refl
+
+spaced-first : (s : List ℕ) (j : ℕ) → spaces s ≡ suc j → startsWith 123 s ≡ false
+unfolding spaces run startsWith
+spaced-first [] j q = refl
+spaced-first (b ∷ bs) j q = byCase (eqb b 32) (λ r. rw (eqb-true b 32 r) refl) (λ r. absurd (omega (arith, rw (r, run) at q)))
+
 -- the state behind a placeable
 unfoldable placeState : State → List Mark → ℕ → State
 placeState st ms k = record { role = continuation; elements = st .elements ++ (Pattern.placeable (moveUp (st .used) ms) ∷ []); kept = suc (length (st .elements)); common = elim (isLineStart (st .role)) [ true ↦ some 0 | false ↦ st .common ]; used = st .used + k }
@@ -111,8 +124,11 @@ module _ (sub₁ : Pattern.Inside) (sub₂ : Grammar.Inside) (takes : (s : List 
     texts : (st : State) (p : ℕ) (s : List ℕ) → length s < n → At st p s → isLineStart (st .role) ≡ false → Text-claim st p s
     lines : (st : State) (p : ℕ) (s : List ℕ) → length s < n → At st p s → isLineStart (st .role) ≡ true → eol (drop (spaces s) s) ≡ 0 → Line-claim st p s
 
+  here-drop : (st : State) (p k : ℕ) (s : List ℕ) → At st p s → drop (k₀ + (p + k)) src ≡ drop k s
+  here-drop st p k s at = sym (ap (drop k) (sym (at .here)) ∙ drop-drop k (k₀ + p) src ∙ ap (λ j. drop j src) (add-assoc k₀ p k))
+
   at-drop : (st st₁ : State) (p k : ℕ) (s : List ℕ) → At st p s → st₁ .used ≡ st .used + k → At st₁ (p + k) (drop k s)
-  at-drop st st₁ p k s at q = record { used = omega (arith, at .used); here = sym (ap (drop k) (sym (at .here)) ∙ drop-drop k (k₀ + p) src ∙ ap (λ j. drop j src) (add-assoc k₀ p k)) }
+  at-drop st st₁ p k s at q = record { used = omega (arith, at .used); here = here-drop st p k s at }
 
   -- what a text of m bytes behind i spaces adds, with what follows it
   Text-grown : State → ℕ → ℕ → ℕ → Bool → State → List Raw → Type 0
@@ -175,7 +191,7 @@ module _ (sub₁ : Pattern.Inside) (sub₂ : Grammar.Inside) (takes : (s : List 
       sliceOf size ending = record { size = size; blank = isBlank (take m (drop i s)); ending = ending }
 
       behind-indent : drop (k₀ + (p + i)) src ≡ drop i s
-      behind-indent = sym (ap (drop i) (sym (at .here)) ∙ drop-drop i (k₀ + p) src ∙ ap (λ j. drop j src) (add-assoc k₀ p i))
+      behind-indent = here-drop st p i s at
 
       behind-text : drop (k₀ + (p + i + m)) src ≡ drop m (drop i s)
       behind-text = sym (ap (drop m) (sym behind-indent) ∙ drop-drop m (k₀ + (p + i)) src ∙ ap (λ j. drop j src) (add-assoc k₀ (p + i) m))
@@ -293,7 +309,7 @@ module _ (sub₁ : Pattern.Inside) (sub₂ : Grammar.Inside) (takes : (s : List 
           (rel-step (λ st′ rs. Common src k₀ (b .state) st′ rs × Line-content src k₀ (p + (i + k) + v) (b .state) st′ rs) (Text-grown st p i m l) (λ rs. textRaws l i m (behind L rs)) (i + k + v) (i + m + w) (omega arith)
             (λ st′ rs x. go st′ rs (x .0) (x .1))
             (repeat (patternTurn sub₁) (b .state) (drop v s₁)) (lineTail sub₂ (drop v s₁))
-            (ih .lines (b .state) (p + (i + k) + v) (drop v s₁) (omega (arith, length-drop v s₁)) (record { used = b .used; here = at-drop (textState st i (sliceOf size e) k) (record { role = continuation; elements = []; kept = 0; common = none; used = textState st i (sliceOf size e) k .used + v }) (p + (i + k)) v s₁ (subst (At (textState st i (sliceOf size e) k) (p + (i + k))) eq (at-text size k e)) refl .here }) (b .role) stops))
+            (ih .lines (b .state) (p + (i + k) + v) (drop v s₁) (omega (arith, length-drop v s₁)) (record { used = b .used; here = here-drop (textState st i (sliceOf size e) k) (p + (i + k)) v s₁ (subst (At (textState st i (sliceOf size e) k) (p + (i + k))) eq (at-text size k e)) }) (b .role) stops))
         where
           numbers : p + (i + k) + v ≡ p + i + m + width L
           numbers = omega arith
@@ -346,7 +362,7 @@ module _ (sub₁ : Pattern.Inside) (sub₂ : Grammar.Inside) (takes : (s : List 
         (rel-step (λ st′ rs. Common src k₀ (b .state) st′ rs × Line-content src k₀ (p + 1 + v) (b .state) st′ rs) (λ st′ rs. Common src k₀ st st′ rs × Content src k₀ p st st′ rs) (behind L) (1 + v) w num
           (λ st′ rs x. go st′ rs (x .0) (x .1))
           (repeat (patternTurn sub₁) (b .state) (drop v s₁)) (lineTail sub₂ (drop v s₁))
-          (ih .lines (b .state) (p + 1 + v) (drop v s₁) (omega (arith, length-drop v s₁)) (record { used = b .used; here = at-drop st₁ (record { role = continuation; elements = []; kept = 0; common = none; used = st₁ .used + v }) (p + 1) v s₁ at refl .here }) (b .role) stops))
+          (ih .lines (b .state) (p + 1 + v) (drop v s₁) (omega (arith, length-drop v s₁)) (record { used = b .used; here = here-drop st₁ (p + 1) v s₁ at }) (b .role) stops))
       where
         numbers : p + 1 + v ≡ p + width L
         numbers = omega arith
@@ -385,6 +401,10 @@ module _ (sub₁ : Pattern.Inside) (sub₂ : Grammar.Inside) (takes : (s : List 
     place-common : (st : State) → isLineStart (st .role) ≡ false → placeState st [] 0 .common ≡ st .common
     unfolding placeState
     place-common st r = rw (r, placeState) refl
+
+    place-start : (st : State) → isLineStart (st .role) ≡ true → placeState st [] 0 .common ≡ some 0
+    unfolding placeState
+    place-start st r = rw (r, placeState) refl
 
     -- texts: claim by claim
     text-claim : (st : State) (p : ℕ) (s : List ℕ) → length s < suc n → At st p s → isLineStart (st .role) ≡ false → Text-claim st p s
@@ -439,5 +459,88 @@ module _ (sub₁ : Pattern.Inside) (sub₂ : Grammar.Inside) (takes : (s : List 
     line-brace-0 st p t at short r = brace-line (123 ∷ t) t (λ st′ rs. Common src k₀ st st′ rs × Line-content src k₀ p st st′ rs) (repeat (patternTurn sub₁) st (123 ∷ t)) refl
         (λ k e. (k, repeat-done (patternTurn sub₁) st (123 ∷ t) (deep k) (turn-brace sub₁ st t ∙ ap (withPlaceable st) e)))
         (rel-here (λ st′ rs. (st′ .common ≡ both (placeState st [] 0 .common) (common rust rs)) × Placed p st st′ rs) (λ st′ rs. Common src k₀ st st′ rs × Line-content src k₀ p st st′ rs) (λ rs. brace-indent 0 ∷ rs)
-          (λ st′ rs x. (?c0, Line-content.something (brace-indent 0) rs refl (live-as src k₀ st st′ (made p rs) (made p (brace-indent 0 ∷ rs)) (λ c. ?l0) (x .1 .4))))
+          (λ st′ rs x. (x .0 ∙ ap (λ d. both d (common rust rs)) (place-start st r) ∙ both-zero (st .common) (common rust rs), Line-content.something (brace-indent 0) rs refl (live-as src k₀ st st′ (made p rs) (made p (brace-indent 0 ∷ rs)) (λ c. sym (made-brace p 0 rs c ∙ ap (λ q. made q rs c) (add-zero p))) (x .1 .4))))
           (loop st (123 ∷ t)) (tail sub₂ (123 ∷ t)) (place-claim st p t at short))
+
+    brace-indents : (n : ℕ) (rs : List Raw) → common rust (brace-indent (suc n) ∷ rs) ≡ common rust rs
+    unfolding common rust Dialect.all
+    brace-indents n rs = rw (common, eqb·suc-zero) refl
+
+    line-brace : (st : State) (p j : ℕ) (s t : List ℕ) → At st p s → length s < suc n → isLineStart (st .role) ≡ true → spaces s ≡ suc j → drop (spaces s) s ≡ 123 ∷ t → Line-claim st p s
+    unfolding Line-claim loop withPlaceable Placed Reader.after textState roleAfter isLineStart isElement placeState
+    line-brace st p j s t at short r q d =
+        let k = spaces s in
+        let st₁ = textState st k openSlice 0 in
+        let e : drop (k + 0) s ≡ 123 ∷ t = ap (λ i. drop i s) (add-zero k) ∙ d in
+        let reads : repeat (patternTurn sub₁) st s ≡ Reader.after [] (k + 0) (repeat (patternTurn sub₁) st₁ (123 ∷ t)) =
+            repeat-again (patternTurn sub₁) (turn-shrinks sub₁ takes) st s st₁ [] (k + 0) (turn-on sub₁ st s 123 t d (rw q (goesOn-suc j 123 ∙ (unfold isContinuation in refl))) (spaced-first s j q) r ∙ rw (slice-open t) (text-again st k openSlice [] 0)) ∙ rw e refl in
+        let a : At st₁ (p + k) (123 ∷ t) = subst (λ i. At st₁ (p + i) (123 ∷ t)) (add-zero k) (subst (At st₁ (p + (k + 0))) e (at-drop st st₁ p (k + 0) s at refl)) in
+        let same : st₁ .common ≡ st .common = blank-common st k 0 openSlice refl in
+        let ps = passed-none src k₀ st st₁ refl (blank-kept st k 0 openSlice refl) in
+        brace-line s t (λ st′ rs. Common src k₀ st st′ rs × Line-content src k₀ p st st′ rs) (repeat (patternTurn sub₁) st s) d
+        (λ i z. (k + 0 + i, reads ∙ ap (Reader.after [] (k + 0)) (repeat-done (patternTurn sub₁) st₁ (123 ∷ t) (deep i) (turn-brace sub₁ st₁ t ∙ ap (withPlaceable st₁) z))))
+        (rw reads (rel-step (λ st′ rs. (st′ .common ≡ both (placeState st₁ [] 0 .common) (common rust rs)) × Placed (p + k) st₁ st′ rs) (λ st′ rs. Common src k₀ st st′ rs × Line-content src k₀ p st st′ rs) (λ rs. brace-indent k ∷ rs) (k + 0) k (add-zero k)
+          (λ st′ rs x. (x .0 ∙ ap (λ z. both z (common rust rs)) same ∙ ap (both (st .common)) (sym (ap (λ z. common rust (brace-indent z ∷ rs)) q ∙ brace-indents j rs)), Line-content.something (brace-indent k) rs refl (live-as src k₀ st st′ (made (p + k) rs) (made p (brace-indent k ∷ rs)) (λ c. sym (made-brace p k rs c)) (ps .live (x .1 .4)))))
+          (loop st₁ (123 ∷ t)) (tail sub₂ (123 ∷ t)) (place-claim st₁ (p + k) t a (omega (arith, ap length d, length-drop k s)))))
+
+    -- a line that does not go on, or the end
+    line-stops : (st : State) (p : ℕ) (s : List ℕ) (k : ℕ) → repeat (patternTurn sub₁) st s ≡ ok st [] k → lineTail sub₂ s ≡ fits [] [] k → Line-claim st p s
+    unfolding Line-claim common
+    line-stops st p s k e f = rw (e, f) (refl, refl, (sym (both-none (st .common)), Line-content.nothing refl (idle-same src k₀ st)))
+
+    end-first : (s : List ℕ) → drop (spaces s) s ≡ [] → startsWith 123 s ≡ false
+    unfolding spaces run startsWith
+    end-first [] d = refl
+    end-first (b ∷ bs) d = byCase (eqb b 123) (λ r. let z : b ∷ bs ≡ [] = rw (run, other b r) at d in let y : _≡_ {A = ℕ} 0 1 = cc in absurd (omega arith)) (λ r. r)
+      where
+        other : (b : ℕ) → eqb b 123 ≡ true → eqb b 32 ≡ false
+        other b r = rw (eqb-true b 123 r) refl
+
+    line-end-claim : (st : State) (p : ℕ) (s : List ℕ) → isLineStart (st .role) ≡ true → drop (spaces s) s ≡ [] → Line-claim st p s
+    unfolding spaces run
+    line-end-claim st p [] r d = line-stops st p [] 0 (repeat-done (patternTurn sub₁) st [] (ok st [] 0) (turn-nil sub₁ st)) (line-end-tail sub₂ [] refl)
+    line-end-claim st p (b ∷ bs) r d = line-stops st p (b ∷ bs) (spaces (b ∷ bs)) (repeat-done (patternTurn sub₁) st (b ∷ bs) (ok st [] (spaces (b ∷ bs))) (turn-end sub₁ st (b ∷ bs) d (end-first (b ∷ bs) d) (omega arith) r)) (line-end-tail sub₂ (b ∷ bs) d)
+
+    -- the byte behind the spaces is no space
+    behind-spaces : (s : List ℕ) (c : ℕ) (cs : List ℕ) → drop (spaces s) s ≡ c ∷ cs → eqb c 32 ≡ false
+    unfolding spaces run
+    behind-spaces [] c cs d = let y : _≡_ {A = ℕ} 0 1 = cc in absurd (omega arith)
+    behind-spaces (b ∷ bs) c cs d = byCase (eqb b 32) (λ q. behind-spaces bs c cs (rw (q, run) at d)) (λ q. let z : b ∷ bs ≡ c ∷ cs = rw (q, run) at d in let y : b ≡ c = cc in ap (λ x. eqb x 32) (sym y) ∙ q)
+
+    line-on : (st : State) (p : ℕ) (s : List ℕ) (c : ℕ) (cs : List ℕ) → At st p s → length s < suc n → isLineStart (st .role) ≡ true → drop (spaces s) s ≡ c ∷ cs → eol (c ∷ cs) ≡ 0 → eqb c 123 ≡ false → goesOn (spaces s) c ≡ true → Line-claim st p s
+    unfolding Line-claim loop onLine textRaws Text-grown isSpace isBlank
+    line-on st p s c cs at short r d e q g =
+        let k = spaces s in
+        let m = suc (textRun cs) in
+        let run-is : textRun (c ∷ cs) ≡ suc (textRun cs) = run-on k c cs e q g in
+        let vis : isBlank (take m (drop k s)) ≡ false = rw d (unfold isBlank all in (rw (behind-spaces s c cs d) refl)) in
+        rw (line-on-tail sub₂ s c cs (indent k ∷ text m ∷ []) [] (k + m) d (rw (onLine, q, g, run-is) refl))
+        (rel-map (Text-grown st p k m true) (λ st′ rs. Common src k₀ st st′ rs × Line-content src k₀ p st st′ rs)
+          (λ st′ rs x. (x .0, content m st′ rs (rw (here-drop st p k s at) vis) (x .1) (x .2))) (loop st s) (onward (λ more. indent k ∷ text m ∷ more) (k + m) (tail sub₂ (drop (k + m) s)))
+          (subst (λ z. Rel (Text-grown st p k m true) (loop st s) (onward (λ more. indent k ∷ text m ∷ more) (k + m) (tail sub₂ z))) (drop-drop m k s)
+            (text-follow st p k m true s at r tt (omega arith) (omega arith) (ap textRun d ∙ run-is) (turn-on sub₁ st s c cs d g (no-brace-first s c cs d q) r ∙ rw d refl) (λ z. vis) (sign-of (drop m (drop k s))) refl)))
+      where
+        content : (m : ℕ) (st′ : State) (rs : List Raw) → all isSpace (take m (drop (k₀ + (p + spaces s)) src)) ≡ false → ((more : List Raw) × (rs ≡ textRaws true (spaces s) m more))
+            → (Live src k₀ st st′ (made p rs)) ⊎ ((rs ≡ textRaws true (spaces s) m []) × (all isSpace (take m (drop (k₀ + (p + spaces s)) src)) ≡ true) × Idle src k₀ st st′) → Line-content src k₀ p st st′ rs
+        content m st′ rs v (more, w) (inl x) = Line-content.something (indent (spaces s)) (text m ∷ more) w x
+        content m st′ rs v w (inr x) = clash (x .1) v
+
+    line-claim : (st : State) (p : ℕ) (s : List ℕ) → length s < suc n → At st p s → isLineStart (st .role) ≡ true → eol (drop (spaces s) s) ≡ 0 → Line-claim st p s
+    unfolding onLine
+    line-claim st p s short at r e = go (drop (spaces s) s) refl e
+      where
+        go : (q : List ℕ) → drop (spaces s) s ≡ q → eol q ≡ 0 → Line-claim st p s
+        go [] d z = line-end-claim st p s r d
+        go (c ∷ cs) d z = byCase (eqb c 123)
+            (λ w. brace (spaces s) refl (d ∙ ap (λ x. x ∷ cs) (eqb-true c 123 w)))
+            (λ w. byCase (goesOn (spaces s) c) (λ g. line-on st p s c cs at short r d z w g)
+              (λ g. line-stops st p s 0 (repeat-done (patternTurn sub₁) st s (ok st [] 0) (turn-off sub₁ st s c cs d g (no-brace-first s c cs d w) r)) (line-off-tail sub₂ s c cs d (rw (onLine, w, g) refl) ∙ rw w refl)))
+          where
+            brace : (j : ℕ) → spaces s ≡ j → drop (spaces s) s ≡ 123 ∷ cs → Line-claim st p s
+            brace zero q f = let v : s ≡ 123 ∷ cs = rw q at f in subst (Line-claim st p) (sym v) (line-brace-0 st p cs (subst (At st p) v at) (omega (arith, ap length v)) r)
+            brace (suc j) q f = line-brace st p j s cs at short r q f
+
+  -- all sources
+  claims : (n : ℕ) → Shorter n
+  claims zero = record { texts = λ st p s l. absurd (not-suc-le-zero l); lines = λ st p s l. absurd (not-suc-le-zero l) }
+  claims (suc n) = record { texts = text-claim n (claims n); lines = line-claim n (claims n) }
