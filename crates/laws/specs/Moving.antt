@@ -82,7 +82,7 @@ upError-twice k j e i = record { fault = upFault-twice k j (e .fault) i; junkFro
 pub upErrors-twice : (k j : ℕ) (es : List Error) → map (upError k) (map (upError j) es) ≡ map (upError (k + j)) es
 upErrors-twice k j es = map-twice (upError k) (upError j) (upError (k + j)) (upError-twice k j) es
 
-marks-after : (ms : List Mark) (k : ℕ) (ns : List Mark) (j : ℕ) (os : List Mark) → ms ++ moveUp k (ns ++ moveUp j os) ≡ (ms ++ moveUp k ns) ++ moveUp (k + j) os
+pub marks-after : (ms : List Mark) (k : ℕ) (ns : List Mark) (j : ℕ) (os : List Mark) → ms ++ moveUp k (ns ++ moveUp j os) ≡ (ms ++ moveUp k ns) ++ moveUp (k + j) os
 marks-after ms k ns j os = ap (λ r. ms ++ r) (moveUp-append k ns (moveUp j os) ∙ ap (λ r. moveUp k ns ++ r) (moveUp-twice k j os)) ∙ sym (append-assoc ms (moveUp k ns) (moveUp (k + j) os))
 
 pub after-after : {A : Type 0} (ms : List Mark) (k : ℕ) (ns : List Mark) (j : ℕ) (o : Out A) → after ms k (after ns j o) ≡ after (ms ++ moveUp k ns) (k + j) o

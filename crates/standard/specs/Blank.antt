@@ -1,24 +1,26 @@
 -- Blanks, by counts: what the reading and the grammar skip, and that to skip twice is to skip once.
 use Prim.Native.Nat.{ℕ, zero, suc, _+_, _≤_, _<_}
-use native.Mathlib.Nat.{not-suc-le-zero}
+use native.Mathlib.Nat.{not-suc-le-zero, zero-add, add-zero, add-assoc}
 use native.Mathlib.Omega.{arith}
 use mathlib.Core.Path.{_≡_, refl, sym, ap, _∙_, subst}
 use mathlib.Core.Bool.{Bool, true, false, _||_}
-use mathlib.Core.List.{List, [], _∷_}
+use mathlib.Core.List.{List, [], _∷_, map}
 use lib.ListN.{drop, length, length-drop}
 use lib.Seq.{drop-drop}
 use lib.Dec.{eqb, ltb}
-use borrow.Author.Tests.{eqb-true}
+use borrow.Author.Tests.{eqb-true, eqb-false}
 use Rattle.syntax.specs.Bytes.{starts, startsWith, run, spaces, eol}
-use Rattle.syntax.specs.Marks.{moveUp}
+use Rattle.syntax.specs.Marks.{up, moveUp}
 use Rattle.syntax.specs.Reader as Reader
 use Rattle.syntax.specs.Reader.{ok, loop, repeat}
 use Rattle.syntax.specs.Helper.{blankTurn, skipBlank}
 use Rattle.laws.specs.Bytes.{byCase, clash}
+use Rattle.laws.specs.Moving.{moveUp-nil}
 use Rattle.standard.specs.Peg as Peg
-use Rattle.standard.specs.Steps.{some-run, first, second, turns-on, turns-end, turns-still, opt-fits, opt-fails, void-fits, void-fails, some-fits, some-fails, byte-fits, byte-fails, then-fits, then-fails, after-fails}
-use Rattle.standard.specs.Peg.{fits, fails, _/_, opt, many, some, turns, one, byte, sized, void, eof, _>>=_, _>>_}
-use Rattle.standard.specs.Lexical.{line-end, blank-inline, blank-inline?, blank, blank?}
+use Rattle.standard.specs.Steps.{some-run, first, second, turns-on, turns-end, turns-still, opt-fits, opt-fails, void-fits, void-fails, some-fits, some-fails, byte-fits, byte-fails, then-fits, then-fails, after-fails, bind-fits, bind-fails, turns-more}
+use Rattle.standard.specs.Peg.{fits, fails, Parser, _/_, opt, many, some, turns, one, byte, sized, void, eof, _>>=_, _>>_, Answer, withFirst}
+use Rattle.standard.specs.Abstract.{Line}
+use Rattle.standard.specs.Lexical.{line-end, blank-inline, blank-inline?, blank, blank?, blank-line, blank-block}
 
 -- a byte that is a blank, by what follows it: a space, a newline, or a CR before a newline
 unfoldable pub isBlankAt : ℕ → List ℕ → Bool
@@ -214,3 +216,78 @@ over-over s k = rw (← drop-drop (blanks (drop k s)) k s) (omega (arith, no-bla
 pub drop-over : (s : List ℕ) (k : ℕ) → drop (blanks (drop k s)) (drop k s) ≡ drop (over s k) s
 unfolding over
 drop-over s k = drop-drop (blanks (drop k s)) k s
+
+pub reader-skips : {A : Type 0} (q : Reader.Reader A) (s : List ℕ) → (Reader._>>_ skipBlank q) s ≡ Reader.after [] (blanks s) (q (drop (blanks s) s))
+unfolding Reader._>>_ Reader.next
+reader-skips q s = rw (skipBlank-is s, Reader._>>_) refl
+
+pub parser-skips : {A : Type 0} (q : Parser A) (s : List ℕ) → (blank? >> q) s ≡ Peg.after [] (blanks s) (q (drop (blanks s) s))
+parser-skips q s = then-fits blank? q s (blank?-is s)
+
+pub over-none : (s : List ℕ) → over s 0 ≡ blanks s
+unfolding over
+over-none s = zero-add (blanks s)
+
+pub over-blanks : (s : List ℕ) → over s (blanks s) ≡ blanks s
+unfolding over
+over-blanks s = omega (arith, no-blanks s)
+
+-- Blank lines ---------------------------------------------------------------------------------------------------------------------------------
+
+-- a line that is blank
+pub line-is : (s : List ℕ) → lineEnds (drop (spaces s) s) ≡ true → blank-line s ≡ fits (record { spaces = spaces s; ending = eol (drop (spaces s) s) }) [] (spaces s + eol (drop (spaces s) s))
+unfolding blank-line Peg.after Peg.pure moveUp
+line-is s e = bind-fits (opt 0 blank-inline) _ s (opt-inline s) ∙ ap (Peg.after [] (spaces s)) (bind-fits line-end _ (drop (spaces s) s) (line-end-is (drop (spaces s) s) e))
+    ∙ ap (λ k. fits (record { spaces = spaces s; ending = eol (drop (spaces s) s) }) [] (spaces s + k)) (add-zero (eol (drop (spaces s) s)))
+
+pub no-line : (s : List ℕ) → lineEnds (drop (spaces s) s) ≡ false → blank-line s ≡ fails
+unfolding blank-line
+no-line s e = bind-fits (opt 0 blank-inline) _ s (opt-inline s) ∙ after-fails [] (spaces s) (bind-fails line-end _ (drop (spaces s) s) (no-line-end (drop (spaces s) s) e))
+
+-- k bytes that are blanks
+abbrev pub Blanked : List ℕ → ℕ → Type 0
+Blanked s k = k + blanks (drop k s) ≡ blanks s
+
+blanked-on : (s : List ℕ) (k j : ℕ) → Blanked s k → Blanked (drop k s) j → Blanked s (k + j)
+blanked-on s k j h l = ap (λ r. k + j + blanks r) (sym (drop-drop j k s)) ∙ add-assoc k j (blanks (drop j (drop k s))) ∙ ap (λ n. k + n) l ∙ h
+
+line-blanked : (s : List ℕ) → Blanked s (spaces s + eol (drop (spaces s) s))
+line-blanked s = blanked-on s (spaces s) (eol (drop (spaces s) s)) (blanks-on (spaces s) s (spaces-blanks s)) (blanks-on (eol (drop (spaces s) s)) (drop (spaces s) s) (eol-blanks (drop (spaces s) s)))
+
+-- blank lines are blanks
+abbrev pub Lines : List ℕ → Answer (List Line) → Type 0
+Lines s (fits ls ms k) = (ms ≡ []) × Blanked s k
+Lines s fails = ⊥
+
+lines-on : (s : List ℕ) (l : Line) (k : ℕ) (a : Answer (List Line)) → Blanked s k → Lines (drop k s) a → Lines s (withFirst l (Peg.after [] k a))
+unfolding withFirst Peg.after moveUp
+lines-on s l k (fits ls ms j) h (m , b) = (ap (map (up k)) m, blanked-on s k j h b)
+lines-on s l k fails h b = b
+
+lines-turns : (n : ℕ) (s : List ℕ) → Lines s (turns n blank-line s)
+unfolding turns
+lines-turns zero s = (refl, zero-add (blanks s))
+lines-turns (suc n) s = byCase (lineEnds (drop (spaces s) s))
+    (λ e. byCase (eqb (spaces s + eol (drop (spaces s) s)) 0)
+      (λ z. rw (turns-still (suc n) blank-line s (line-is s e ∙ ap (fits (record { spaces = spaces s; ending = eol (drop (spaces s) s) }) []) (eqb-true (spaces s + eol (drop (spaces s) s)) 0 z))) (refl, zero-add (blanks s)))
+      (λ z. rw (turns-more n blank-line s (line-is s e) (omega (arith, eqb-false (spaces s + eol (drop (spaces s) s)) 0 z)))
+        (lines-on s (record { spaces = spaces s; ending = eol (drop (spaces s) s) }) (spaces s + eol (drop (spaces s) s)) (turns n blank-line (drop (spaces s + eol (drop (spaces s) s)) s)) (line-blanked s) (lines-turns n (drop (spaces s + eol (drop (spaces s) s)) s)))))
+    (λ e. rw (turns-end (suc n) blank-line s (no-line s e)) (refl, zero-add (blanks s)))
+
+pub ends-spaces : (s : List ℕ) → lineEnds s ≡ true → spaces s ≡ 0
+unfolding lineEnds eol spaces run startsWith
+ends-spaces s e = go (blank-of s) e
+  where
+    go : {s : List ℕ} → Blank s → lineEnds s ≡ true → spaces s ≡ 0
+    go (space s) h = clash h refl
+    go (lf s) h = refl
+    go (crlf s) h = refl
+    go {s} (none d f) h = no-spaces s d
+
+pub block-lines : (s : List ℕ) → lineEnds (drop (spaces s) s) ≡ true → Lines s (blank-block s)
+unfolding blank-block many
+block-lines s e = go (many blank-line (drop (spaces s + eol (drop (spaces s) s)) s)) refl (lines-turns (length (drop (spaces s + eol (drop (spaces s) s)) s)) (drop (spaces s + eol (drop (spaces s) s)) s))
+  where
+    go : (a : Answer (List Line)) → many blank-line (drop (spaces s + eol (drop (spaces s) s)) s) ≡ a → Lines (drop (spaces s + eol (drop (spaces s) s)) s) a → Lines s (blank-block s)
+    go (fits ls ms j) h (m , b) = rw (some-fits blank-line s (line-is s e) h) (ap (moveUp (spaces s + eol (drop (spaces s) s))) m ∙ moveUp-nil (spaces s + eol (drop (spaces s) s)), blanked-on s (spaces s + eol (drop (spaces s) s)) j (line-blanked s) b)
+    go fails h b = absurd b

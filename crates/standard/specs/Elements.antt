@@ -17,13 +17,13 @@ use Rattle.standard.specs.Dialect as Dialect
 use Rattle.standard.specs.Dialect.{rust}
 use Rattle.standard.specs.Peg as Peg
 use Rattle.standard.specs.Peg.{Answer, fits, fails, Parser, many, some, withFirst, pure, opt, _>>=_, _>>_, _/_, ahead, bar, void, given, sized, byte, one, eof, _but_}
-use Rattle.standard.specs.Steps.{bind-fits, bind-fails, then-fits, then-fails, first, second, some-fails, void-fits, byte-fits, byte-fails, opt-fits, opt-fails, after-fails}
+use Rattle.standard.specs.Steps.{bind-fits, bind-fails, then-fits, then-fails, first, second, some-fails, void-fits, byte-fits, byte-fails, opt-fits, opt-fails, after-fails, ahead-fits, ahead-fails}
 use Rattle.standard.specs.Abstract.{Line, Raw, text, lines, indent, brace-indent, placeable}
 use Rattle.standard.specs.Lexical.{line-end, blank-inline, blank-inline?, blank-line, blank-block, any-char, special-text-char, text-char, indented-char, inline-text, indented-text, cr-text, block-brace}
 use Rattle.standard.specs.Grammar as Grammar
 use Rattle.standard.specs.Grammar.{Inside, rawPlaceable, flat, block-text, raw-placeable, block-placeable, PatternElement}
 use Rattle.standard.specs.Blank.{lineEnds, line-end-is, no-line-end, opt-inline, blank-inline?-is}
-use Rattle.standard.specs.Turns.{AtEnd, many-again, many-none, sized-fits, sized-fails, ahead-fits, ahead-fails, bar-fits, bar-fails}
+use Rattle.standard.specs.Turns.{AtEnd, many-again, many-none, sized-fits, sized-fails, bar-fits, bar-fails}
 use Rattle.standard.specs.Texts.{Sign, end, lf, cr-lf, opens, closes, plain, sign-of, isTextAt, textRun, run-plain, text-char-plain, inline-text-some, inline-text-none}
 use Rattle.standard.specs.Blocks.{Block, step, block-stops, lines-many, lines-end, block-many, line-fails}
 

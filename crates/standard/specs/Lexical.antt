@@ -5,7 +5,7 @@ use Prim.Native.Nat.{ℕ}
 use mathlib.Core.Bool.{true}
 use mathlib.Core.List.{List, [], _∷_}
 use Rattle.syntax.specs.Bytes.{isLetter, isDigit, isNamePart, isHex}
-use Rattle.standard.specs.Peg.{Parser, pure, _>>=_, _>>_, _/_, opt, many, some, bar, _but_, one, eof, void, sized, in-node, as-text}
+use Rattle.standard.specs.Peg.{Parser, pure, _>>=_, _>>_, _/_, opt, many, some, times, bar, _but_, one, eof, void, sized, in-node, as-text}
 use Rattle.standard.specs.Signs.{LF, CR, space, quote, hash, dollar, star, minus, dot, open-bracket, letter-U, backslash, close-bracket, letter-u, open-brace, close-brace}
 use Rattle.standard.specs.Kinds.{junk-text, name-text, number-key, name-key, number-text, variable-node}
 use Rattle.standard.specs.Abstract.{Item, junk, Line, Raw, text, lines, indent, Form, number, variable}
@@ -51,11 +51,8 @@ unfoldable pub special-quoted-char : Parser (Unit {0})
 special-quoted-char = quote / backslash
 
 -- unicode_escape = "\u" [0-9a-fA-F]{4} / "\U" [0-9a-fA-F]{6}
-unfoldable pub four-hex : Parser (Unit {0})
-four-hex = one isHex >> one isHex >> one isHex >> one isHex
-
 unfoldable pub unicode-escape : Parser (Unit {0})
-unicode-escape = (backslash >> letter-u >> four-hex) / (backslash >> letter-U >> four-hex >> one isHex >> one isHex)
+unicode-escape = (backslash >> letter-u >> times 4 (one isHex)) / (backslash >> letter-U >> times 6 (one isHex))
 
 -- special_text_char = "{" / "}"
 unfoldable pub special-text-char : Parser (Unit {0})

@@ -18,3 +18,8 @@ pub mod PatternTurns
 pub mod Growth
 pub mod BlankLines
 pub mod PatternAgrees
+pub mod Near
+pub mod Words
+pub mod Inline
+pub mod Arguments
+pub mod Select

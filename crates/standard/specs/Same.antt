@@ -2,26 +2,29 @@
 -- says that a whole file is refused, so that nothing is asked of the grammar there.
 use Prim.Native.Nat.{ℕ, _+_}
 use native.Mathlib.Omega.{arith}
+use native.Mathlib.Nat.{add-zero}
 use mathlib.Core.Path.{_≡_, refl, sym, ap, ap₂, _∙_, subst, subst₂}
 use mathlib.Core.Bool.{Bool, true, false}
-use mathlib.Core.List.{List, [], _∷_, _++_}
+use mathlib.Core.List.{List, [], _∷_, _++_, append-nil}
 use lib.ListN.{drop, take}
-use lib.Dec.{eqb}
+use lib.Seq.{drop-drop}
 use Rattle.syntax.specs.Kind as Kind
-use Rattle.syntax.specs.Bytes.{starts, startsWith}
-use Rattle.syntax.specs.Marks.{Mark, moveUp}
+use Rattle.syntax.specs.Bytes.{startsWith}
+use Rattle.syntax.specs.Marks.{Mark, plain, up, moveUp, node}
 use Rattle.syntax.specs.declared.errors.ErrorKind.{ErrorKind}
+use Rattle.syntax.specs.declared.errors.ErrorKind.the-variants.{ExpectedToken}
+use Rattle.syntax.specs.Errors.{faultAt}
 use Rattle.syntax.specs.Reader as Reader
 use Rattle.syntax.specs.Reader.{Out, ok, bad, deep, Reader, wrap, inNode}
 use Rattle.syntax.specs.Helper.{skipBlank, skipBlankInline, expectByte, asText}
 use Rattle.syntax.specs.Pattern as Pattern
 use Rattle.syntax.specs.Pattern.{getPattern}
 use Rattle.laws.specs.Bytes.{byCase}
-use Rattle.laws.specs.Moving.{moveUp-twice}
+use Rattle.laws.specs.Moving.{map-append, after-after, moveUp-twice, moveUp-nil}
 use Rattle.standard.specs.Dialect.{rust}
 use Rattle.standard.specs.Peg as Peg
-use Rattle.standard.specs.Peg.{Answer, fits, fails, Parser, _/_, one, byte, in-node, as-text, ahead, void}
-use Rattle.standard.specs.Steps.{first, second, text-fits, text-fails}
+use Rattle.standard.specs.Peg.{Answer, fits, fails, Parser, _/_, byte, in-node, as-text, ahead, void}
+use Rattle.standard.specs.Steps.{Uses, byte-fits, byte-fails, first, second, text-fits, text-fails}
 use Rattle.standard.specs.Lexical.{line-end, blank?, blank-inline?, blank-block}
 use Rattle.standard.specs.Grammar as Grammar
 use Rattle.standard.specs.Blank.{blanks, skipBlank-is, blank?-is, blank-inline?-is}
@@ -40,10 +43,11 @@ nothing a = tt
 pub record Matches {A B : Type 0} (f : A → B) (p : Reader A) (q : Parser B) : Type 0 where
   pub same : (s : List ℕ) → Same f (p s) (q s)
 
--- Agreement of what stands in one more "{" or "(". Parsers fail where there is none
+-- Agreement of what stands in one more "{" or "(". Parsers fail where there is none, and use a byte
 pub record Agree (sub₁ : Pattern.Inside) (sub₂ : Grammar.Inside) : Type 0 where
   pub placeables : (s : List ℕ) → Same nothing (wrap Kind.placeable (sub₁ .braced s)) (sub₂ .inline-placeable s)
   pub arguments : (s : List ℕ) → Same nothing ((Reader._>>_ skipBlank (sub₁ .parenthesised)) s) (sub₂ .CallArguments s)
+  pub uses-brace : (s : List ℕ) → Uses (sub₂ .inline-placeable s)
   pub no-brace : (s : List ℕ) → startsWith 123 s ≡ false → sub₂ .inline-placeable s ≡ fails
   pub no-parenthesis : (s : List ℕ) → startsWith 40 (drop (blanks s) s) ≡ false → sub₂ .CallArguments s ≡ fails
 
@@ -96,14 +100,55 @@ pub same-fail : {A B : Type 0} (f : A → B) (k : ErrorKind) → Matches f (Read
 unfolding Reader.fail Peg.never
 same-fail f k = record { same = λ s. refl }
 
+-- readers step by step
+module _ {A B : Type 0} where
+  pub reads-then : (p : Reader A) (q : Reader B) (s : List ℕ) {a : A} {ms : List Mark} {k : ℕ} → p s ≡ ok a ms k → (Reader._>>_ p q) s ≡ Reader.after ms k (q (drop k s))
+  unfolding Reader._>>_ Reader.next
+  reads-then p q s e = rw (e, Reader._>>_) refl
+
+  pub reads-bind : (p : Reader A) (q : A → Reader B) (s : List ℕ) {a : A} {ms : List Mark} {k : ℕ} → p s ≡ ok a ms k → (Reader._>>=_ p q) s ≡ Reader.after ms k (q a (drop k s))
+  unfolding Reader._>>=_ Reader.next
+  reads-bind p q s e = rw (e, Reader._>>=_) refl
+
+  pub reads-after : (s : List ℕ) (q : A → Reader B) (ms : List Mark) (k : ℕ) (o : Out A) → Reader.next s q (Reader.after ms k o) ≡ Reader.after ms k (Reader.next (drop k s) q o)
+  unfolding Reader.next Reader.after
+  reads-after s q ms k (ok a ns j) = ap (λ r. Reader.after (ms ++ moveUp k ns) (k + j) (q a r)) (sym (drop-drop j k s)) ∙ sym (after-after ms k ns j (q a (drop j (drop k s))))
+  reads-after s q ms k (bad e j) = refl
+  reads-after s q ms k (deep j) = refl
+
+-- which two of three readers are put together first
+pub reads-assoc : {A B C : Type 0} (p : Reader A) (q : Reader B) (w : Reader C) (s : List ℕ) → (Reader._>>_ p (Reader._>>_ q w)) s ≡ (Reader._>>_ (Reader._>>_ p q) w) s
+unfolding Reader._>>_
+reads-assoc {A} p q w s = go (p s)
+  where
+    go : (o : Out A) → Reader.next s (λ _ r. Reader.next r (λ _. w) (q r)) o ≡ Reader.next s (λ _. w) (Reader.next s (λ _. q) o)
+    go (ok a ms k) = unfold Reader.next in (sym (reads-after s (λ _. w) ms k (q (drop k s))))
+    go (bad e k) = unfold Reader.next in refl
+    go (deep k) = unfold Reader.next in refl
+
+pub reads-skip : {A : Type 0} (ms : List Mark) (k j : ℕ) (o : Out A) → Reader.after ms k (Reader.after [] j o) ≡ Reader.after ms (k + j) o
+reads-skip ms k j o = after-after ms k [] j o ∙ ap (λ ns. Reader.after (ms ++ ns) (k + j) o) (moveUp-nil k) ∙ ap (λ ns. Reader.after ns (k + j) o) (append-nil ms)
+
+-- another value
+pub ok-pure : {A : Type 0} (x : A) (ms : List Mark) (k : ℕ) → Reader.after ms k (ok x [] 0) ≡ ok x ms k
+unfolding Reader.after moveUp
+ok-pure x ms k = ap₂ (ok x) (append-nil ms) (add-zero k)
+
+pub fits-pure : {A : Type 0} (x : A) (ms : List Mark) (k : ℕ) → Peg.after ms k (fits x [] 0) ≡ fits x ms k
+unfolding Peg.after moveUp
+fits-pure x ms k = ap₂ (fits x) (append-nil ms) (add-zero k)
+
+pub expects : (b : ℕ) (s : List ℕ) → startsWith b s ≡ true → expectByte b s ≡ ok tt [] 1
+unfolding expectByte
+expects b s e = rw (e, expectByte) refl
+
+pub refuses : (b : ℕ) (s : List ℕ) → startsWith b s ≡ false → expectByte b s ≡ bad (faultAt (ExpectedToken b) 0) 0
+unfolding expectByte Reader.fail
+refuses b s e = rw (e, expectByte) refl
+
 -- a byte that has to be there
 pub same-byte : (b : ℕ) → Matches nothing (expectByte b) (byte b)
-unfolding expectByte byte one starts startsWith Reader.fail
-same-byte b = record { same = go }
-  where
-    go : (s : List ℕ) → Same nothing (expectByte b s) (byte b s)
-    go [] = refl
-    go (x ∷ xs) = byCase (eqb x b) (λ q. rw (q, expectByte, byte, one) refl) (λ q. rw (q, expectByte, byte, one) refl)
+same-byte b = record { same = λ s. byCase (startsWith b s) (λ e. rw (expects b s e) (byte-fits b s e)) (λ e. rw (refuses b s e) (byte-fails b s e)) }
 
 -- marks put in a node
 pub same-wrap : {A B : Type 0} (f : A → B) (kind : ℕ) (o : Out A) (p : Parser B) (s : List ℕ) → Same f o (p s) → Same f (wrap kind o) (in-node kind p s)
@@ -111,6 +156,17 @@ unfolding wrap in-node
 same-wrap f kind (ok x ms k) p s h = rw (h, in-node) refl
 same-wrap f kind (bad e k) p s h = rw (h, in-node) refl
 same-wrap f kind (deep k) p s h = tt
+
+-- a node k bytes on
+pub node-up : (k kind : ℕ) (ms : List Mark) → moveUp k (node kind ms) ≡ node kind (moveUp k ms)
+unfolding node moveUp
+node-up k kind ms = ap (λ r. plain kind ∷ r) (map-append (up k) ms (plain (Kind.closing kind) ∷ []))
+
+pub wrap-after : {A : Type 0} (k kind : ℕ) (o : Out A) → Reader.after [] k (wrap kind o) ≡ wrap kind (Reader.after [] k o)
+unfolding Reader.after wrap
+wrap-after k kind (ok x ms j) = ap (λ r. ok x r (k + j)) (node-up k kind ms)
+wrap-after k kind (bad e j) = refl
+wrap-after k kind (deep j) = refl
 
 pub inside-node : {A B : Type 0} {f : A → B} {p : Reader A} {q : Parser B} (kind : ℕ) → Matches f p q → Matches f (inNode kind p) (in-node kind q)
 unfolding inNode

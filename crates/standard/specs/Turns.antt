@@ -13,7 +13,7 @@ use Rattle.syntax.specs.Reader as Reader
 use Rattle.syntax.specs.Reader.{Out, ok, bad, deep, Reader, Turn, again, done, loop, repeat}
 use Rattle.laws.specs.Bytes.{byCase}
 use Rattle.standard.specs.Peg as Peg
-use Rattle.standard.specs.Peg.{Answer, fits, fails, Parser, many, some, turns, withFirst, pure, _>>=_, sized, ahead, bar}
+use Rattle.standard.specs.Peg.{Answer, fits, fails, Parser, many, some, turns, withFirst, pure, _>>=_, sized, bar}
 use Rattle.standard.specs.Steps.{bind-fits, bind-fails, some-fits}
 
 -- a turn that goes on leaves less
@@ -116,14 +116,6 @@ module _ {A : Type 0} (p : Parser A) (s : List ℕ) where
   unfolding sized
   sized-fails e = rw (e, sized) refl
 
-  pub ahead-fits : {a : A} {ms : List Mark} {k : ℕ} → p s ≡ fits a ms k → ahead p s ≡ fits tt [] 0
-  unfolding ahead
-  ahead-fits e = rw (e, ahead) refl
-
-  pub ahead-fails : p s ≡ fails → ahead p s ≡ fails
-  unfolding ahead
-  ahead-fails e = rw (e, ahead) refl
-
   pub bar-fits : {a : A} {ms : List Mark} {k : ℕ} → p s ≡ fits a ms k → bar p s ≡ fails
   unfolding bar
   bar-fits e = rw (e, bar) refl
@@ -131,3 +123,33 @@ module _ {A : Type 0} (p : Parser A) (s : List ℕ) where
   pub bar-fails : p s ≡ fails → bar p s ≡ fits tt [] 0
   unfolding bar
   bar-fails e = rw (e, bar) refl
+
+-- no marks
+abbrev pub Plain : {A : Type 0} → Answer A → Type 0
+Plain (fits a ms k) = ms ≡ []
+Plain fails = Unit {0}
+
+pub plain-after : {A : Type 0} (k : ℕ) (a : Answer A) → Plain a → Plain (Peg.after [] k a)
+unfolding Peg.after moveUp
+plain-after k (fits a ms j) h = rw h refl
+plain-after k fails h = tt
+
+plain-first : {A : Type 0} (a : A) (o : Answer (List A)) → Plain o → Plain (withFirst a o)
+unfolding withFirst
+plain-first a (fits more ms k) h = h
+plain-first a fails h = tt
+
+module _ {A : Type 0} (p : Parser A) (h : (s : List ℕ) → Plain (p s)) where
+  turns-plain : (n : ℕ) (s : List ℕ) → Plain (turns n p s)
+  unfolding turns
+  turns-plain zero s = refl
+  turns-plain (suc n) s = go (p s) (h s) (λ r. turns-plain n r)
+    where
+      go : (o : Answer A) → Plain o → ((r : List ℕ) → Plain (turns n p r))
+          → Plain {A = List A} (elim o [ fits a ms k ↦ elim (eqb k 0) [ true ↦ fits [] [] 0 | false ↦ withFirst a (Peg.after ms k (turns n p (drop k s))) ] | fails ↦ fits [] [] 0 ])
+      go (fits a ms k) q f = byCase (eqb k 0) (λ z. rw z refl) (λ z. rw (z, q) (plain-first a (Peg.after [] k (turns n p (drop k s))) (plain-after k (turns n p (drop k s)) (f (drop k s)))))
+      go fails q f = refl
+
+  pub many-plain : (s : List ℕ) → Plain (many p s)
+  unfolding many
+  many-plain s = turns-plain (length s) s
