@@ -102,7 +102,7 @@ unfolding skipBlankBlock
 skip-block {ls} {u} b = block-turns 0 b ∙ ap (λ k. ok k [] u) (zero-add (length ls))
 
 -- the grammar's blank lines: further spaces before the end are one, too
-line-fits : (s : List ℕ) → lineEnds (drop (spaces s) s) ≡ true → blank-line s ≡ fits (record { spaces = spaces s; ending = eol (drop (spaces s) s) }) [] (spaces s + eol (drop (spaces s) s))
+pub line-fits : (s : List ℕ) → lineEnds (drop (spaces s) s) ≡ true → blank-line s ≡ fits (record { spaces = spaces s; ending = eol (drop (spaces s) s) }) [] (spaces s + eol (drop (spaces s) s))
 unfolding blank-line Peg.after pure moveUp
 line-fits s h = bind-fits (opt 0 blank-inline) (λ n. line-end >>= λ e. pure (record { spaces = n; ending = e })) s (opt-inline s) ∙ ap (Peg.after [] (spaces s)) (bind-fits line-end (λ e. pure (record { spaces = spaces s; ending = e })) (drop (spaces s) s) (line-end-is (drop (spaces s) s) h)) ∙ ap (fits (record { spaces = spaces s; ending = eol (drop (spaces s) s) }) []) (ap (λ k. spaces s + k) (add-zero (eol (drop (spaces s) s))))
 

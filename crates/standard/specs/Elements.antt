@@ -407,7 +407,7 @@ module _ (sub : Inside) (no-brace : (s : List ℕ) → startsWith 123 s ≡ fals
   unfolding textRun startsWith
   element-nil = element-end [] (record { spaces = 0; ending = 0 } ∷ []) 0 block-at-end refl refl refl
 
-  element-stays : AtEnd (PatternElement rust sub [])
+  pub element-stays : AtEnd (PatternElement rust sub [])
   element-stays = rw element-nil tt
 
   -- one element, and the others

@@ -18,6 +18,7 @@ pub mod PatternTurns
 pub mod Growth
 pub mod BlankLines
 pub mod PatternAgrees
+pub mod WholePattern
 pub mod Near
 pub mod Words
 pub mod Inline

@@ -153,3 +153,15 @@ module _ {A : Type 0} (p : Parser A) (h : (s : List ℕ) → Plain (p s)) where
   pub many-plain : (s : List ℕ) → Plain (many p s)
   unfolding many
   many-plain s = turns-plain (length s) s
+
+  pub some-plain : (s : List ℕ) → Plain (some p s)
+  unfolding some pure Peg.after moveUp
+  some-plain s = go (p s) refl (h s)
+    where
+      rest : (a : A) (r : List ℕ) (o : Answer (List A)) → many p r ≡ o → Plain o → Plain ((many p >>= λ more. pure (a ∷ more)) r)
+      rest a r (fits more ms k) e q = rw (bind-fits (many p) (λ more. pure (a ∷ more)) r e, q) refl
+      rest a r fails e q = rw (bind-fails (many p) (λ more. pure (a ∷ more)) r e) tt
+
+      go : (o : Answer A) → p s ≡ o → Plain o → Plain (some p s)
+      go (fits a ms k) e q = rw (bind-fits p (λ x. many p >>= λ more. pure (x ∷ more)) s e, q) (plain-after k ((many p >>= λ more. pure (a ∷ more)) (drop k s)) (rest a (drop k s) (many p (drop k s)) refl (many-plain (drop k s))))
+      go fails e q = rw (bind-fails p (λ x. many p >>= λ more. pure (x ∷ more)) s e) tt
