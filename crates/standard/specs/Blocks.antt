@@ -159,3 +159,12 @@ lines-end {s} (step {ls = ls} {u = u} e q k) h =
 pub block-many : {s : List ℕ} {l : Line} {ls : List Line} {u : ℕ} → Block s (l ∷ ls) u → blank-block s ≡ many blank-line s
 unfolding blank-block
 block-many {s} (step e q k) = some-many blank-line line-at-end s (record { spaces = spaces s; ending = suc e }) [] (spaces s + suc e) (line-again s e q) (omega arith)
+
+-- a block that starts at a line end
+pub lf-block : (t : List ℕ) {ls : List Line} {u : ℕ} → Block t ls u → Block (10 ∷ t) (record { spaces = 0; ending = 1 } ∷ ls) (1 + u)
+unfolding spaces run eol
+lf-block t b = step 0 refl b
+
+pub crlf-block : (t : List ℕ) {ls : List Line} {u : ℕ} → Block t ls u → Block (13 ∷ 10 ∷ t) (record { spaces = 0; ending = 2 } ∷ ls) (2 + u)
+unfolding spaces run eol startsWith
+crlf-block t b = step 1 refl b

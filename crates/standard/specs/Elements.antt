@@ -25,7 +25,7 @@ use Rattle.standard.specs.Grammar.{Inside, rawPlaceable, flat, block-tex
 use Rattle.standard.specs.Blank.{lineEnds, line-end-is, no-line-end, opt-inline, blank-inline?-is}
 use Rattle.standard.specs.Turns.{AtEnd, many-again, many-none, sized-fits, sized-fails, bar-fits, bar-fails}
 use Rattle.standard.specs.Texts.{Sign, end, lf, cr-lf, opens, closes, plain, sign-of, isTextAt, textRun, run-plain, text-char-plain, inline-text-some, inline-text-none}
-use Rattle.standard.specs.Blocks.{Block, step, block-stops, lines-many, lines-end, block-many, line-fails}
+use Rattle.standard.specs.Blocks.{Block, lf-block, crlf-block, block-stops, lines-many, lines-end, block-many, line-fails}
 
 -- an answer k bytes on, with other raw elements
 unfoldable pub onward : (List Raw → List Raw) → ℕ → Answer (List Raw) → Answer (List Raw)
@@ -476,3 +476,20 @@ module _ (sub : Inside) (no-brace : (s : List ℕ) → startsWith 123 s ≡ fals
           by fails e f = tail-none s (el ∙ ap (onward (λ rs. lines (l ∷ ls) ∷ rs) u) e) ∙ rw (line-off-tail sub (drop u s) c cs d e) (byCase (eqb c 123)
               (λ w. rw (w, closing-brace s bb (rw (d, startsWith) w)) refl)
               (λ w. rw (w, closing-fits s h bb (rw (d, startsWith) w)) (ap (fits [] []) (omega arith))))
+
+  -- by the first byte
+  pub tail-nil : tail sub [] ≡ fits [] [] 0
+  tail-nil = tail-none [] element-nil ∙ ap (closed [] 0) closing-nil ∙ (unfold closed in refl)
+
+  pub tail-close : (t : List ℕ) → tail sub (125 ∷ t) ≡ fails
+  unfolding textRun isTextAt isTextByte lineEnds eol spaces run startsWith closed
+  tail-close t = tail-none (125 ∷ t) (element-none (125 ∷ t) refl (block-fails (125 ∷ t) refl) (no-brace (125 ∷ t) refl)) ∙ ap (closed [] 0) (closing-fails (125 ∷ t) refl)
+
+  -- line ends
+  pub tail-lf : (t : List ℕ) {ls : List Line} {u : ℕ} → Block t ls u → tail sub (10 ∷ t) ≡ onward (behind (record { spaces = 0; ending = 1 } ∷ ls)) (1 + u) (lineTail sub (drop u t))
+  unfolding textRun isTextAt isTextByte startsWith lineEnds eol
+  tail-lf t {ls} {u} b = tail-block (lf-block t b) refl refl refl (omega arith) ∙ rw (sym (drop-drop u 1 (10 ∷ t))) refl
+
+  pub tail-crlf : (t : List ℕ) {ls : List Line} {u : ℕ} → Block t ls u → tail sub (13 ∷ 10 ∷ t) ≡ onward (behind (record { spaces = 0; ending = 2 } ∷ ls)) (2 + u) (lineTail sub (drop u t))
+  unfolding textRun isTextAt isTextByte startsWith lineEnds eol
+  tail-crlf t {ls} {u} b = tail-block (crlf-block t b) refl refl refl (omega arith) ∙ rw (sym (drop-drop u 2 (13 ∷ 10 ∷ t))) refl

@@ -150,6 +150,10 @@ unfolding all
 all-append [] y h = h
 all-append (b ∷ x) y h = byCase (isSpace b) (λ q. rw (q, all-append x y h) refl) (λ q. rw q refl)
 
+pub moveUp-node : (n k : ℕ) (ms : List Mark) → moveUp n (node k ms) ≡ node k (moveUp n ms)
+unfolding moveUp node
+moveUp-node n k ms = ap (λ r. plain k ∷ r) (unfold moveUp in moveUp-append n ms (plain (100 + k) ∷ []))
+
 module _ (src : List ℕ) (k₀ : ℕ) where
   -- the bytes of a text that is not blank, with some of its indent
   wider : (a b m : ℕ) → a ≤ b → all isSpace (take m (drop (k₀ + b) src)) ≡ false → all isSpace (bytesOf (drop k₀ src) (run-of a (b + m))) ≡ false
@@ -193,10 +197,6 @@ module _ (src : List ℕ) (k₀ : ℕ) where
         last (inr f) c xs = shown-text src k₀ c (st .used) E i l xs (run-of (fromAt l p i c) (p + i + m)) (w c) (w c ++ (10 ∷ [])) (rw start (dedent-from l k₀ p i c)) refl (wider (fromAt l p i c) (p + i) m (from-within l p i c) b) (feed-bytes (fromAt l p i c) (p + i + m) E (f .1 .0) (omega (arith, from-within l p i c)) (q ∙ ap (λ n. k₀ + n) (f .0)) (f .1 .1)) (trimmed-feed (w c))
 
   -- Placeables --------------------------------------------------------------------------------------------------------------------------------
-
-  moveUp-node : (n k : ℕ) (ms : List Mark) → moveUp n (node k ms) ≡ node k (moveUp n ms)
-  unfolding moveUp node
-  moveUp-node n k ms = ap (λ r. plain k ∷ r) (unfold moveUp in moveUp-append n ms (plain (100 + k) ∷ []))
 
   place-marks : (used p : ℕ) (ms : List Mark) → used ≡ k₀ + p → node 13 (moveUp used ms) ≡ moveUp k₀ (moveUp p (node 13 ms))
   place-marks used p ms q = rw q (sym (moveUp-twice k₀ p (node 13 ms) ∙ moveUp-node (k₀ + p) 13 ms))

@@ -31,9 +31,9 @@ use Rattle.standard.specs.Blank.{lineEnds}
 use Rattle.standard.specs.Same.{Same, nothing, Agree}
 use Rattle.standard.specs.Turns.{repeat-again, repeat-done}
 use Rattle.standard.specs.Texts.{Sign, end, lf, cr-lf, opens, closes, plain, sign-of, isTextAt, textRun, run-plain, run-over, sliceAt, slice-is}
-use Rattle.standard.specs.Blocks.{Block, step, block-of, block-stops, block-ended, block-width, Ended}
+use Rattle.standard.specs.Blocks.{Block, step, block-of, block-stops, block-ended, block-width, Ended, lf-block, crlf-block}
 use Rattle.standard.specs.Dedent.{run-of, feeds, feedFrom, Live, Idle, idle-same, Passed, passed-one, passed-none, passed-then}
-use Rattle.standard.specs.Elements.{onward, closing, closed, braceLine, tail, onLine, lineTail, behind, closing-fails, closing-nil, element-text, element-placeable, element-none, element-nil, tail-again, tail-none, tail-block, block-fails, line-end-tail, line-on-tail, line-off-tail, goesOn-suc, run-on}
+use Rattle.standard.specs.Elements.{onward, closing, closed, braceLine, tail, onLine, lineTail, behind, closing-fails, element-text, element-placeable, element-none, tail-again, tail-none, tail-nil, tail-close, tail-lf, tail-crlf, block-fails, line-end-tail, line-on-tail, line-off-tail, goesOn-suc, run-on}
 use Rattle.standard.specs.PatternTurns.{textState, text-again, is-element, text-elements, text-kept, text-common, blank-kept, inline-common, blank-common, turn-brace, turn-nil, turn-text, turn-end, turn-off, turn-on, turn-shrinks}
 use Rattle.standard.specs.Growth.{both, both-none, both-least, both-zero, made, made-brace, onto-lf, onto-later, feeds-lf, feeds-crlf, fromAt, textRaws, Indented, Content, Line-content, Common, live-as, place-grows, Text-step, text-step, text-last, text-brace, text-lines, lines-grow}
 use Rattle.standard.specs.BlankLines.{Blanked, block-passes, no-brace-first, feedSlice, crSlice, slice-lf, slice-crlf}
@@ -46,7 +46,7 @@ Rel G (bad f k) (fits rs ns j) = ⊥
 Rel G (bad f k) fails = Unit {0}
 Rel G (deep k) a = Unit {0}
 
-rel-step : (G H : State → List Raw → Type 0) (F : List Raw → List Raw) (j k : ℕ) → j ≡ k → ((st : State) (rs : List Raw) → G st rs → H st (F rs)) → (o : Out State) (a : Answer (List Raw)) → Rel G o a → Rel H (Reader.after [] j o) (onward F k a)
+pub rel-step : (G H : State → List Raw → Type 0) (F : List Raw → List Raw) (j k : ℕ) → j ≡ k → ((st : State) (rs : List Raw) → G st rs → H st (F rs)) → (o : Out State) (a : Answer (List Raw)) → Rel G o a → Rel H (Reader.after [] j o) (onward F k a)
 unfolding Reader.after onward moveUp
 rel-step G H F j k q g (ok st ms i) (fits rs ns l) h = (rw (h .0) refl, omega (arith, h .1), g st rs (h .2))
 rel-step G H F j k q g (ok st ms i) fails h = absurd h
@@ -63,26 +63,17 @@ rel-here G H F g (bad f i) (fits rs ns l) h = absurd h
 rel-here G H F g (bad f i) fails h = tt
 rel-here G H F g (deep i) a h = tt
 
-rel-map : (G H : State → List Raw → Type 0) → ((st : State) (rs : List Raw) → G st rs → H st rs) → (o : Out State) (a : Answer (List Raw)) → Rel G o a → Rel H o a
+pub rel-map : (G H : State → List Raw → Type 0) → ((st : State) (rs : List Raw) → G st rs → H st rs) → (o : Out State) (a : Answer (List Raw)) → Rel G o a → Rel H o a
 rel-map G H g (ok st ms i) (fits rs ns l) h = (h .0, h .1, g st rs (h .2))
 rel-map G H g (ok st ms i) fails h = absurd h
 rel-map G H g (bad f i) (fits rs ns l) h = absurd h
 rel-map G H g (bad f i) fails h = tt
 rel-map G H g (deep i) a h = tt
 
-onward-onward : (F G : List Raw → List Raw) (j k : ℕ) (a : Answer (List Raw)) → onward F j (onward G k a) ≡ onward (λ rs. F (G rs)) (j + k) a
+pub onward-onward : (F G : List Raw → List Raw) (j k : ℕ) (a : Answer (List Raw)) → onward F j (onward G k a) ≡ onward (λ rs. F (G rs)) (j + k) a
 unfolding onward
 onward-onward F G j k (fits rs ms i) = ap (fits (F (G rs)) []) (sym (add-assoc j k i))
 onward-onward F G j k fails = refl
-
--- a block that starts at a line end
-lf-block : (t : List ℕ) {ls : List Line} {u : ℕ} → Block t ls u → Block (10 ∷ t) (record { spaces = 0; ending = 1 } ∷ ls) (1 + u)
-unfolding spaces run eol
-lf-block t b = step 0 refl b
-
-crlf-block : (t : List ℕ) {ls : List Line} {u : ℕ} → Block t ls u → Block (13 ∷ 10 ∷ t) (record { spaces = 0; ending = 2 } ∷ ls) (2 + u)
-unfolding spaces run eol startsWith
-crlf-block t b = step 1 refl b
 
 next-drop : (n : ℕ) (s : List ℕ) (b : ℕ) (t : List ℕ) → drop n s ≡ b ∷ t → drop (n + 1) s ≡ t
 next-drop n s b t d = sym (drop-drop 1 n s) ∙ ap (drop 1) d
@@ -100,6 +91,12 @@ unfolding spaces run startsWith
 spaced-first [] j q = refl
 spaced-first (b ∷ bs) j q = byCase (eqb b 32) (λ r. rw (eqb-true b 32 r) refl) (λ r. absurd (omega (arith, rw (r, run) at q)))
 
+-- the byte behind the spaces is no space
+pub behind-spaces : (s : List ℕ) (c : ℕ) (cs : List ℕ) → drop (spaces s) s ≡ c ∷ cs → eqb c 32 ≡ false
+unfolding spaces run
+behind-spaces [] c cs d = let y : _≡_ {A = ℕ} 0 1 = cc in absurd (omega arith)
+behind-spaces (b ∷ bs) c cs d = byCase (eqb b 32) (λ q. behind-spaces bs c cs (rw (q, run) at d)) (λ q. let z : b ∷ bs ≡ c ∷ cs = rw (q, run) at d in let y : b ≡ c = cc in ap (λ x. eqb x 32) (sym y) ∙ q)
+
 -- the state behind a placeable
 unfoldable placeState : State → List Mark → ℕ → State
 placeState st ms k = record { role = continuation; elements = st .elements ++ (Pattern.placeable (moveUp (st .used) ms) ∷ []); kept = suc (length (st .elements)); common = elim (isLineStart (st .role)) [ true ↦ some 0 | false ↦ st .common ]; used = st .used + k }
@@ -109,20 +106,20 @@ module _ (sub₁ : Pattern.Inside) (sub₂ : Grammar.Inside) (takes : (s : List 
   loop st s = repeat (patternTurn sub₁) st s
 
   -- where a state stands
-  record At (st : State) (p : ℕ) (s : List ℕ) : Type 0 where
-    used : st .used ≡ k₀ + p
-    here : drop (k₀ + p) src ≡ s
+  pub record At (st : State) (p : ℕ) (s : List ℕ) : Type 0 where
+    pub used : st .used ≡ k₀ + p
+    pub here : drop (k₀ + p) src ≡ s
 
-  Text-claim : State → ℕ → List ℕ → Type 0
+  abbrev pub Text-claim : State → ℕ → List ℕ → Type 0
   Text-claim st p s = Rel (λ st′ rs. Common src k₀ st st′ rs × Content src k₀ p st st′ rs) (repeat (patternTurn sub₁) st s) (tail sub₂ s)
 
-  Line-claim : State → ℕ → List ℕ → Type 0
+  abbrev pub Line-claim : State → ℕ → List ℕ → Type 0
   Line-claim st p s = Rel (λ st′ rs. Common src k₀ st st′ rs × Line-content src k₀ p st st′ rs) (repeat (patternTurn sub₁) st s) (lineTail sub₂ s)
 
   -- what holds of all that is shorter
-  record Shorter (n : ℕ) : Type 0 where
-    texts : (st : State) (p : ℕ) (s : List ℕ) → length s < n → At st p s → isLineStart (st .role) ≡ false → Text-claim st p s
-    lines : (st : State) (p : ℕ) (s : List ℕ) → length s < n → At st p s → isLineStart (st .role) ≡ true → eol (drop (spaces s) s) ≡ 0 → Line-claim st p s
+  pub record Shorter (n : ℕ) : Type 0 where
+    pub texts : (st : State) (p : ℕ) (s : List ℕ) → length s < n → At st p s → isLineStart (st .role) ≡ false → Text-claim st p s
+    pub lines : (st : State) (p : ℕ) (s : List ℕ) → length s < n → At st p s → isLineStart (st .role) ≡ true → eol (drop (spaces s) s) ≡ 0 → Line-claim st p s
 
   here-drop : (st : State) (p k : ℕ) (s : List ℕ) → At st p s → drop (k₀ + (p + k)) src ≡ drop k s
   here-drop st p k s at = sym (ap (drop k) (sym (at .here)) ∙ drop-drop k (k₀ + p) src ∙ ap (λ j. drop j src) (add-assoc k₀ p k))
@@ -140,29 +137,13 @@ module _ (sub₁ : Pattern.Inside) (sub₂ : Grammar.Inside) (takes : (s : List 
   Placed p st st′ rs = (ms : List Mark) × (k : ℕ) × (more : List Raw) × (rs ≡ placeable ms k ∷ more) × Live src k₀ st st′ (made p rs)
 
   module _ (n : ℕ) (ih : Shorter n) where
-    tail-nil : tail sub₂ [] ≡ fits [] [] 0
-    tail-nil = tail-none sub₂ (agree .no-brace) [] (element-nil sub₂ (agree .no-brace)) ∙ ap (closed [] 0) closing-nil ∙ (unfold closed in refl)
-
-    tail-close : (t : List ℕ) → tail sub₂ (125 ∷ t) ≡ fails
-    unfolding textRun isTextAt isTextByte lineEnds eol spaces run startsWith closed
-    tail-close t = tail-none sub₂ (agree .no-brace) (125 ∷ t) (element-none sub₂ (agree .no-brace) (125 ∷ t) refl (block-fails (125 ∷ t) refl) (agree .no-brace (125 ∷ t) refl)) ∙ ap (closed [] 0) (closing-fails (125 ∷ t) refl)
-
-    -- line ends
-    tail-lf : (t : List ℕ) {ls : List Line} {u : ℕ} → Block t ls u → tail sub₂ (10 ∷ t) ≡ onward (behind (record { spaces = 0; ending = 1 } ∷ ls)) (1 + u) (lineTail sub₂ (drop u t))
-    unfolding textRun isTextAt isTextByte startsWith lineEnds eol
-    tail-lf t {ls} {u} b = tail-block sub₂ (agree .no-brace) (lf-block t b) refl refl refl (omega arith) ∙ rw (sym (drop-drop u 1 (10 ∷ t))) refl
-
-    tail-crlf : (t : List ℕ) {ls : List Line} {u : ℕ} → Block t ls u → tail sub₂ (13 ∷ 10 ∷ t) ≡ onward (behind (record { spaces = 0; ending = 2 } ∷ ls)) (2 + u) (lineTail sub₂ (drop u t))
-    unfolding textRun isTextAt isTextByte startsWith lineEnds eol
-    tail-crlf t {ls} {u} b = tail-block sub₂ (agree .no-brace) (crlf-block t b) refl refl refl (omega arith) ∙ rw (sym (drop-drop u 2 (13 ∷ 10 ∷ t))) refl
-
     no-block : (t : List ℕ) → blank-block (123 ∷ t) ≡ fails
     unfolding lineEnds eol spaces run
     no-block t = block-fails (123 ∷ t) refl
 
     place-claim : (st : State) (p : ℕ) (t : List ℕ) → At st p (123 ∷ t) → length t < n
         → Rel (λ st′ rs. (st′ .common ≡ both (placeState st [] 0 .common) (common rust rs)) × Placed p st st′ rs) (loop st (123 ∷ t)) (tail sub₂ (123 ∷ t))
-    unfolding loop placeState withPlaceable wrap Placed common Text-claim textRun isTextAt isTextByte closed lineEnds eol isLineStart
+    unfolding loop placeState withPlaceable wrap Placed common textRun isTextAt isTextByte closed lineEnds eol isLineStart
     place-claim st p t at l = go (sub₁ .braced (123 ∷ t)) refl (takes (123 ∷ t)) (agree .placeables (123 ∷ t))
       where
         G : State → List Raw → Type 0
@@ -271,12 +252,12 @@ module _ (sub₁ : Pattern.Inside) (sub₂ : Grammar.Inside) (takes : (s : List 
       text-ends d =
           let st₁ = textState st i (sliceOf m eof) m in
           let r : drop (i + m) s ≡ [] = sym (drop-drop m i s) ∙ d in
-          rw (text-reads end d m m eof refl, r, repeat-done (patternTurn sub₁) st₁ [] (ok st₁ [] 0) (turn-nil sub₁ st₁), tail-nil)
+          rw (text-reads end d m m eof refl, r, repeat-done (patternTurn sub₁) st₁ [] (ok st₁ [] 0) (turn-nil sub₁ st₁), tail-nil sub₂ (agree .no-brace))
           (rel-step (Followed st₁) (Text-grown st p i m l) (textRaws l i m) (i + m) (i + m) refl (followed m m (p + i + m) eof (inl (refl, refl))) (ok st₁ [] 0) (fits [] [] 0) (refl, refl, (sym (both-none (st₁ .common)), inl (refl, idle-same src k₀ st₁))))
 
       text-closes : (t : List ℕ) → drop m (drop i s) ≡ 125 ∷ t → Rel (Text-grown st p i m l) (loop st s) (onward (textRaws l i m) (i + m) (tail sub₂ (125 ∷ t)))
       unfolding loop sliceAt withText Reader.after onward
-      text-closes t d = rw (repeat-done (patternTurn sub₁) st s _ (turn-is ∙ ap (withText st i) (slice-here (closes t) d)), tail-close t) tt
+      text-closes t d = rw (repeat-done (patternTurn sub₁) st s _ (turn-is ∙ ap (withText st i) (slice-here (closes t) d)), tail-close sub₂ (agree .no-brace) t) tt
 
       -- the state behind the text
       at-text : (size k : ℕ) (e : Pattern.Ending) → At (textState st i (sliceOf size e) k) (p + (i + k)) (drop (i + k) s)
@@ -303,7 +284,7 @@ module _ (sub₁ : Pattern.Inside) (sub₂ : Grammar.Inside) (takes : (s : List 
           → (b : Blanked sub₁ takes src k₀ (textState st i (sliceOf size e) k) (p + (i + k)) s₁ v g) → eol (drop (spaces (drop v s₁)) (drop v s₁)) ≡ 0
           → ((c : Option ℕ) (es : List Element) → onto rust false (fromAt l p i c) (p + i + m) (feeds c (p + i + m) L es) ≡ joined (run-of (fromAt l p i c) till) [] ∷ g c es)
           → tail sub₂ r ≡ onward (behind L) w (lineTail sub₂ (drop v s₁)) → k + v ≡ m + w → width L ≡ w → Rel (Text-grown st p i m l) (loop st s) (onward (textRaws l i m) (i + m) (tail sub₂ r))
-      unfolding Followed behind common Line-claim loop moveUp
+      unfolding Followed behind common loop moveUp
       text-line-ends size k till v w e s₁ r L g d en reads eq pos b stops glue tl num wid =
           rw (reads, b .reads, after-after [] (i + k) [] v (repeat (patternTurn sub₁) (b .state) (drop v s₁)), tl, onward-onward (textRaws l i m) (behind L) (i + m) w (lineTail sub₂ (drop v s₁)))
           (rel-step (λ st′ rs. Common src k₀ (b .state) st′ rs × Line-content src k₀ (p + (i + k) + v) (b .state) st′ rs) (Text-grown st p i m l) (λ rs. textRaws l i m (behind L rs)) (i + k + v) (i + m + w) (omega arith)
@@ -329,7 +310,7 @@ module _ (sub₁ : Pattern.Inside) (sub₂ : Grammar.Inside) (takes : (s : List 
           (text-reads (lf t) d (m + 1) (m + 1) lineFeed refl ∙ rw eq refl) eq (omega (arith, ap length d, length-drop m (drop i s), length-drop i s))
           (block-passes sub₁ takes src k₀ st₁ (p + (i + (m + 1))) refl (at-text (m + 1) (m + 1) lineFeed .used) b) (block-stops b)
           (λ c es. onto-lf c (fromAt l p i c) (p + i + m) ls es ∙ ap (λ k. joined (run-of (fromAt l p i c) (p + i + m + 1)) [] ∷ feeds c k ls es) w)
-          (tail-lf t b) (omega arith) (ap (λ k. 1 + k) (block-width b))
+          (tail-lf sub₂ (agree .no-brace) t b) (omega arith) (ap (λ k. 1 + k) (block-width b))
 
       text-crlf : (t : List ℕ) → drop m (drop i s) ≡ 13 ∷ 10 ∷ t → Rel (Text-grown st p i m l) (loop st s) (onward (textRaws l i m) (i + m) (tail sub₂ (13 ∷ 10 ∷ t)))
       unfolding sliceAt sliceOf Tills textState roleAfter isLineStart width
@@ -342,7 +323,7 @@ module _ (sub₁ : Pattern.Inside) (sub₂ : Grammar.Inside) (takes : (s : List 
           (text-reads (cr-lf t) d m (m + 1) crlf refl ∙ rw eq refl) eq (omega (arith, ap length d, length-drop m (drop i s), length-drop i s))
           (block-passes sub₁ takes src k₀ st₁ (p + (i + (m + 1))) refl (at-text m (m + 1) crlf .used) (lf-block t b)) (block-stops (lf-block t b))
           (λ c es. ap (onto rust false (fromAt l p i c) (p + i + m)) (feeds-crlf c (p + i + m) ls es ∙ ap (λ k. feeds c k (record { spaces = 0; ending = 1 } ∷ ls) es) w) ∙ onto-later c (fromAt l p i c) (p + i + m) (p + (i + (m + 1))) ls es (omega arith))
-          (tail-crlf t b ∙ rw (drop-drop u 1 (10 ∷ t)) refl) (omega arith) (ap (λ k. 2 + k) (block-width b))
+          (tail-crlf sub₂ (agree .no-brace) t b ∙ rw (drop-drop u 1 (10 ∷ t)) refl) (omega arith) (ap (λ k. 2 + k) (block-width b))
 
       text-follow : {r : List ℕ} → Sign r → drop m (drop i s) ≡ r → Rel (Text-grown st p i m l) (loop st s) (onward (textRaws l i m) (i + m) (tail sub₂ r))
       text-follow end d = text-ends d
@@ -356,7 +337,7 @@ module _ (sub₁ : Pattern.Inside) (sub₂ : Grammar.Inside) (takes : (s : List 
     ends-claim : (st st₁ : State) (p v w : ℕ) (s s₁ : List ℕ) (L : List Line) (f g : Option ℕ → List Element → List Element) → Ended L → loop st s ≡ Reader.after [] 1 (loop st₁ s₁) → length s₁ < n → At st₁ (p + 1) s₁
         → st₁ .common ≡ st .common → Passed src k₀ st st₁ f → (b : Blanked sub₁ takes src k₀ st₁ (p + 1) s₁ v g) → eol (drop (spaces (drop v s₁)) (drop v s₁)) ≡ 0
         → ((c : Option ℕ) (es : List Element) → feeds c p L es ≡ f c (g c es)) → tail sub₂ s ≡ onward (behind L) w (lineTail sub₂ (drop v s₁)) → 1 + v ≡ w → width L ≡ w → Text-claim st p s
-    unfolding behind common Line-claim Text-claim loop moveUp
+    unfolding behind common loop moveUp
     ends-claim st st₁ p v w s s₁ L f g en reads short at same ps b stops glue tl num wid =
         rw (reads, b .reads, after-after [] 1 [] v (repeat (patternTurn sub₁) (b .state) (drop v s₁)), tl)
         (rel-step (λ st′ rs. Common src k₀ (b .state) st′ rs × Line-content src k₀ (p + 1 + v) (b .state) st′ rs) (λ st′ rs. Common src k₀ st st′ rs × Content src k₀ p st st′ rs) (behind L) (1 + v) w num
@@ -385,7 +366,7 @@ module _ (sub₁ : Pattern.Inside) (sub₂ : Grammar.Inside) (takes : (s : List 
         let a : At st₁ (p + 1) t = at-drop st st₁ p 1 (10 ∷ t) at (ap (λ k. st .used + k) refl) in
         ends-claim st st₁ p u (1 + u) (10 ∷ t) t (record { spaces = 0; ending = 1 } ∷ ls) (λ c es. joined (run-of p (p + 1)) [] ∷ es) (λ c es. feeds c (p + 1) ls es) (omega arith, block-ended b)
         (repeat-again (patternTurn sub₁) (turn-shrinks sub₁ takes) st (10 ∷ t) st₁ [] 1 (turn-text sub₁ st 10 t refl r ∙ rw (slice-lf t) (text-again st 0 feedSlice [] 1))) short a
-        (inline-common st 0 1 feedSlice r) (feed-passes st p (at .used) r) (block-passes sub₁ takes src k₀ st₁ (p + 1) refl (a .used) b) (block-stops b) (λ c es. feeds-lf c p ls es) (tail-lf t b) refl (ap (λ k. 1 + k) (block-width b))
+        (inline-common st 0 1 feedSlice r) (feed-passes st p (at .used) r) (block-passes sub₁ takes src k₀ st₁ (p + 1) refl (a .used) b) (block-stops b) (λ c es. feeds-lf c p ls es) (tail-lf sub₂ (agree .no-brace) t b) refl (ap (λ k. 1 + k) (block-width b))
 
     inline-crlf : (st : State) (p : ℕ) (t : List ℕ) → At st p (13 ∷ 10 ∷ t) → length (10 ∷ t) < n → isLineStart (st .role) ≡ false → Text-claim st p (13 ∷ 10 ∷ t)
     unfolding loop textState roleAfter isLineStart width isElement
@@ -396,7 +377,7 @@ module _ (sub₁ : Pattern.Inside) (sub₂ : Grammar.Inside) (takes : (s : List 
         ends-claim st st₁ p (1 + u) (2 + u) (13 ∷ 10 ∷ t) (10 ∷ t) (record { spaces = 0; ending = 2 } ∷ ls) (λ c es. es) (λ c es. feeds c (p + 1) (record { spaces = 0; ending = 1 } ∷ ls) es) (omega arith, block-ended b)
         (repeat-again (patternTurn sub₁) (turn-shrinks sub₁ takes) st (13 ∷ 10 ∷ t) st₁ [] 1 (turn-text sub₁ st 13 (10 ∷ t) refl r ∙ rw (slice-crlf t) (text-again st 0 crSlice [] 1))) short a
         (inline-common st 0 1 crSlice r) (passed-none src k₀ st st₁ refl (blank-kept st 0 1 crSlice refl)) (block-passes sub₁ takes src k₀ st₁ (p + 1) refl (a .used) (lf-block t b)) (block-stops (lf-block t b)) (λ c es. feeds-crlf c p ls es)
-        (tail-crlf t b ∙ rw (drop-drop u 1 (10 ∷ t)) refl) (omega arith) (ap (λ k. 2 + k) (block-width b))
+        (tail-crlf sub₂ (agree .no-brace) t b ∙ rw (drop-drop u 1 (10 ∷ t)) refl) (omega arith) (ap (λ k. 2 + k) (block-width b))
 
     place-common : (st : State) → isLineStart (st .role) ≡ false → placeState st [] 0 .common ≡ st .common
     unfolding placeState
@@ -408,15 +389,15 @@ module _ (sub₁ : Pattern.Inside) (sub₂ : Grammar.Inside) (takes : (s : List 
 
     -- texts: claim by claim
     text-claim : (st : State) (p : ℕ) (s : List ℕ) → length s < suc n → At st p s → isLineStart (st .role) ≡ false → Text-claim st p s
-    unfolding Text-claim common loop Placed sliceAt textRun isTextAt isTextByte withText Reader.after textRaws Text-grown
+    unfolding common loop Placed sliceAt textRun isTextAt isTextByte withText Reader.after textRaws Text-grown
     text-claim st p s short at r = go (sign-of s) short at
       where
         go : {s : List ℕ} → Sign s → length s < suc n → At st p s → Rel (λ st′ rs. Common src k₀ st st′ rs × Content src k₀ p st st′ rs) (repeat (patternTurn sub₁) st s) (tail sub₂ s)
-        go end short at = rw (repeat-done (patternTurn sub₁) st [] (ok st [] 0) (turn-nil sub₁ st), tail-nil) (refl, refl, (sym (both-none (st .common)), Content.nothing refl (idle-same src k₀ st)))
+        go end short at = rw (repeat-done (patternTurn sub₁) st [] (ok st [] 0) (turn-nil sub₁ st), tail-nil sub₂ (agree .no-brace)) (refl, refl, (sym (both-none (st .common)), Content.nothing refl (idle-same src k₀ st)))
         go (lf t) short at = inline-lf st p t at (omega arith) r
         go (cr-lf t) short at = inline-crlf st p t at (omega arith) r
         go (opens t) short at = rel-map (λ st′ rs. (st′ .common ≡ both (placeState st [] 0 .common) (common rust rs)) × Placed p st st′ rs) (λ st′ rs. Common src k₀ st st′ rs × Content src k₀ p st st′ rs) (λ st′ rs x. (rw (place-common st r) at (x .0), Content.something (x .1 .4))) (loop st (123 ∷ t)) (tail sub₂ (123 ∷ t)) (place-claim st p t at (omega arith))
-        go (closes t) short at = rw (repeat-done (patternTurn sub₁) st (125 ∷ t) _ (turn-text sub₁ st 125 t refl r ∙ ap (withText st 0) (slice-is (125 ∷ t) (closes t) refl)), tail-close t) tt
+        go (closes t) short at = rw (repeat-done (patternTurn sub₁) st (125 ∷ t) _ (turn-text sub₁ st 125 t refl r ∙ ap (withText st 0) (slice-is (125 ∷ t) (closes t) refl)), tail-close sub₂ (agree .no-brace) t) tt
         go (plain b t x y w v) short at =
             let m = suc (textRun t) in
             let e : textRun (b ∷ t) ≡ suc (textRun t) = run-plain b t x y w v in
@@ -455,7 +436,7 @@ module _ (sub₁ : Pattern.Inside) (sub₂ : Grammar.Inside) (takes : (s : List 
         go (deep k) e z h = let (j, q) = deeper k e in rw q tt
 
     line-brace-0 : (st : State) (p : ℕ) (t : List ℕ) → At st p (123 ∷ t) → length t < n → isLineStart (st .role) ≡ true → Line-claim st p (123 ∷ t)
-    unfolding Line-claim spaces run loop withPlaceable Placed common placeState rust Dialect.all
+    unfolding spaces run loop withPlaceable Placed common placeState rust Dialect.all
     line-brace-0 st p t at short r = brace-line (123 ∷ t) t (λ st′ rs. Common src k₀ st st′ rs × Line-content src k₀ p st st′ rs) (repeat (patternTurn sub₁) st (123 ∷ t)) refl
         (λ k e. (k, repeat-done (patternTurn sub₁) st (123 ∷ t) (deep k) (turn-brace sub₁ st t ∙ ap (withPlaceable st) e)))
         (rel-here (λ st′ rs. (st′ .common ≡ both (placeState st [] 0 .common) (common rust rs)) × Placed p st st′ rs) (λ st′ rs. Common src k₀ st st′ rs × Line-content src k₀ p st st′ rs) (λ rs. brace-indent 0 ∷ rs)
@@ -467,7 +448,7 @@ module _ (sub₁ : Pattern.Inside) (sub₂ : Grammar.Inside) (takes : (s : List 
     brace-indents n rs = rw (common, eqb·suc-zero) refl
 
     line-brace : (st : State) (p j : ℕ) (s t : List ℕ) → At st p s → length s < suc n → isLineStart (st .role) ≡ true → spaces s ≡ suc j → drop (spaces s) s ≡ 123 ∷ t → Line-claim st p s
-    unfolding Line-claim loop withPlaceable Placed Reader.after textState roleAfter isLineStart isElement placeState
+    unfolding loop withPlaceable Placed Reader.after textState roleAfter isLineStart isElement placeState
     line-brace st p j s t at short r q d =
         let k = spaces s in
         let st₁ = textState st k openSlice 0 in
@@ -485,7 +466,7 @@ module _ (sub₁ : Pattern.Inside) (sub₂ : Grammar.Inside) (takes : (s : List 
 
     -- a line that does not go on, or the end
     line-stops : (st : State) (p : ℕ) (s : List ℕ) (k : ℕ) → repeat (patternTurn sub₁) st s ≡ ok st [] k → lineTail sub₂ s ≡ fits [] [] k → Line-claim st p s
-    unfolding Line-claim common
+    unfolding common
     line-stops st p s k e f = rw (e, f) (refl, refl, (sym (both-none (st .common)), Line-content.nothing refl (idle-same src k₀ st)))
 
     end-first : (s : List ℕ) → drop (spaces s) s ≡ [] → startsWith 123 s ≡ false
@@ -501,14 +482,8 @@ module _ (sub₁ : Pattern.Inside) (sub₂ : Grammar.Inside) (takes : (s : List 
     line-end-claim st p [] r d = line-stops st p [] 0 (repeat-done (patternTurn sub₁) st [] (ok st [] 0) (turn-nil sub₁ st)) (line-end-tail sub₂ [] refl)
     line-end-claim st p (b ∷ bs) r d = line-stops st p (b ∷ bs) (spaces (b ∷ bs)) (repeat-done (patternTurn sub₁) st (b ∷ bs) (ok st [] (spaces (b ∷ bs))) (turn-end sub₁ st (b ∷ bs) d (end-first (b ∷ bs) d) (omega arith) r)) (line-end-tail sub₂ (b ∷ bs) d)
 
-    -- the byte behind the spaces is no space
-    behind-spaces : (s : List ℕ) (c : ℕ) (cs : List ℕ) → drop (spaces s) s ≡ c ∷ cs → eqb c 32 ≡ false
-    unfolding spaces run
-    behind-spaces [] c cs d = let y : _≡_ {A = ℕ} 0 1 = cc in absurd (omega arith)
-    behind-spaces (b ∷ bs) c cs d = byCase (eqb b 32) (λ q. behind-spaces bs c cs (rw (q, run) at d)) (λ q. let z : b ∷ bs ≡ c ∷ cs = rw (q, run) at d in let y : b ≡ c = cc in ap (λ x. eqb x 32) (sym y) ∙ q)
-
     line-on : (st : State) (p : ℕ) (s : List ℕ) (c : ℕ) (cs : List ℕ) → At st p s → length s < suc n → isLineStart (st .role) ≡ true → drop (spaces s) s ≡ c ∷ cs → eol (c ∷ cs) ≡ 0 → eqb c 123 ≡ false → goesOn (spaces s) c ≡ true → Line-claim st p s
-    unfolding Line-claim loop onLine textRaws Text-grown isSpace isBlank
+    unfolding loop onLine textRaws Text-grown isSpace isBlank
     line-on st p s c cs at short r d e q g =
         let k = spaces s in
         let m = suc (textRun cs) in
@@ -541,6 +516,6 @@ module _ (sub₁ : Pattern.Inside) (sub₂ : Grammar.Inside) (takes : (s : List 
             brace (suc j) q f = line-brace st p j s cs at short r q f
 
   -- all sources
-  claims : (n : ℕ) → Shorter n
+  pub claims : (n : ℕ) → Shorter n
   claims zero = record { texts = λ st p s l. absurd (not-suc-le-zero l); lines = λ st p s l. absurd (not-suc-le-zero l) }
   claims (suc n) = record { texts = text-claim n (claims n); lines = line-claim n (claims n) }
