@@ -428,7 +428,7 @@ module _ (sub : Inside) (no-brace : (s : List ℕ) → startsWith 123 s ≡ fals
   tail-none s e = rw (many-none (PatternElement rust sub) element-stays s e) refl
 
   -- an element of a line is not nothing
-  abbrev Full : Answer (List Raw) → Type 0
+  abbrev pub Full : Answer (List Raw) → Type 0
   Full (fits [] ms k) = ⊥
   Full (fits (r ∷ rs) ms k) = Unit {0}
   Full fails = Unit {0}
@@ -438,7 +438,7 @@ module _ (sub : Inside) (no-brace : (s : List ℕ) → startsWith 123 s ≡ fals
   brace-full n (fits u ms k) = tt
   brace-full n fails = tt
 
-  line-full : (n : ℕ) (s : List ℕ) → Full (onLine sub n s)
+  pub line-full : (n : ℕ) (s : List ℕ) → Full (onLine sub n s)
   unfolding onLine
   line-full n [] = tt
   line-full n (b ∷ bs) = byCase (eqb b 123) (λ q. rw (onLine, q) (brace-full n (sub .inline-placeable (b ∷ bs)))) (λ q. byCase (goesOn n b) (λ g. rw (onLine, q, g) tt) (λ g. rw (onLine, q, g) tt))

@@ -6,7 +6,7 @@ use mathlib.Core.Path.{_≡_, refl, sym, ap, ap₂, _∙_, subst}
 use mathlib.Core.Logic.{_⊎_, inl, inr}
 use mathlib.Core.Bool.{Bool, true, false, _&&_, _||_, not}
 use mathlib.Core.List.{List, [], _∷_, _++_, append-nil}
-use mathlib.Core.Option.{Option, none}
+use mathlib.Core.Option.{Option}
 use lib.ListN.{drop, length, take, length-drop}
 use lib.Seq.{drop-drop}
 use lib.Dec.{eqb, ltb, eqb·suc-zero}
@@ -16,6 +16,7 @@ use Rattle.syntax.specs.Marks.{Mark, moveUp, node}
 use Rattle.syntax.specs.Reader as Reader
 use Rattle.syntax.specs.Reader.{Out, ok, bad, deep, wrap, repeat}
 use Rattle.syntax.specs.Helper.{skipBlankBlock}
+use Rattle.syntax.specs.declared.errors.ParserError.{ParserError}
 use Rattle.syntax.specs.Pattern as Pattern
 use Rattle.syntax.specs.Pattern.{State, lineStart, initialLineStart, isLineStart, isTextByte, patternTurn, finish, stateAt, usedBy, firstState, getPattern}
 use Rattle.laws.specs.Bytes.{byCase, clash}
@@ -35,8 +36,11 @@ use Rattle.standard.specs.Blank.{lineEnds, blank-inline?-is}
 use Rattle.standard.specs.Same.{Same, nothing, Agree, whole-pattern, SamePattern, PatternAgrees}
 use Rattle.standard.specs.Turns.{Plain, plain-after, some-plain, some-many, bar-fits, bar-fails}
 use Rattle.standard.specs.Texts.{Sign, end, lf, cr-lf, opens, closes, plain, sign-of, isTextAt, textRun, run-plain}
-use Rattle.standard.specs.Blocks.{Block, block-of, block-stops, block-many, block-width, lines-many, lines-end, line-fits, line-fails, skip-block}
-use Rattle.standard.specs.Elements.{onward, closing, closed, ended, tail, onLine, lineTail, behind, element-text, element-placeable, element-none, element-nil, element-stays, element-line, element-end, tail-none, tail-block, block-fails, closing-fails}
+use Rattle.standard.specs.Blocks.{Block, block-of, block-stops, block-many, block-width, lines-many, lines-end, line-fits, line-fails, skip-block, lf-block, crlf-block}
+use Rattle.standard.specs.Elements.{onward, closing, closed, ended, tail, onLine, lineTail, behind, Full, line-full, element-text, element-placeable, element-none, element-nil, element-stays, element-line, element-end, tail-again, tail-none, tail-nil, tail-lf, tail-crlf, block-fails}
+use Rattle.standard.specs.Dedent.{Shown, Live, Idle}
+use Rattle.standard.specs.Growth.{both, made, moveUp-node, Content, Line-content, Common}
+use Rattle.standard.specs.PatternAgrees.{Rel, rel-step, behind-spaces, At, Shorter, claims}
 
 -- the node of a pattern with the source s, from its raw elements
 unfoldable patterned : List ℕ → Answer (List Raw) → Answer (Unit {0})
@@ -95,3 +99,101 @@ module _ (sub : Grammar.Inside) (no-brace : (s : List ℕ) → startsWith 123 s 
       go : (o : Answer (List (List Raw))) → some (PatternElement rust sub) s ≡ o → whole s ≡ patterned s (ended s (some (PatternElement rust sub) s))
       go (fits rss ms j) f = rw f (after-bar rss ms j (block-brace (drop j s)) refl f)
       go fails f = rw f (then-fails (Grammar.Pattern rust sub) behind-pattern s (then-fails (dedented-pattern rust sub) _ s (pat fails f)))
+
+  -- the first element, if there is one
+  data First (s : List ℕ) : Type 0 where
+    no-element : PatternElement rust sub s ≡ fails → First s
+    an-element : (r : Raw) (rs : List Raw) (k : ℕ) → PatternElement rust sub s ≡ fits (r ∷ rs) [] k → 0 < k → First s
+
+  -- behind blank lines
+  first-block : {s : List ℕ} {l : Line} {ls : List Line} {u : ℕ} → Block s (l ∷ ls) u → textRun s ≡ 0 → startsWith 123 s ≡ false → 0 < u → First s
+  unfolding onward
+  first-block {s} {l} {ls} {u} b t q z = go (drop (spaces (drop u s)) (drop u s)) refl
+    where
+      go : (r : List ℕ) → drop (spaces (drop u s)) (drop u s) ≡ r → First s
+      go [] d = let (ks, f) = lines-end b d in no-element (element-end sub no-brace s ks (u + spaces (drop u s)) (block-many b ∙ f) t q (sym (drop-drop (spaces (drop u s)) u s) ∙ d))
+      go (c ∷ cs) d = by (onLine sub (spaces (drop u s)) (c ∷ cs)) refl
+        where
+          el : PatternElement rust sub s ≡ onward (λ rs. lines (l ∷ ls) ∷ rs) u (onLine sub (spaces (drop u s)) (c ∷ cs))
+          el = element-line sub no-brace s (l ∷ ls) u (block-many b ∙ lines-many b c cs d) t q c cs d (rw d at (block-stops b))
+
+          by : (o : Answer (List Raw)) → onLine sub (spaces (drop u s)) (c ∷ cs) ≡ o → First s
+          by (fits rs ms k) e = an-element (lines (l ∷ ls)) rs (u + k) (el ∙ ap (onward (λ rs. lines (l ∷ ls) ∷ rs) u) e) (omega arith)
+          by fails e = no-element (el ∙ ap (onward (λ rs. lines (l ∷ ls) ∷ rs) u) e)
+
+  -- raw elements that follow a first one
+  tail-first : (s : List ℕ) (r : Raw) (rs : List Raw) (k : ℕ) → PatternElement rust sub s ≡ fits (r ∷ rs) [] k → 0 < k → (all : List Raw) (ms : List Mark) (j : ℕ) → tail sub s ≡ fits all ms j → (more : List Raw) × (all ≡ r ∷ more)
+  unfolding onward
+  tail-first s r rs k e h all ms j q = go (tail sub (drop k s)) (sym q ∙ tail-again sub no-brace s (r ∷ rs) k e h)
+    where
+      go : (o : Answer (List Raw)) → fits all ms j ≡ onward (λ more. (r ∷ rs) ++ more) k o → (more : List Raw) × (all ≡ r ∷ more)
+      go (fits more ns i) f = (rs ++ more, cc)
+      go fails f = let z : _≡_ {A = ℕ} 0 1 = cc in absurd (omega arith)
+
+-- what the loop ends with, for the source s
+unfoldable Final : List ℕ → State → List Raw → Type 0
+Final s st rs = ((st .kept ≡ 0) × (rs ≡ [])) ⊎ ((n : ℕ) × (r : Raw) × (more : List Raw) × (st .kept ≡ suc n) × (rs ≡ r ∷ more)
+    × (Pattern.elementMarks s (st .common) (suc n) (st .elements) ≡ moveUp (spaces s) (Abstract.elementMarks (A7 rust (drop (spaces s) s) (A6 rust (allPieces rust rs))))))
+
+module _ (sub₁ : Pattern.Inside) (sub₂ : Grammar.Inside) (agree : Agree sub₁ sub₂) where
+  pub takes : (s : List ℕ) → Takes (sub₁ .braced s)
+  unfolding wrap
+  takes s = go (sub₁ .braced s) refl (agree .placeables s) (agree .uses-brace s)
+    where
+      go : (o : Out (Unit {0})) → sub₁ .braced s ≡ o → Same nothing (wrap 13 (sub₁ .braced s)) (sub₂ .inline-placeable s) → Uses (sub₂ .inline-placeable s) → Takes o
+      go (ok u ms k) e h z = let f : sub₂ .inline-placeable s ≡ fits tt (node 13 ms) k = rw e at h in rw f at z
+      go (bad f k) e h z = tt
+      go (deep k) e h z = tt
+
+  bad-fails : (G : State → List Raw → Type 0) (e : ParserError) (k : ℕ) (a : Answer (List Raw)) → Rel G (bad e k) a → a ≡ fails
+  bad-fails G e k (fits rs ms j) h = absurd h
+  bad-fails G e k fails h = refl
+
+  -- no pattern
+  finish-none : (s : List ℕ) (st : State) (ms : List Mark) (k : ℕ) → st .kept ≡ 0 → finish s (ok st ms k) ≡ ok false [] k
+  unfolding finish
+  finish-none s st ms k q = rw (finish, q) refl
+
+  finish-some : (s : List ℕ) (st : State) (ms : List Mark) (k n : ℕ) → st .kept ≡ suc n → finish s (ok st ms k) ≡ ok true (node 11 (Pattern.elementMarks s (st .common) (suc n) (st .elements))) k
+  unfolding finish
+  finish-some s st ms k n q = rw (finish, q, eqb·suc-zero) (rw q refl)
+
+  conclude : (s : List ℕ) (o : Out State) → First sub₂ (agree .no-brace) (drop (spaces s) s) → Rel (Final s) o (tail sub₂ (drop (spaces s) s)) → SamePattern (finish s (Reader.after [] (spaces s) o)) (Peg.after [] (spaces s) (whole sub₂ (agree .no-brace) (drop (spaces s) s)))
+  unfolding Reader.after Peg.after Final moveUp closed patterned patternNode
+  conclude s (deep k) f r = unfold finish in tt
+  conclude s (bad e k) (no-element x) r = unfold finish in (rw (whole-fails sub₂ (agree .no-brace) (drop (spaces s) s) x) refl)
+  conclude s (bad e k) (an-element x rs j y h) r = unfold finish patterned in (rw (whole-fits sub₂ (agree .no-brace) (drop (spaces s) s) (x ∷ rs) j y h, bad-fails (Final s) e k (tail sub₂ (drop (spaces s) s)) r) refl)
+  conclude s (ok st ms k) (no-element x) r = rw (whole-fails sub₂ (agree .no-brace) (drop (spaces s) s) x) (go (closing (drop (spaces s) s)) (rw (tail-none sub₂ (agree .no-brace) (drop (spaces s) s) x) at r))
+    where
+      empty : (Final s st []) → SamePattern (finish s (ok st ([] ++ moveUp (spaces s) ms) (spaces s + k))) fails
+      empty (inl (q, z)) = rw (finish-none s st ([] ++ moveUp (spaces s) ms) (spaces s + k) q) refl
+      empty (inr (n, x, more, q, z, w)) = let y : _≡_ {A = ℕ} 0 1 = cc in absurd (omega arith)
+
+      go : (a : Answer (Unit {0})) → Rel (Final s) (ok st ms k) (closed [] 0 a) → SamePattern (finish s (ok st ([] ++ moveUp (spaces s) ms) (spaces s + k))) fails
+      go (fits u ns j) h = empty (h .2)
+      go fails h = absurd h
+  conclude s (ok st ms k) (an-element x rs j y h) r = rw (whole-fits sub₂ (agree .no-brace) (drop (spaces s) s) (x ∷ rs) j y h) (go (tail sub₂ (drop (spaces s) s)) refl r)
+    where
+      go : (a : Answer (List Raw)) → tail sub₂ (drop (spaces s) s) ≡ a → Rel (Final s) (ok st ms k) a → SamePattern (finish s (ok st ([] ++ moveUp (spaces s) ms) (spaces s + k))) (Peg.after [] (spaces s) (patterned (drop (spaces s) s) a))
+      go (fits all ns i) e (z, w, inl v) = let (more, q) = tail-first sub₂ (agree .no-brace) (drop (spaces s) s) x rs j y h all ns i e in let y : _≡_ {A = ℕ} 0 1 = cc (v .1) in absurd (omega arith)
+      go (fits all ns i) e (z, w, inr v) = let (n, b, more, q, p, marks) = v in rw (finish-some s st (moveUp (spaces s) ms) (spaces s + k) n q) (ap₂ (λ o j. fits tt o j) (moveUp-node (spaces s) 11 (Abstract.elementMarks (A7 rust (drop (spaces s) s) (A6 rust (allPieces rust all)))) ∙ ap (node 11) (sym marks)) (ap (λ j. spaces s + j) (sym w)))
+      go fails e v = absurd v
+
+  -- a pattern on the line: the state, and the claim
+  module _ (s : List ℕ) where
+    k₀ : ℕ
+    k₀ = spaces s
+
+    s₀ : List ℕ
+    s₀ = drop (spaces s) s
+
+    all-claims : (n : ℕ) → Shorter sub₁ sub₂ takes agree s (spaces s) n
+    all-claims = claims sub₁ sub₂ takes agree s (spaces s)
+
+    -- Live from an empty state
+    live-final : (st st′ : State) (p : ℕ) (rs : List Raw) → st .elements ≡ [] → Live s (spaces s) st st′ (made p rs) → (n : ℕ) × (st′ .kept ≡ suc n) × ((c : Option ℕ) → Pattern.elementMarks s c (suc n) (st′ .elements) ≡ moveUp (spaces s) (Abstract.elementMarks (A7 rust (drop (spaces s) s) (made p rs c))))
+    live-final st st′ p rs e h = (h .count, h .kept ∙ rw e (zero-add (suc (h .count))), λ c. rw (h .elements, e) (shown c (made p rs c) (h .shown c)))
+      where
+        shown : (c : Option ℕ) (es : List Abstract.Element) → Shown s (spaces s) c (h .count) (h .added) es → Pattern.elementMarks s c (suc (h .count)) ([] ++ h .added) ≡ moveUp (spaces s) (Abstract.elementMarks (A7 rust (drop (spaces s) s) es))
+        shown c [] x = absurd x
+        shown c (e ∷ es) x = x
