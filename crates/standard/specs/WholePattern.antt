@@ -29,13 +29,14 @@ use Rattle.standard.specs.Peg.{Answer, fits, fails, Parser, many, some, 
 use Rattle.standard.specs.Steps.{then-fits, then-fails, some-fails, void-fits, void-fails, ahead-fits, ahead-fails, after-none, Uses}
 use Rattle.standard.specs.Abstract as Abstract
 use Rattle.standard.specs.Abstract.{Line, Raw, text, lines, indent, brace-indent, placeable, common, width, A6, A7, allPieces, piecesFrom, patternNode, isSpace}
-use Rattle.standard.specs.Lexical.{line-end, blank-line, blank-block, block-brace}
+use Rattle.standard.specs.Lexical.{line-end, blank-inline?, blank-line, blank-block, block-brace}
 use Rattle.standard.specs.Grammar as Grammar
 use Rattle.standard.specs.Grammar.{PatternElement, dedented-pattern, inPattern, flat}
 use Rattle.standard.specs.Blank.{lineEnds, blank-inline?-is}
 use Rattle.standard.specs.Same.{Same, nothing, Agree, whole-pattern, SamePattern, PatternAgrees}
-use Rattle.standard.specs.Turns.{Plain, plain-after, some-plain, some-many, bar-fits, bar-fails}
-use Rattle.standard.specs.Texts.{Sign, end, lf, cr-lf, opens, closes, plain, sign-of, isTextAt, textRun, run-plain}
+use Rattle.standard.specs.PatternTurns.{turn-nil}
+use Rattle.standard.specs.Turns.{repeat-done, Plain, plain-after, some-plain, some-many, bar-fits, bar-fails}
+use Rattle.standard.specs.Texts.{Sign, end, lf, cr-lf, opens, closes, plain, sign-of, isTextAt, textRun, run-plain, plain-eol}
 use Rattle.standard.specs.Blocks.{Block, block-of, block-stops, block-many, block-width, lines-many, lines-end, line-fits, line-fails, skip-block, lf-block, crlf-block}
 use Rattle.standard.specs.Elements.{onward, closing, closed, ended, tail, onLine, lineTail, behind, Full, line-full, element-text, element-placeable, element-none, element-nil, element-stays, element-line, element-end, tail-again, tail-none, tail-nil, tail-lf, tail-crlf, block-fails}
 use Rattle.standard.specs.Dedent.{Shown, Live, Idle}
@@ -130,6 +131,35 @@ module _ (sub : Grammar.Inside) (no-brace : (s : List ℕ) → startsWith 123 s 
       go (fits more ns i) f = (rs ++ more, cc)
       go fails f = let z : _≡_ {A = ℕ} 0 1 = cc in absurd (omega arith)
 
+-- no blank lines first
+abbrev Inline : List Raw → Type 0
+Inline [] = Unit {0}
+Inline (text m ∷ rs) = Unit {0}
+Inline (lines ls ∷ rs) = ⊥
+Inline (indent n ∷ rs) = Unit {0}
+Inline (brace-indent n ∷ rs) = Unit {0}
+Inline (placeable ms k ∷ rs) = Unit {0}
+
+pieces-inline : (rs : List Raw) → Inline rs → A6 rust (allPieces rust rs) ≡ made 0 rs (common rust rs)
+unfolding made allPieces piecesFrom Abstract.pieces
+pieces-inline [] h = refl
+pieces-inline (text m ∷ rs) h = refl
+pieces-inline (lines ls ∷ rs) h = absurd h
+pieces-inline (indent n ∷ rs) h = refl
+pieces-inline (brace-indent n ∷ rs) h = refl
+pieces-inline (placeable ms k ∷ rs) h = refl
+
+pieces-lines : (p : ℕ) (L : List Line) (rs : List Raw) (r : Raw) (more : List Raw) → rs ≡ r ∷ more → width L ≡ p → made p rs (common rust rs) ≡ A6 rust (allPieces rust (behind L rs))
+unfolding made allPieces piecesFrom behind
+pieces-lines p L rs r more z w = rw (z, ← w) refl
+
+rel-with : (G H : State → List Raw → Type 0) (o : Out State) (a : Answer (List Raw)) → ((st : State) (rs : List Raw) (ms : List Mark) (j : ℕ) → a ≡ fits rs ms j → G st rs → H st rs) → Rel G o a → Rel H o a
+rel-with G H (ok st ms k) (fits rs ns j) f h = (h .0, h .1, f st rs ns j refl (h .2))
+rel-with G H (ok st ms k) fails f h = absurd h
+rel-with G H (bad e k) (fits rs ns j) f h = absurd h
+rel-with G H (bad e k) fails f h = tt
+rel-with G H (deep k) a f h = tt
+
 -- what the loop ends with, for the source s
 unfoldable Final : List ℕ → State → List Raw → Type 0
 Final s st rs = ((st .kept ≡ 0) × (rs ≡ [])) ⊎ ((n : ℕ) × (r : Raw) × (more : List Raw) × (st .kept ≡ suc n) × (rs ≡ r ∷ more)
@@ -181,12 +211,6 @@ module _ (sub₁ : Pattern.Inside) (sub₂ : Grammar.Inside) (agree : Agree sub�
 
   -- a pattern on the line: the state, and the claim
   module _ (s : List ℕ) where
-    k₀ : ℕ
-    k₀ = spaces s
-
-    s₀ : List ℕ
-    s₀ = drop (spaces s) s
-
     all-claims : (n : ℕ) → Shorter sub₁ sub₂ takes agree s (spaces s) n
     all-claims = claims sub₁ sub₂ takes agree s (spaces s)
 
@@ -197,3 +221,120 @@ module _ (sub₁ : Pattern.Inside) (sub₂ : Grammar.Inside) (agree : Agree sub�
         shown : (c : Option ℕ) (es : List Abstract.Element) → Shown s (spaces s) c (h .count) (h .added) es → Pattern.elementMarks s c (suc (h .count)) ([] ++ h .added) ≡ moveUp (spaces s) (Abstract.elementMarks (A7 rust (drop (spaces s) s) es))
         shown c [] x = absurd x
         shown c (e ∷ es) x = x
+
+    -- on the line of its start
+    inline-final : (st st′ : State) (b : ℕ) (t : List ℕ) (rs : List Raw) → st .elements ≡ [] → st .kept ≡ 0 → st .common ≡ Option.none → drop (spaces s) s ≡ b ∷ t → Inline rs → Common s (spaces s) st st′ rs → Content s (spaces s) 0 st st′ rs → Final s st′ rs
+    unfolding Final
+    inline-final st st′ b t rs e k c d i q (Content.nothing z h) = inl (h .kept ∙ k, z)
+    inline-final st st′ b t rs e k c d i q (Content.blank (zero) z m w h) = absurd (not-suc-le-zero m)
+    inline-final st st′ b t rs e k c d i q (Content.blank (suc n) z m w h) = clash {v = all isSpace (take (suc n) (drop (spaces s + 0) s))} w (rw (add-zero (spaces s), d) (unfold all isSpace in (rw (behind-spaces s b t d) refl)))
+    inline-final st st′ b t [] e k c d i q (Content.something h) = absurd (unfold made Abstract.pieces A6 in (h .shown Option.none))
+    inline-final st st′ b t (r ∷ rs) e k c d i q (Content.something h) =
+        let (n, x, y) = live-final st st′ 0 (r ∷ rs) e h in
+        inr (n, r, rs, x, refl, rw (pieces-inline (r ∷ rs) i) (ap (λ z. Pattern.elementMarks s z (suc n) (st′ .elements)) (q ∙ ap (λ z. both z (common rust (r ∷ rs))) c) ∙ y (common rust (r ∷ rs))))
+
+    -- the loop's start
+    pattern-from : (st : State) → firstState s ≡ st → getPattern sub₁ s ≡ finish s (Reader.after [] (st .used) (repeat (patternTurn sub₁) st (drop (st .used) s)))
+    unfolding getPattern
+    pattern-from st e = ap (λ z. finish s (Reader.after [] (z .used) (repeat (patternTurn sub₁) z (drop (z .used) s)))) e
+
+    first-inline : eol (drop (spaces s) s) ≡ 0 → firstState s ≡ stateAt (spaces s) initialLineStart
+    unfolding firstState
+    first-inline q = rw (q, firstState) refl
+
+    inline-pattern : (b : ℕ) (t : List ℕ) → drop (spaces s) s ≡ b ∷ t → eol (drop (spaces s) s) ≡ 0 → First sub₂ (agree .no-brace) (drop (spaces s) s) → ((rs : List Raw) (ms : List Mark) (j : ℕ) → tail sub₂ (drop (spaces s) s) ≡ fits rs ms j → Inline rs)
+        → SamePattern (getPattern sub₁ s) (Peg.after [] (spaces s) (whole sub₂ (agree .no-brace) (drop (spaces s) s)))
+    unfolding stateAt isLineStart
+    inline-pattern b t d q f i = rw (pattern-from (stateAt (spaces s) initialLineStart) (first-inline q)) (conclude s (repeat (patternTurn sub₁) (stateAt (spaces s) initialLineStart) (drop (spaces s) s)) f
+        (rel-with (λ st′ rs. Common s (spaces s) st st′ rs × Content s (spaces s) 0 st st′ rs) (Final s) (repeat (patternTurn sub₁) st (drop (spaces s) s)) (tail sub₂ (drop (spaces s) s))
+          (λ st′ rs ms j e x. inline-final st st′ b t rs refl refl refl d (i rs ms j e) (x .0) (x .1))
+          (all-claims (suc (length (drop (spaces s) s))) .texts st 0 (drop (spaces s) s) (omega arith) (record { used = sym (add-zero (spaces s)); here = ap (λ k. drop k s) (add-zero (spaces s)) }) refl)))
+      where
+        st : State
+        st = stateAt (spaces s) initialLineStart
+
+    end-pattern : drop (spaces s) s ≡ [] → SamePattern (getPattern sub₁ s) (Peg.after [] (spaces s) (whole sub₂ (agree .no-brace) (drop (spaces s) s)))
+    unfolding stateAt eol Final
+    end-pattern d = rw (pattern-from (stateAt (spaces s) initialLineStart) (first-inline (rw d refl))) (conclude s (repeat (patternTurn sub₁) (stateAt (spaces s) initialLineStart) (drop (spaces s) s)) (rw d (no-element (element-nil sub₂ (agree .no-brace))))
+        (rw (d, repeat-done (patternTurn sub₁) (stateAt (spaces s) initialLineStart) [] (ok (stateAt (spaces s) initialLineStart) [] 0) (turn-nil sub₁ (stateAt (spaces s) initialLineStart)), tail-nil sub₂ (agree .no-brace)) (refl, refl, inl (refl, refl))))
+
+    -- on a line of its own
+    line-final : (st st′ : State) (p : ℕ) (L : List Line) (rs : List Raw) → st .elements ≡ [] → st .kept ≡ 0 → st .common ≡ Option.none → width L ≡ p → Common s (spaces s) st st′ rs → Line-content s (spaces s) p st st′ rs → Final s st′ (behind L rs)
+    unfolding Final behind allPieces piecesFrom
+    line-final st st′ p L rs e k c w q (Line-content.nothing z h) = inl (h .kept ∙ k, rw z refl)
+    line-final st st′ p L rs e k c w q (Line-content.something r more z h) =
+        let (n, x, y) = live-final st st′ p rs e h in
+        inr (n, lines L, r ∷ more, x, rw z refl, ap (λ d. Pattern.elementMarks s d (suc n) (st′ .elements)) (q ∙ ap (λ d. both d (common rust rs)) c) ∙ y (common rust rs) ∙ ap (λ es. moveUp (spaces s) (Abstract.elementMarks (A7 rust (drop (spaces s) s) es))) (pieces-lines p L rs r more z w))
+
+    block-pattern : (p : ℕ) (r : List ℕ) (L : List Line) → firstState s ≡ stateAt (spaces s + p) lineStart → tail sub₂ (drop (spaces s) s) ≡ onward (behind L) p (lineTail sub₂ r) → drop (spaces s + p) s ≡ r → eol (drop (spaces r) r) ≡ 0 → width L ≡ p
+        → First sub₂ (agree .no-brace) (drop (spaces s) s) → SamePattern (getPattern sub₁ s) (Peg.after [] (spaces s) (whole sub₂ (agree .no-brace) (drop (spaces s) s)))
+    unfolding stateAt isLineStart moveUp
+    block-pattern p r L e tl d stops w f =
+        let st = stateAt (spaces s + p) lineStart in
+        rw (pattern-from st e, d, ← after-after [] (spaces s) [] p (repeat (patternTurn sub₁) st r)) (conclude s (Reader.after [] p (repeat (patternTurn sub₁) st r)) f
+          (rw tl (rel-step (λ st′ rs. Common s (spaces s) st st′ rs × Line-content s (spaces s) p st st′ rs) (Final s) (behind L) p p refl
+            (λ st′ rs x. line-final st st′ p L rs refl refl refl w (x .0) (x .1)) (repeat (patternTurn sub₁) st r) (lineTail sub₂ r)
+            (all-claims (suc (length r)) .lines st p r (omega arith) (record { used = refl; here = d }) refl stops))))
+
+    -- the state on the line behind blank lines
+    first-line : (e : ℕ) (t : List ℕ) {ls : List Line} {u : ℕ} → eol (drop (spaces s) s) ≡ suc e → drop (spaces s + suc e) s ≡ t → Block t ls u → firstState s ≡ stateAt (spaces s + (suc e + u)) lineStart
+    unfolding firstState usedBy
+    first-line e t {ls} {u} q d b = rw (q, firstState, lt-ltb 0 (suc e) (omega arith)) (rw (q, d, skip-block b) (ap (λ k. stateAt k lineStart) (add-assoc (spaces s) (suc e) u)))
+
+    -- what starts on the line is inline
+    Starts : First sub₂ (agree .no-brace) (drop (spaces s) s) → Type 0
+    Starts (no-element e) = Unit {0}
+    Starts (an-element r rs k e h) = Inline (r ∷ [])
+
+    inline-more : (r : Raw) (more : List Raw) → Inline (r ∷ []) → Inline (r ∷ more)
+    inline-more (text m) more h = tt
+    inline-more (lines ls) more h = h
+    inline-more (indent n) more h = tt
+    inline-more (brace-indent n) more h = tt
+    inline-more (placeable ms k) more h = tt
+
+    starts-inline : (f : First sub₂ (agree .no-brace) (drop (spaces s) s)) → Starts f → (rs : List Raw) (ms : List Mark) (j : ℕ) → tail sub₂ (drop (spaces s) s) ≡ fits rs ms j → Inline rs
+    unfolding Starts
+    starts-inline (no-element e) h rs ms j q = go (closing (drop (spaces s) s)) (sym q ∙ tail-none sub₂ (agree .no-brace) (drop (spaces s) s) e)
+      where
+        go : (a : Answer (Unit {0})) → fits rs ms j ≡ closed [] 0 a → Inline rs
+        go (fits u ns i) f = let z : rs ≡ [] = unfold closed in cc in rw z tt
+        go fails f = let z : _≡_ {A = ℕ} 0 1 = unfold closed in cc in absurd (omega arith)
+    starts-inline (an-element r rs k e h) g all ms j q = let (more, z) = tail-first sub₂ (agree .no-brace) (drop (spaces s) s) r rs k e h all ms j q in rw z (inline-more r more g)
+
+    from-first : (b : ℕ) (t : List ℕ) → drop (spaces s) s ≡ b ∷ t → eol (drop (spaces s) s) ≡ 0 → (f : First sub₂ (agree .no-brace) (drop (spaces s) s)) → Starts f → SamePattern (getPattern sub₁ s) (Peg.after [] (spaces s) (whole sub₂ (agree .no-brace) (drop (spaces s) s)))
+    from-first b t d q f h = inline-pattern b t d q f (starts-inline f h)
+
+    -- by what the pattern starts with
+    agrees-here : SamePattern (getPattern sub₁ s) (Peg.after [] (spaces s) (whole sub₂ (agree .no-brace) (drop (spaces s) s)))
+    unfolding eol textRun isTextAt isTextByte startsWith lineEnds spaces run width Starts
+    agrees-here = go (sign-of (drop (spaces s) s)) refl
+      where
+        Goal : Type 0
+        Goal = SamePattern (getPattern sub₁ s) (Peg.after [] (spaces s) (whole sub₂ (agree .no-brace) (drop (spaces s) s)))
+
+        go : {r : List ℕ} → Sign r → drop (spaces s) s ≡ r → Goal
+        go end d = end-pattern d
+        go (lf t) d =
+            let (ls, u, b) = block-of t in
+            let n : drop (spaces s + 1) s ≡ t = sym (drop-drop 1 (spaces s) s) ∙ ap (drop 1) d in
+            block-pattern (1 + u) (drop u t) (record { spaces = 0; ending = 1 } ∷ ls) (first-line 0 t (rw d refl) n b) (rw d (tail-lf sub₂ (agree .no-brace) t b)) (ap (λ j. drop j s) (sym (add-assoc (spaces s) 1 u)) ∙ sym (drop-drop u (spaces s + 1) s) ∙ ap (drop u) n) (block-stops b) (ap (λ k. 1 + k) (block-width b)) (rw d (first-block sub₂ (agree .no-brace) (lf-block t b) refl refl (omega arith)))
+        go (cr-lf t) d =
+            let (ls, u, b) = block-of t in
+            let n : drop (spaces s + 2) s ≡ t = sym (drop-drop 2 (spaces s) s) ∙ ap (drop 2) d in
+            block-pattern (2 + u) (drop u t) (record { spaces = 0; ending = 2 } ∷ ls) (first-line 1 t (rw d refl) n b) (rw d (tail-crlf sub₂ (agree .no-brace) t b)) (ap (λ j. drop j s) (sym (add-assoc (spaces s) 2 u)) ∙ sym (drop-drop u (spaces s + 2) s) ∙ ap (drop u) n) (block-stops b) (ap (λ k. 2 + k) (block-width b)) (rw d (first-block sub₂ (agree .no-brace) (crlf-block t b) refl refl (omega arith)))
+        go (opens t) d = by (sub₂ .inline-placeable (123 ∷ t)) refl (agree .uses-brace (123 ∷ t))
+          where
+            by : (o : Answer (Unit {0})) → sub₂ .inline-placeable (123 ∷ t) ≡ o → Uses (sub₂ .inline-placeable (123 ∷ t)) → Goal
+            by (fits u ms k) e z = from-first 123 t d (rw d refl) (an-element (placeable ms k) [] k (rw d (element-placeable sub₂ (agree .no-brace) (123 ∷ t) refl (block-fails (123 ∷ t) refl) e)) (rw e at z)) tt
+            by fails e z = from-first 123 t d (rw d refl) (no-element (rw d (element-none sub₂ (agree .no-brace) (123 ∷ t) refl (block-fails (123 ∷ t) refl) e))) tt
+        go (closes t) d = from-first 125 t d (rw d refl) (no-element (rw d (element-none sub₂ (agree .no-brace) (125 ∷ t) refl (block-fails (125 ∷ t) refl) (agree .no-brace (125 ∷ t) refl)))) tt
+        go (plain b t x y w v) d = from-first b t d (rw d (plain-eol b t x v)) (an-element (text (suc (textRun t))) [] (suc (textRun t)) (rw d (element-text sub₂ (agree .no-brace) (b ∷ t) (textRun t) (run-plain b t x y w v))) (omega arith)) tt
+
+  whole-is : (s : List ℕ) → whole-pattern sub₂ s ≡ Peg.after [] (spaces s) (whole sub₂ (agree .no-brace) (drop (spaces s) s))
+  unfolding whole-pattern whole behind-pattern
+  whole-is s = then-fits blank-inline? _ s (blank-inline?-is s)
+
+  -- patterns agree
+  pub pattern-agrees : PatternAgrees sub₁ sub₂
+  pattern-agrees = record { pattern = λ s. rw (whole-is s) (agrees-here s) }
