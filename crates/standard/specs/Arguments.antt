@@ -1,8 +1,8 @@
 -- Arguments of calls: the reading's against the grammar's.
-use Prim.Native.Nat.{ℕ, zero, suc, _+_, _-_, _≤_, _<_}
+use Prim.Native.Nat.{ℕ, zero, suc, _+_, _≤_, _<_}
 use native.Mathlib.Omega.{arith}
 use native.Mathlib.Nat.{add-zero, add-assoc, not-suc-le-zero}
-use mathlib.Core.Path.{_≡_, refl, sym, ap, ap₂, _∙_, subst, subst₂}
+use mathlib.Core.Path.{_≡_, refl, sym, ap, ap₂, _∙_, subst}
 use mathlib.Core.Bool.{Bool, true, false, _&&_, _||_, not}
 use mathlib.Core.List.{List, [], _∷_, _++_, append-nil}
 use lib.ListN.{drop, length, take, length-drop}
@@ -13,24 +13,24 @@ use Rattle.syntax.specs.Bytes.{starts, startsWith, eol, isLetter, isDigit}
 use Rattle.syntax.specs.Marks.{Mark, moveUp, textNode, node}
 use Rattle.syntax.specs.Reader as Reader
 use Rattle.syntax.specs.Reader.{Out, ok, bad, deep, Reader, Turn, again, done, turnOf, loop, repeat, wrap, inNode}
-use Rattle.syntax.specs.Helper.{skipBlank, expectByte, takeByteIf, getIdentifier}
+use Rattle.syntax.specs.Helper.{skipBlank, expectByte, takeByteIf}
 use Rattle.syntax.specs.Pattern as Pattern
 use Rattle.syntax.specs.Expression as Reading
-use Rattle.syntax.specs.Expression.{Inline, string, number, variable, function, inner, message, term, asInline, reference, getInlineExpression, sameBytes, isAmong, isNone, namedValue, namedArgument, afterReference, pastBlank, argumentBy, argumentTurn, parenthesised}
+use Rattle.syntax.specs.Expression.{Inline, string, number, variable, function, inner, message, term, getInlineExpression, sameBytes, isAmong, isNone, namedValue, namedArgument, afterReference, pastBlank, argumentBy, argumentTurn, parenthesised}
 use Rattle.laws.specs.Bytes.{byCase, clash}
 use Rattle.laws.specs.Moving.{moveUp-nil}
-use Rattle.laws.specs.Stable.{Holds, plain-next}
+use Rattle.laws.specs.Stable.{Holds}
 use Rattle.standard.specs.Dialect.{rust, all}
 use Rattle.standard.specs.Peg as Peg
-use Rattle.standard.specs.Peg.{Answer, fits, fails, Parser, opt, byte, pick, only, in-node, list-of, listTurns, withFirst, _/_, _>>_, _>>=_}
+use Rattle.standard.specs.Peg.{Answer, fits, fails, Parser, opt, byte, pick, only, list-of, listTurns, withFirst, _>>_, _>>=_}
 use Rattle.standard.specs.Abstract as Abstract
 use Rattle.standard.specs.Abstract.{Arg, named, same, freshIn, A9}
 use Rattle.standard.specs.Lexical.{Identifier, blank?}
 use Rattle.standard.specs.Grammar as Grammar
 use Rattle.standard.specs.Grammar.{InlineExpression, literal, NamedArgument, Argument, argument-list, CallArguments}
-use Rattle.standard.specs.Steps.{byte-fits, byte-fails, then-fits, then-fails, bind-fits, bind-fails, opt-fits, opt-fails, first, second, node-fits, node-fails, after-fails, after-none, after-skip, after-twice, only-passes, only-forbids, only-fails, next-after, starts-other, Uses, uses-first, uses-rest, uses-choice, uses-node, uses-text, uses-one}
+use Rattle.standard.specs.Steps.{byte-fits, byte-fails, then-fits, then-fails, bind-fits, bind-fails, opt-fits, opt-fails, first, second, node-fits, node-fails, after-fails, after-none, after-skip, only-passes, only-forbids, only-fails, next-after, Uses, uses-first, uses-choice, uses-node}
 use Rattle.standard.specs.Blank.{blanks, isBlankAt, over, over-over, drop-over, no-blanks, blank?-is, skipBlank-is, reader-skips, parser-skips}
-use Rattle.standard.specs.Same.{Same, nothing, Agree, same-after, same-wrap, wrap-after, then, same-blank, same-byte, reads-then, reads-after, reads-skip, ok-pure, fits-pure, expects, refuses}
+use Rattle.standard.specs.Same.{Same, nothing, Agree, same-after, same-wrap, wrap-after, then, same-blank, same-byte, reads-then, reads-after, reads-skip, fits-pure, expects}
 use Rattle.standard.specs.Near.{isOpening, Opens, Left, Near, over-after}
 use Rattle.standard.specs.Words.{nameOf, parses-name, no-name, uses-name, formOf}
 use Rattle.standard.specs.Inline.{behind, inline-near, literal-near, no-inline, uses-inline, colon-reference, Uncoloned, uncoloned}

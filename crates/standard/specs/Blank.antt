@@ -61,6 +61,11 @@ unfolding blanks isBlankAt startsWith
 none-blanks [] e f = refl
 none-blanks (b ∷ bs) e f = rw (e, blanks, isBlankAt, f) refl
 
+pub no-blank-at : (c : ℕ) (s : List ℕ) → startsWith c s ≡ true → eqb c 32 ≡ false → eqb c 10 ≡ false → eqb c 13 ≡ false → blanks s ≡ 0
+unfolding startsWith blanks isBlankAt eol
+no-blank-at c [] e p q r = refl
+no-blank-at c (x ∷ xs) e p q r = subst (λ y. blanks (y ∷ xs) ≡ 0) (sym (eqb-true x c e)) (rw (p, blanks, isBlankAt, q, eol, r) refl)
+
 -- no blank is left behind blanks
 pub no-blanks : (s : List ℕ) → blanks (drop (blanks s) s) ≡ 0
 unfolding blanks

@@ -1,15 +1,14 @@
 -- Inline expressions: the reading's against the grammar's.
-use Prim.Native.Nat.{ℕ, zero, suc, _+_, _-_, _≤_, _<_}
+use Prim.Native.Nat.{ℕ, _+_, _≤_}
 use native.Mathlib.Omega.{arith}
 use native.Mathlib.Nat.{add-zero}
 use mathlib.Core.Path.{_≡_, refl, sym, ap, ap₂, _∙_, subst, subst₂}
-use mathlib.Core.Bool.{Bool, true, false, _&&_, _||_}
+use mathlib.Core.Bool.{Bool, true, false, _&&_}
 use mathlib.Core.List.{List, [], _∷_, _++_, append-nil}
-use lib.ListN.{drop, length, take}
-use lib.Seq.{drop-drop}
+use lib.ListN.{drop, take}
 use lib.Dec.{eqb, leb}
-use borrow.Author.Tests.{eqb-true, lt-leb, leb-true, leb-false}
-use Rattle.syntax.specs.Bytes.{starts, startsWith, run, all as allBytes, eol, isLetter, isDigit, isUpper, isNamePart, isCalleePart}
+use borrow.Author.Tests.{eqb-true, lt-leb, leb-true}
+use Rattle.syntax.specs.Bytes.{starts, startsWith, run, all as allBytes, isLetter, isDigit, isUpper, isCalleePart}
 use Rattle.syntax.specs.Marks.{Mark, moveUp, textNode, node}
 use Rattle.syntax.specs.Reader as Reader
 use Rattle.syntax.specs.Reader.{Out, ok, bad, deep, Reader, wrap}
@@ -18,20 +17,20 @@ use Rattle.syntax.specs.Pattern as Pattern
 use Rattle.syntax.specs.Expression as Reading
 use Rattle.syntax.specs.Expression.{Inline, string, number, variable, function, inner, message, term, inlineKind, asInline, callArguments, getCallArguments, getAttributeAccessor, variableReference, functionReference, messageReference, referenceBy, reference, noInline, nonLiteral, getInlineExpression}
 use Rattle.laws.specs.Bytes.{byCase, clash}
-use Rattle.laws.specs.Moving.{after-after, moveUp-nil}
+use Rattle.laws.specs.Moving.{moveUp-nil}
 use Rattle.laws.specs.Stable.{Holds, plain-next}
 use Rattle.standard.specs.Dialect.{rust, all}
 use Rattle.standard.specs.Peg as Peg
-use Rattle.standard.specs.Peg.{Answer, fits, fails, Parser, opt, byte, void, given, pick, only, in-node, _/_, _>>_, _>>=_}
+use Rattle.standard.specs.Peg.{Answer, fits, fails, Parser, opt, byte, void, given, pick, only, _/_, _>>_, _>>=_}
 use Rattle.standard.specs.Abstract as Abstract
 use Rattle.standard.specs.Abstract.{A8}
-use Rattle.standard.specs.Lexical.{Identifier, NumberLiteral, UnsignedLiteral, AttributeAccessor, VariableReference, blank?, digits, unsigned}
+use Rattle.standard.specs.Lexical.{Identifier, NumberLiteral, UnsignedLiteral, AttributeAccessor, VariableReference, blank?}
 use Rattle.standard.specs.Grammar as Grammar
 use Rattle.standard.specs.Grammar.{StringLiteral, MessageReference, FunctionReference, TermReference, InlineExpression, literal}
-use Rattle.standard.specs.Steps.{one-fits, one-fails, byte-fits, byte-fails, then-fits, then-fails, bind-fits, bind-fails, void-fits, void-fails, opt-fits, opt-fails, first, second, node-fits, node-fails, after-fails, only-passes, only-forbids, starts-other, choice-assoc, Uses, uses-first, uses-choice, uses-node, uses-byte}
-use Rattle.standard.specs.Blank.{blanks, isBlankAt, over, over-over, drop-over, no-blanks, over-none, over-blanks, reader-skips, parser-skips}
-use Rattle.standard.specs.Same.{Same, nothing, Agree, reads-then, reads-bind, ok-pure, fits-pure, same-next, same-wrap, same-byte, expects, refuses}
-use Rattle.standard.specs.Near.{isOpening, Opens, opens-by, Left, Nearly, Near, nearly-near, same-near, near-pure, near-after, near-then, near-wrap, near-pick, near-first, near-second, Wrong, wrong-after, wrong-near}
+use Rattle.standard.specs.Steps.{byte-fits, byte-fails, then-fits, then-fails, bind-fits, bind-fails, void-fits, void-fails, opt-fits, opt-fails, first, second, node-fits, node-fails, after-fails, only-passes, only-forbids, starts-other, choice-assoc, Uses, uses-first, uses-choice, uses-node, uses-byte}
+use Rattle.standard.specs.Blank.{blanks, over, over-over, drop-over, no-blank-at, over-none, over-blanks, reader-skips, parser-skips}
+use Rattle.standard.specs.Same.{Same, nothing, Agree, reads-bind, ok-pure, fits-pure, same-next, same-wrap, same-byte, expects}
+use Rattle.standard.specs.Near.{isOpening, Opens, opens-by, Left, Near, nearly-near, same-near, near-pure, near-after, near-then, near-wrap, near-pick, near-first, near-second, Wrong, wrong-near}
 use Rattle.standard.specs.Words.{letter-names, nameOf, reads-name, parses-name, no-name, same-name, no-number, no-negative, no-unsigned-literal, number-literal, unsigned-literal, formOf, string-literal, uses-name, uses-number}
 
 -- AttributeAccessor ---------------------------------------------------------------------------------------------------------------------------
@@ -63,12 +62,6 @@ accessor s = byCase (startsWith 46 s) (λ e. rw (e, getAttributeAccessor) (go e 
 abbrev spaced : Parser (Unit {0})
 spaced = given true (blank? >> AttributeAccessor) / AttributeAccessor
 
--- r, and what stands behind its blanks
-dot-first : (r : List ℕ) → startsWith 46 r ≡ true → blanks r ≡ 0
-unfolding startsWith blanks isBlankAt eol
-dot-first [] e = refl
-dot-first (b ∷ bs) e = subst (λ x. blanks (x ∷ bs) ≡ 0) (sym (eqb-true b 46 e)) refl
-
 spaced-fits : (r : List ℕ) {ms : List Mark} {k : ℕ} → AttributeAccessor (drop (blanks r) r) ≡ fits tt ms k → spaced r ≡ fits tt (moveUp (blanks r) ms) (blanks r + k)
 unfolding given Peg.after
 spaced-fits r e = first (blank? >> AttributeAccessor) AttributeAccessor r (parser-skips AttributeAccessor r ∙ ap (Peg.after [] (blanks r)) e)
@@ -76,7 +69,7 @@ spaced-fits r e = first (blank? >> AttributeAccessor) AttributeAccessor r (parse
 spaced-fails : (r : List ℕ) → AttributeAccessor (drop (blanks r) r) ≡ fails → spaced r ≡ fails
 unfolding given
 spaced-fails r e = second (blank? >> AttributeAccessor) AttributeAccessor r (parser-skips AttributeAccessor r ∙ after-fails [] (blanks r) e)
-    ∙ byCase (startsWith 46 r) (λ q. subst (λ n. AttributeAccessor (drop n r) ≡ fails) (dot-first r q) e) (λ q. no-dot r q)
+    ∙ byCase (startsWith 46 r) (λ q. subst (λ n. AttributeAccessor (drop n r) ≡ fails) (no-blank-at 46 r q refl refl refl) e) (λ q. no-dot r q)
 
 -- what stands behind the blanks of r
 abbrev pub behind : List ℕ → List ℕ
@@ -258,7 +251,7 @@ module _ {sub₁ : Pattern.Inside} {sub₂ : Grammar.Inside} (agree : Agree sub�
   dot-left : (r : List ℕ) → startsWith 46 r ≡ true → AttributeAccessor r ≡ fails → Left r ((attribute >>= term-end) r)
   unfolding attribute term-end Peg.pure Peg.after moveUp isOpening
   dot-left r d h =
-      let b : behind r ≡ r = ap (λ n. drop n r) (dot-first r d) in
+      let b : behind r ≡ r = ap (λ n. drop n r) (no-blank-at 46 r d refl refl refl) in
       let c : sub₂ .CallArguments r ≡ fails = agree .no-parenthesis r (rw b (starts-other 46 40 r d refl)) in
       let t : (attribute >>= term-end) r ≡ fits (Abstract.termReference false) [] 0 =
           bind-fits attribute term-end r (opt-fails false (AttributeAccessor >> Peg.pure true) r (then-fails AttributeAccessor (Peg.pure true) r h))

@@ -24,3 +24,4 @@ pub mod Words
 pub mod Inline
 pub mod Arguments
 pub mod Select
+pub mod Placeable

@@ -196,6 +196,12 @@ wrong-after ms k (ok x ns j) h = h
 wrong-after ms k (bad e j) h = tt
 wrong-after ms k (deep j) h = tt
 
+pub wrong-next : {A B : Type 0} (s : List ℕ) (q : A → Reader B) (o : Out A) → Wrong o → Wrong (Reader.next s q o)
+unfolding Reader.next
+wrong-next s q (ok x ms k) h = absurd h
+wrong-next s q (bad e k) h = tt
+wrong-next s q (deep k) h = tt
+
 pub wrong-near : {A B : Type 0} (f : A → B) (s : List ℕ) (o : Out A) (a : Answer B) → Wrong o → Left s a → Near f s o a
 wrong-near f s (ok x ms k) a h l = absurd h
 wrong-near f s (bad e k) a h l = l

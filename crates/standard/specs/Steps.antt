@@ -43,6 +43,18 @@ module _ {A : Type 0} where
   unfolding _/_
   second p q s e = rw (e, _/_) refl
 
+  -- where the second fails
+  pub choice-first : (p q : Parser A) (s : List ℕ) → q s ≡ fails → (p / q) s ≡ p s
+  unfolding _/_
+  choice-first p q s e = go (p s)
+    where
+      or : Answer A → Answer A → Answer A
+      or a b = elim a [ fits x ms k ↦ fits x ms k | fails ↦ b ]
+
+      go : (a : Answer A) → or a (q s) ≡ a
+      go (fits x ms k) = refl
+      go fails = e
+
   pub choice-assoc : (p q r : Parser A) (s : List ℕ) → (p / (q / r)) s ≡ ((p / q) / r) s
   unfolding _/_
   choice-assoc p q r s = go (p s)
@@ -166,6 +178,19 @@ unfolding next after
 next-after s q ms k (fits a ns j) = ap (λ r. after (ms ++ moveUp k ns) (k + j) (q a r)) (sym (drop-drop j k s)) ∙ sym (after-twice ms k ns j (q a (drop j (drop k s))))
 next-after s q ms k fails = refl
 
+-- a choice between what follows one answer
+pub shared-first : {A B : Type 0} (a : Answer A) (p q : Parser B) (s : List ℕ) → (((λ _. a) >> p) / ((λ _. a) >> q)) s ≡ next s (λ _. p / q) a
+unfolding _/_ _>>_ next
+shared-first {B = B} (fits x ms k) p q s = go (p (drop k s))
+  where
+    or : Answer B → Answer B → Answer B
+    or a b = elim a [ fits y ns j ↦ fits y ns j | fails ↦ b ]
+
+    go : (a : Answer B) → or (after ms k a) (after ms k (q (drop k s))) ≡ after ms k (or a (q (drop k s)))
+    go (fits y ns j) = unfold after in refl
+    go fails = unfold after in refl
+shared-first fails p q s = refl
+
 -- n times nothing
 unfoldable pub units : ℕ → List (Unit {0})
 units zero = []
@@ -211,7 +236,7 @@ pub one-fails : (p : ℕ → Bool) (s : List ℕ) → starts p s ≡ false → o
 unfolding one
 one-fails p s e = rw (e, one) refl
 
-starts-byte : (b : ℕ) (s : List ℕ) → starts (λ x. eqb x b) s ≡ startsWith b s
+pub starts-byte : (b : ℕ) (s : List ℕ) → starts (λ x. eqb x b) s ≡ startsWith b s
 unfolding starts startsWith
 starts-byte b [] = refl
 starts-byte b (x ∷ xs) = refl

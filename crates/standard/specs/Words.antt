@@ -13,7 +13,7 @@ use Rattle.syntax.specs.Bytes.{starts, startsWith, run, isLetter, isDigit, isNa
 use Rattle.syntax.specs.Marks.{Mark, up, moveUp, textNode}
 use Rattle.syntax.specs.Reader as Reader
 use Rattle.syntax.specs.Reader.{Out, ok, bad, deep, Reader, Turn, again, done, turnOf, loop, repeat}
-use Rattle.syntax.specs.Helper.{takeByteIf, expectByte, skipDigits, fraction, number as readNumber, asText, getNumberLiteral, getIdentifier, skipUnicodeEscapeSequence}
+use Rattle.syntax.specs.Helper.{takeByteIf, expectByte, skipDigits, fraction, number as readNumber, getNumberLiteral, getIdentifier, skipUnicodeEscapeSequence}
 use Rattle.syntax.specs.Expression.{Inline, string, number, variable, function, inner, message, term, escapeTurn, stringTurn, stringLiteral, asString}
 use Rattle.laws.specs.Bytes.{byCase, clash}
 use Rattle.standard.specs.Dialect.{rust, all}
