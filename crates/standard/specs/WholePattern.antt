@@ -160,6 +160,13 @@ rel-with G H (bad e k) (fits rs ns j) f h = absurd h
 rel-with G H (bad e k) fails f h = tt
 rel-with G H (deep k) a f h = tt
 
+-- the pattern of the source s; where there is none, there is no element, and the reading has passed what may follow a pattern
+abbrev pub Whole : Grammar.Inside → List ℕ → Out Bool → Answer (Unit {0}) → Type 0
+Whole sub s (ok true ms k) a = a ≡ fits tt ms k
+Whole sub s (ok false ms k) a = (a ≡ fails) × (PatternElement rust sub (drop (spaces s) s) ≡ fails) × (ms ≡ []) × (u : Unit {0}) × (ns : List Mark) × (j : ℕ) × (closing (drop (spaces s) s) ≡ fits u ns j) × (k ≡ spaces s + j)
+Whole sub s (bad e k) a = a ≡ fails
+Whole sub s (deep k) a = Unit {0}
+
 -- what the loop ends with, for the source s
 unfoldable Final : List ℕ → State → List Raw → Type 0
 Final s st rs = ((st .kept ≡ 0) × (rs ≡ [])) ⊎ ((n : ℕ) × (r : Raw) × (more : List Raw) × (st .kept ≡ suc n) × (rs ≡ r ∷ more)
@@ -188,23 +195,23 @@ module _ (sub₁ : Pattern.Inside) (sub₂ : Grammar.Inside) (agree : Agree sub�
   unfolding finish
   finish-some s st ms k n q = rw (finish, q, eqb·suc-zero) (rw q refl)
 
-  conclude : (s : List ℕ) (o : Out State) → First sub₂ (agree .no-brace) (drop (spaces s) s) → Rel (Final s) o (tail sub₂ (drop (spaces s) s)) → SamePattern (finish s (Reader.after [] (spaces s) o)) (Peg.after [] (spaces s) (whole sub₂ (agree .no-brace) (drop (spaces s) s)))
+  conclude : (s : List ℕ) (o : Out State) → First sub₂ (agree .no-brace) (drop (spaces s) s) → Rel (Final s) o (tail sub₂ (drop (spaces s) s)) → Whole sub₂ s (finish s (Reader.after [] (spaces s) o)) (Peg.after [] (spaces s) (whole sub₂ (agree .no-brace) (drop (spaces s) s)))
   unfolding Reader.after Peg.after Final moveUp closed patterned patternNode
   conclude s (deep k) f r = unfold finish in tt
   conclude s (bad e k) (no-element x) r = unfold finish in (rw (whole-fails sub₂ (agree .no-brace) (drop (spaces s) s) x) refl)
   conclude s (bad e k) (an-element x rs j y h) r = unfold finish patterned in (rw (whole-fits sub₂ (agree .no-brace) (drop (spaces s) s) (x ∷ rs) j y h, bad-fails (Final s) e k (tail sub₂ (drop (spaces s) s)) r) refl)
-  conclude s (ok st ms k) (no-element x) r = rw (whole-fails sub₂ (agree .no-brace) (drop (spaces s) s) x) (go (closing (drop (spaces s) s)) (rw (tail-none sub₂ (agree .no-brace) (drop (spaces s) s) x) at r))
+  conclude s (ok st ms k) (no-element x) r = rw (whole-fails sub₂ (agree .no-brace) (drop (spaces s) s) x) (go (closing (drop (spaces s) s)) refl (rw (tail-none sub₂ (agree .no-brace) (drop (spaces s) s) x) at r))
     where
-      empty : (Final s st []) → SamePattern (finish s (ok st ([] ++ moveUp (spaces s) ms) (spaces s + k))) fails
-      empty (inl (q, z)) = rw (finish-none s st ([] ++ moveUp (spaces s) ms) (spaces s + k) q) refl
-      empty (inr (n, x, more, q, z, w)) = let y : _≡_ {A = ℕ} 0 1 = cc in absurd (omega arith)
+      empty : (u : Unit {0}) (ns : List Mark) (j : ℕ) → closing (drop (spaces s) s) ≡ fits u ns j → k ≡ 0 + j → Final s st [] → Whole sub₂ s (finish s (ok st ([] ++ moveUp (spaces s) ms) (spaces s + k))) fails
+      empty u ns j c w (inl (q, z)) = rw (finish-none s st ([] ++ moveUp (spaces s) ms) (spaces s + k) q) (refl, x, refl, u, ns, j, c, ap (λ i. spaces s + i) (w ∙ zero-add j))
+      empty u ns j c w (inr (n, x, more, q, z, v)) = let y : _≡_ {A = ℕ} 0 1 = cc in absurd (omega arith)
 
-      go : (a : Answer (Unit {0})) → Rel (Final s) (ok st ms k) (closed [] 0 a) → SamePattern (finish s (ok st ([] ++ moveUp (spaces s) ms) (spaces s + k))) fails
-      go (fits u ns j) h = empty (h .2)
-      go fails h = absurd h
+      go : (a : Answer (Unit {0})) → closing (drop (spaces s) s) ≡ a → Rel (Final s) (ok st ms k) (closed [] 0 a) → Whole sub₂ s (finish s (ok st ([] ++ moveUp (spaces s) ms) (spaces s + k))) fails
+      go (fits u ns j) c h = empty u ns j c (h .1) (h .2)
+      go fails c h = absurd h
   conclude s (ok st ms k) (an-element x rs j y h) r = rw (whole-fits sub₂ (agree .no-brace) (drop (spaces s) s) (x ∷ rs) j y h) (go (tail sub₂ (drop (spaces s) s)) refl r)
     where
-      go : (a : Answer (List Raw)) → tail sub₂ (drop (spaces s) s) ≡ a → Rel (Final s) (ok st ms k) a → SamePattern (finish s (ok st ([] ++ moveUp (spaces s) ms) (spaces s + k))) (Peg.after [] (spaces s) (patterned (drop (spaces s) s) a))
+      go : (a : Answer (List Raw)) → tail sub₂ (drop (spaces s) s) ≡ a → Rel (Final s) (ok st ms k) a → Whole sub₂ s (finish s (ok st ([] ++ moveUp (spaces s) ms) (spaces s + k))) (Peg.after [] (spaces s) (patterned (drop (spaces s) s) a))
       go (fits all ns i) e (z, w, inl v) = let (more, q) = tail-first sub₂ (agree .no-brace) (drop (spaces s) s) x rs j y h all ns i e in let y : _≡_ {A = ℕ} 0 1 = cc (v .1) in absurd (omega arith)
       go (fits all ns i) e (z, w, inr v) = let (n, b, more, q, p, marks) = v in rw (finish-some s st (moveUp (spaces s) ms) (spaces s + k) n q) (ap₂ (λ o j. fits tt o j) (moveUp-node (spaces s) 11 (Abstract.elementMarks (A7 rust (drop (spaces s) s) (A6 rust (allPieces rust all)))) ∙ ap (node 11) (sym marks)) (ap (λ j. spaces s + j) (sym w)))
       go fails e v = absurd v
@@ -243,7 +250,7 @@ module _ (sub₁ : Pattern.Inside) (sub₂ : Grammar.Inside) (agree : Agree sub�
     first-inline q = rw (q, firstState) refl
 
     inline-pattern : (b : ℕ) (t : List ℕ) → drop (spaces s) s ≡ b ∷ t → eol (drop (spaces s) s) ≡ 0 → First sub₂ (agree .no-brace) (drop (spaces s) s) → ((rs : List Raw) (ms : List Mark) (j : ℕ) → tail sub₂ (drop (spaces s) s) ≡ fits rs ms j → Inline rs)
-        → SamePattern (getPattern sub₁ s) (Peg.after [] (spaces s) (whole sub₂ (agree .no-brace) (drop (spaces s) s)))
+        → Whole sub₂ s (getPattern sub₁ s) (Peg.after [] (spaces s) (whole sub₂ (agree .no-brace) (drop (spaces s) s)))
     unfolding stateAt isLineStart
     inline-pattern b t d q f i = rw (pattern-from (stateAt (spaces s) initialLineStart) (first-inline q)) (conclude s (repeat (patternTurn sub₁) (stateAt (spaces s) initialLineStart) (drop (spaces s) s)) f
         (rel-with (λ st′ rs. Common s (spaces s) st st′ rs × Content s (spaces s) 0 st st′ rs) (Final s) (repeat (patternTurn sub₁) st (drop (spaces s) s)) (tail sub₂ (drop (spaces s) s))
@@ -253,7 +260,7 @@ module _ (sub₁ : Pattern.Inside) (sub₂ : Grammar.Inside) (agree : Agree sub�
         st : State
         st = stateAt (spaces s) initialLineStart
 
-    end-pattern : drop (spaces s) s ≡ [] → SamePattern (getPattern sub₁ s) (Peg.after [] (spaces s) (whole sub₂ (agree .no-brace) (drop (spaces s) s)))
+    end-pattern : drop (spaces s) s ≡ [] → Whole sub₂ s (getPattern sub₁ s) (Peg.after [] (spaces s) (whole sub₂ (agree .no-brace) (drop (spaces s) s)))
     unfolding stateAt eol Final
     end-pattern d = rw (pattern-from (stateAt (spaces s) initialLineStart) (first-inline (rw d refl))) (conclude s (repeat (patternTurn sub₁) (stateAt (spaces s) initialLineStart) (drop (spaces s) s)) (rw d (no-element (element-nil sub₂ (agree .no-brace))))
         (rw (d, repeat-done (patternTurn sub₁) (stateAt (spaces s) initialLineStart) [] (ok (stateAt (spaces s) initialLineStart) [] 0) (turn-nil sub₁ (stateAt (spaces s) initialLineStart)), tail-nil sub₂ (agree .no-brace)) (refl, refl, inl (refl, refl))))
@@ -267,7 +274,7 @@ module _ (sub₁ : Pattern.Inside) (sub₂ : Grammar.Inside) (agree : Agree sub�
         inr (n, lines L, r ∷ more, x, rw z refl, ap (λ d. Pattern.elementMarks s d (suc n) (st′ .elements)) (q ∙ ap (λ d. both d (common rust rs)) c) ∙ y (common rust rs) ∙ ap (λ es. moveUp (spaces s) (Abstract.elementMarks (A7 rust (drop (spaces s) s) es))) (pieces-lines p L rs r more z w))
 
     block-pattern : (p : ℕ) (r : List ℕ) (L : List Line) → firstState s ≡ stateAt (spaces s + p) lineStart → tail sub₂ (drop (spaces s) s) ≡ onward (behind L) p (lineTail sub₂ r) → drop (spaces s + p) s ≡ r → eol (drop (spaces r) r) ≡ 0 → width L ≡ p
-        → First sub₂ (agree .no-brace) (drop (spaces s) s) → SamePattern (getPattern sub₁ s) (Peg.after [] (spaces s) (whole sub₂ (agree .no-brace) (drop (spaces s) s)))
+        → First sub₂ (agree .no-brace) (drop (spaces s) s) → Whole sub₂ s (getPattern sub₁ s) (Peg.after [] (spaces s) (whole sub₂ (agree .no-brace) (drop (spaces s) s)))
     unfolding stateAt isLineStart moveUp
     block-pattern p r L e tl d stops w f =
         let st = stateAt (spaces s + p) lineStart in
@@ -302,16 +309,16 @@ module _ (sub₁ : Pattern.Inside) (sub₂ : Grammar.Inside) (agree : Agree sub�
         go fails f = let z : _≡_ {A = ℕ} 0 1 = unfold closed in cc in absurd (omega arith)
     starts-inline (an-element r rs k e h) g all ms j q = let (more, z) = tail-first sub₂ (agree .no-brace) (drop (spaces s) s) r rs k e h all ms j q in rw z (inline-more r more g)
 
-    from-first : (b : ℕ) (t : List ℕ) → drop (spaces s) s ≡ b ∷ t → eol (drop (spaces s) s) ≡ 0 → (f : First sub₂ (agree .no-brace) (drop (spaces s) s)) → Starts f → SamePattern (getPattern sub₁ s) (Peg.after [] (spaces s) (whole sub₂ (agree .no-brace) (drop (spaces s) s)))
+    from-first : (b : ℕ) (t : List ℕ) → drop (spaces s) s ≡ b ∷ t → eol (drop (spaces s) s) ≡ 0 → (f : First sub₂ (agree .no-brace) (drop (spaces s) s)) → Starts f → Whole sub₂ s (getPattern sub₁ s) (Peg.after [] (spaces s) (whole sub₂ (agree .no-brace) (drop (spaces s) s)))
     from-first b t d q f h = inline-pattern b t d q f (starts-inline f h)
 
     -- by what the pattern starts with
-    agrees-here : SamePattern (getPattern sub₁ s) (Peg.after [] (spaces s) (whole sub₂ (agree .no-brace) (drop (spaces s) s)))
+    agrees-here : Whole sub₂ s (getPattern sub₁ s) (Peg.after [] (spaces s) (whole sub₂ (agree .no-brace) (drop (spaces s) s)))
     unfolding eol textRun isTextAt isTextByte startsWith lineEnds spaces run width Starts
     agrees-here = go (sign-of (drop (spaces s) s)) refl
       where
         Goal : Type 0
-        Goal = SamePattern (getPattern sub₁ s) (Peg.after [] (spaces s) (whole sub₂ (agree .no-brace) (drop (spaces s) s)))
+        Goal = Whole sub₂ s (getPattern sub₁ s) (Peg.after [] (spaces s) (whole sub₂ (agree .no-brace) (drop (spaces s) s)))
 
         go : {r : List ℕ} → Sign r → drop (spaces s) s ≡ r → Goal
         go end d = end-pattern d
@@ -335,6 +342,15 @@ module _ (sub₁ : Pattern.Inside) (sub₂ : Grammar.Inside) (agree : Agree sub�
   unfolding whole-pattern whole behind-pattern
   whole-is s = then-fits blank-inline? _ s (blank-inline?-is s)
 
+  pub whole-agrees : (s : List ℕ) → Whole sub₂ s (getPattern sub₁ s) (whole-pattern sub₂ s)
+  whole-agrees s = rw (whole-is s) (agrees-here s)
+
   -- patterns agree
   pub pattern-agrees : PatternAgrees sub₁ sub₂
-  pattern-agrees = record { pattern = λ s. rw (whole-is s) (agrees-here s) }
+  pattern-agrees = record { pattern = λ s. go s (getPattern sub₁ s) (whole-agrees s) }
+    where
+      go : (s : List ℕ) (o : Out Bool) → Whole sub₂ s o (whole-pattern sub₂ s) → SamePattern o (whole-pattern sub₂ s)
+      go s (ok true ms k) h = h
+      go s (ok false ms k) h = h .0
+      go s (bad e k) h = h
+      go s (deep k) h = tt
