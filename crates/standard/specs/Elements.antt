@@ -217,12 +217,12 @@ unfolding block-brace Peg.after moveUp
 block-brace-is s {ls} {u} e = then-fits (blank-block >> blank-inline?) (byte 123) s (then-fits blank-block blank-inline? s e ∙ ap (Peg.after [] u) (blank-inline?-is (drop u s))) ∙ rw (drop-drop (spaces (drop u s)) u s) refl
 
 -- the bar is passed, and so is the line end
-closing-fits : (s : List ℕ) {ls : List Line} {u : ℕ} → lineEnds s ≡ true → blank-block s ≡ fits ls [] u → startsWith 123 (drop (spaces (drop u s)) (drop u s)) ≡ false → closing s ≡ fits tt [] u
+pub closing-fits : (s : List ℕ) {ls : List Line} {u : ℕ} → lineEnds s ≡ true → blank-block s ≡ fits ls [] u → startsWith 123 (drop (spaces (drop u s)) (drop u s)) ≡ false → closing s ≡ fits tt [] u
 unfolding closing Peg.after moveUp
 closing-fits s {ls} {u} h e q = then-fits (bar block-brace) (ahead line-end >> void blank-block) s (bar-fails block-brace s (block-brace-is s e ∙ ap (Peg.after [] (u + spaces (drop u s))) (byte-fails 123 (drop (spaces (drop u s)) (drop u s)) q)))
     ∙ ap (Peg.after [] 0) (then-fits (ahead line-end) (void blank-block) s (ahead-fits line-end s (line-end-is s h)) ∙ ap (Peg.after [] 0) (void-fits blank-block s e)) ∙ ap (fits tt []) (omega arith)
 
-closing-brace : (s : List ℕ) {ls : List Line} {u : ℕ} → blank-block s ≡ fits ls [] u → startsWith 123 (drop (spaces (drop u s)) (drop u s)) ≡ true → closing s ≡ fails
+pub closing-brace : (s : List ℕ) {ls : List Line} {u : ℕ} → blank-block s ≡ fits ls [] u → startsWith 123 (drop (spaces (drop u s)) (drop u s)) ≡ true → closing s ≡ fails
 unfolding closing Peg.after
 closing-brace s {ls} {u} e q = then-fails (bar block-brace) (ahead line-end >> void blank-block) s (bar-fits block-brace s (block-brace-is s e ∙ ap (Peg.after [] (u + spaces (drop u s))) (byte-fits 123 (drop (spaces (drop u s)) (drop u s)) q)))
 
@@ -236,7 +236,7 @@ closing-fails s h = go (block-brace s) refl
     go fails e = then-fits (bar block-brace) (ahead line-end >> void blank-block) s (bar-fails block-brace s e) ∙ ap (Peg.after [] 0) (then-fails (ahead line-end) (void blank-block) s (ahead-fails line-end s (no-line-end s h)))
 
 -- at the end of input
-block-at-end : blank-block [] ≡ fits (record { spaces = 0; ending = 0 } ∷ []) [] 0
+pub block-at-end : blank-block [] ≡ fits (record { spaces = 0; ending = 0 } ∷ []) [] 0
 unfolding blank-block some blank-line opt blank-inline sized byte one starts line-end _>>=_ _>>_ _/_ Peg.next Peg.after pure eof many Peg.turns moveUp
 block-at-end = refl
 

@@ -160,11 +160,12 @@ rel-with G H (bad e k) (fits rs ns j) f h = absurd h
 rel-with G H (bad e k) fails f h = tt
 rel-with G H (deep k) a f h = tt
 
--- the pattern of the source s; where there is none, there is no element, and the reading has passed what may follow a pattern
+-- the pattern of the source s; where there is none, there is no element, and the reading has passed what may follow a pattern; where
+-- there is an error, the elements end where no pattern may end
 abbrev pub Whole : Grammar.Inside → List ℕ → Out Bool → Answer (Unit {0}) → Type 0
 Whole sub s (ok true ms k) a = a ≡ fits tt ms k
 Whole sub s (ok false ms k) a = (a ≡ fails) × (PatternElement rust sub (drop (spaces s) s) ≡ fails) × (ms ≡ []) × (u : Unit {0}) × (ns : List Mark) × (j : ℕ) × (closing (drop (spaces s) s) ≡ fits u ns j) × (k ≡ spaces s + j)
-Whole sub s (bad e k) a = a ≡ fails
+Whole sub s (bad e k) a = (a ≡ fails) × (tail sub (drop (spaces s) s) ≡ fails)
 Whole sub s (deep k) a = Unit {0}
 
 -- what the loop ends with, for the source s
@@ -198,8 +199,8 @@ module _ (sub₁ : Pattern.Inside) (sub₂ : Grammar.Inside) (agree : Agree sub�
   conclude : (s : List ℕ) (o : Out State) → First sub₂ (agree .no-brace) (drop (spaces s) s) → Rel (Final s) o (tail sub₂ (drop (spaces s) s)) → Whole sub₂ s (finish s (Reader.after [] (spaces s) o)) (Peg.after [] (spaces s) (whole sub₂ (agree .no-brace) (drop (spaces s) s)))
   unfolding Reader.after Peg.after Final moveUp closed patterned patternNode
   conclude s (deep k) f r = unfold finish in tt
-  conclude s (bad e k) (no-element x) r = unfold finish in (rw (whole-fails sub₂ (agree .no-brace) (drop (spaces s) s) x) refl)
-  conclude s (bad e k) (an-element x rs j y h) r = unfold finish patterned in (rw (whole-fits sub₂ (agree .no-brace) (drop (spaces s) s) (x ∷ rs) j y h, bad-fails (Final s) e k (tail sub₂ (drop (spaces s) s)) r) refl)
+  conclude s (bad e k) (no-element x) r = unfold finish in (rw (whole-fails sub₂ (agree .no-brace) (drop (spaces s) s) x) (refl, bad-fails (Final s) e k (tail sub₂ (drop (spaces s) s)) r))
+  conclude s (bad e k) (an-element x rs j y h) r = unfold finish patterned in (rw (whole-fits sub₂ (agree .no-brace) (drop (spaces s) s) (x ∷ rs) j y h, bad-fails (Final s) e k (tail sub₂ (drop (spaces s) s)) r) (refl, refl))
   conclude s (ok st ms k) (no-element x) r = rw (whole-fails sub₂ (agree .no-brace) (drop (spaces s) s) x) (go (closing (drop (spaces s) s)) refl (rw (tail-none sub₂ (agree .no-brace) (drop (spaces s) s) x) at r))
     where
       empty : (u : Unit {0}) (ns : List Mark) (j : ℕ) → closing (drop (spaces s) s) ≡ fits u ns j → k ≡ 0 + j → Final s st [] → Whole sub₂ s (finish s (ok st ([] ++ moveUp (spaces s) ms) (spaces s + k))) fails
@@ -352,5 +353,5 @@ module _ (sub₁ : Pattern.Inside) (sub₂ : Grammar.Inside) (agree : Agree sub�
       go : (s : List ℕ) (o : Out Bool) → Whole sub₂ s o (whole-pattern sub₂ s) → SamePattern o (whole-pattern sub₂ s)
       go s (ok true ms k) h = h
       go s (ok false ms k) h = h .0
-      go s (bad e k) h = h
+      go s (bad e k) h = h .0
       go s (deep k) h = tt
