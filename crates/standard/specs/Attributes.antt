@@ -6,7 +6,7 @@ use mathlib.Core.Path.{_≡_, refl, sym, ap, ap₂, _∙_, subst}
 use mathlib.Core.Logic.{_⊎_, inl, inr}
 use mathlib.Core.Bool.{Bool, true, false, _&&_, _||_}
 use mathlib.Core.List.{List, [], _∷_, _++_, append-nil}
-use lib.ListN.{drop, length, length-drop}
+use lib.ListN.{drop, take, length, length-drop}
 use lib.Seq.{drop-drop}
 use lib.Dec.{eqb, ltb}
 use Rattle.syntax.specs.Bytes.{startsWith, spaces, eol, run}
@@ -29,7 +29,7 @@ use Rattle.standard.specs.Abstract.{Line}
 use Rattle.standard.specs.Lexical.{line-end, blank-inline?, blank?, blank-block, Identifier}
 use Rattle.standard.specs.Grammar as Grammar
 use Rattle.standard.specs.Grammar.{Attribute, PatternElement}
-use Rattle.standard.specs.Blank.{isBlankAt, blanks, blanks-on, eol-blanks, lineEnds, line-end-is, no-line-end, blank-inline?-is, blank?-is, block-lines, ends-spaces, Lines}
+use Rattle.standard.specs.Blank.{isBlankAt, blanks, blanks-on, eol-blanks, lineEnds, line-end-is, no-line-end, blank-inline?-is, blank?-is, parser-skips, block-lines, ends-spaces, Lines}
 use Rattle.standard.specs.Same.{Same, nothing, Agree, whole-pattern, same-byte, same-blank-inline, node-up}
 use Rattle.standard.specs.Words.{same-name}
 use Rattle.standard.specs.Turns.{Shrinks, AtEnd, repeat-again, repeat-done, many-again, many-none}
@@ -120,3 +120,107 @@ module _ (sub : Grammar.Inside) where
           (λ l. let g = gap-of (drop j (drop (spaces s) s)) l in fit ns j e g (from (then-fits (Grammar.Pattern rust sub) pattern-end (drop (spaces s) s) e ∙ ap (Peg.after ns j) (ends-fits (drop j (drop (spaces s) s)) g) ∙ ap (λ ms. fits tt ms (j + g .size)) (append-nil ns))))
           (λ l. broken ns j e l (from (then-fits (Grammar.Pattern rust sub) pattern-end (drop (spaces s) s) e ∙ ap (Peg.after ns j) (ends-fails (drop j (drop (spaces s) s)) l))))
       go fails e = missing e (from (then-fails (Grammar.Pattern rust sub) pattern-end (drop (spaces s) s) e))
+
+-- An answer of the reading, and one of the grammar that ends at the line end before blank lines
+abbrev pub Lined : List ℕ → Out (Unit {0}) → Answer (Unit {0}) → Type 0
+Lined s (ok u ms k) a = (j : ℕ) × (a ≡ fits tt ms j) × (g : Gap (drop j s)) × (k ≡ j + g .size)
+Lined s (bad e k) a = a ≡ fails
+Lined s (deep k) a = Unit {0}
+
+lined-after : (s : List ℕ) (ms : List Mark) (k : ℕ) (o : Out (Unit {0})) (a : Answer (Unit {0})) → Lined (drop k s) o a → Lined s (Reader.after ms k o) (Peg.after ms k a)
+unfolding Reader.after Peg.after
+lined-after s ms k (ok u ns i) a (j, e, g, q) = (k + j, ap (Peg.after ms k) e, subst Gap (drop-drop j k s) g, omega arith)
+lined-after s ms k (bad e i) a h = ap (Peg.after ms k) h
+lined-after s ms k (deep i) a h = tt
+
+lined-next : {A B : Type 0} (f : A → B) (s : List ℕ) (q : Reader (Unit {0})) (q′ : Parser (Unit {0})) (o : Out A) (a : Answer B) → Same f o a → ((r : List ℕ) → Lined r (q r) (q′ r)) → Lined s (Reader.next s (λ _. q) o) (Peg.next s (λ _. q′) a)
+unfolding Reader.next Peg.next
+lined-next f s q q′ (ok u ms k) a h l = rw h (lined-after s ms k (q (drop k s)) (q′ (drop k s)) (l (drop k s)))
+lined-next f s q q′ (bad e k) a h l = rw h refl
+lined-next f s q q′ (deep k) a h l = tt
+
+lined-node : (s : List ℕ) (o : Out (Unit {0})) (p : Parser (Unit {0})) → Lined s o (p s) → Lined s (wrap 10 o) (in-node 10 p s)
+unfolding wrap
+lined-node s (ok u ms k) p (j, e, g, q) = (j, node-fits 10 p s e, g, q)
+lined-node s (bad e k) p h = node-fails 10 p s h
+lined-node s (deep k) p h = tt
+
+module _ (sub₁ : Pattern.Inside) (sub₂ : Grammar.Inside) (agree : Agree sub₁ sub₂) where
+  value₁ : Reader (Unit {0})
+  value₁ = Reader._>>=_ (getPattern sub₁) needsValue
+
+  value₂ : Parser (Unit {0})
+  value₂ = blank-inline? >> (Grammar.Pattern rust sub₂ >> ahead line-end)
+
+  value-lined : (s : List ℕ) → Lined s (value₁ s) (value₂ s)
+  unfolding value₁ value₂ Reader._>>=_ Reader.next Reader.after Peg.after needsValue Reader.pure Reader.fail moveUp
+  value-lined s = go (getPattern sub₁ s) (whole-agrees sub₁ sub₂ agree s) (value-of sub₂ s)
+    where
+      from : {a : Answer (Unit {0})} → (Grammar.Pattern rust sub₂ >> ahead line-end) (drop (spaces s) s) ≡ a → value₂ s ≡ Peg.after [] (spaces s) a
+      from e = then-fits blank-inline? (Grammar.Pattern rust sub₂ >> ahead line-end) s (blank-inline?-is s) ∙ ap (Peg.after [] (spaces s)) e
+
+      none : whole-pattern sub₂ s ≡ fails → Value sub₂ s → value₂ s ≡ fails
+      none w (fit ns j e g h) = let z : _≡_ {A = ℕ} 0 1 = cc in absurd (omega arith)
+      none w (broken ns j e l h) = from (then-fits (Grammar.Pattern rust sub₂) (ahead line-end) (drop (spaces s) s) e ∙ ap (Peg.after ns j) (ahead-fails line-end (drop j (drop (spaces s) s)) (no-line-end (drop j (drop (spaces s) s)) l)))
+      none w (missing e h) = from (then-fails (Grammar.Pattern rust sub₂) (ahead line-end) (drop (spaces s) s) e)
+
+      found : (ms : List Mark) (k : ℕ) → whole-pattern sub₂ s ≡ fits tt ms k → Value sub₂ s → (j : ℕ) × (value₂ s ≡ fits tt ms j) × (g : Gap (drop j s)) × (k ≡ j + g .size)
+      found ms k w (fit ns j e g h) =
+          let v : value₂ s ≡ fits tt (moveUp (spaces s) ns) (spaces s + j) = from (then-fits (Grammar.Pattern rust sub₂) (ahead line-end) (drop (spaces s) s) e ∙ ap (Peg.after ns j) (ahead-fits line-end (drop j (drop (spaces s) s)) (line-end-is (drop j (drop (spaces s) s)) (g .ends))) ∙ ap₂ (λ x y. fits tt x y) (append-nil ns) (add-zero j)) in
+          let x : moveUp (spaces s) ns ≡ ms = cc in
+          let y : spaces s + (j + g .size) ≡ k = cc in
+          (spaces s + j, v ∙ ap (λ z. fits tt z (spaces s + j)) x, subst Gap (drop-drop j (spaces s) s) g, omega arith)
+      found ms k w (broken ns j e l h) = let z : _≡_ {A = ℕ} 0 1 = cc in absurd (omega arith)
+      found ms k w (missing e h) = let z : _≡_ {A = ℕ} 0 1 = cc in absurd (omega arith)
+
+      go : (o : Out Bool) → Whole sub₂ s o (whole-pattern sub₂ s) → Value sub₂ s → Lined s (Reader.next s needsValue o) (value₂ s)
+      go (ok true ms k) w v = let (j, e, g, q) = found ms k w v in (j, e ∙ ap (λ x. fits tt x j) (sym (append-nil ms)), g, omega arith)
+      go (ok false ms k) w v = none (w .0) v
+      go (bad e k) w v = none (w .0) v
+      go (deep k) w v = tt
+
+  body₂ : Parser (Unit {0})
+  body₂ = Identifier 9 >> (blank-inline? >> (byte 61 >> value₂))
+
+  -- an attribute from its name on
+  attribute-lined : (s : List ℕ) → Lined s (getAttribute sub₁ s) (in-node 10 body₂ s)
+  unfolding getAttribute inNode body₂ Reader._>>_ _>>_ value₁ Reader._>>=_
+  attribute-lined s = lined-node s _ body₂ (lined-next (λ n. take n s) s _ _ (getIdentifier 9 s) (Identifier 9 s) (same-name 9 s)
+      (λ r. lined-next nothing r _ _ (skipBlankInline r) (blank-inline? r) (same-blank-inline .same r)
+      (λ q. lined-next nothing q _ _ (expectByte 61 q) (byte 61 q) (same-byte 61 .same q) (λ z. value-lined z))))
+
+  -- where it stands: behind the line end, blank lines and spaces
+  inside : Parser (Unit {0})
+  inside = line-end >> (blank? >> (byte 46 >> body₂))
+
+  inside-is : (s : List ℕ) (g : Gap s) → inside s ≡ Peg.after [] (blanks s) ((byte 46 >> body₂) (drop (spaces (drop (g .size) s)) (drop (g .size) s)))
+  unfolding inside
+  inside-is s g =
+      let e = eol s in
+      let b : eol s + blanks (drop (eol s) s) ≡ blanks s = blanks-on (eol s) s (eol-blanks s) in
+      then-fits line-end (blank? >> (byte 46 >> body₂)) s (line-end-is s (g .ends)) ∙ ap (Peg.after [] e) (parser-skips (byte 46 >> body₂) (drop e s)) ∙ after-skip [] e (blanks (drop e s)) _
+      ∙ rw (drop-drop (blanks (drop (eol s) s)) (eol s) s, b) (ap (λ r. Peg.after [] (blanks s) ((byte 46 >> body₂) r)) (ap (λ k. drop k s) (sym (g .blank)) ∙ sym (drop-drop (spaces (drop (g .size) s)) (g .size) s)))
+
+  node-after : (p q : Parser (Unit {0})) (s t : List ℕ) (k : ℕ) → p s ≡ Peg.after [] k (q t) → in-node 10 p s ≡ Peg.after [] k (in-node 10 q t)
+  unfolding Peg.after
+  node-after p q s t k e = go (q t) refl
+    where
+      go : (o : Answer (Unit {0})) → q t ≡ o → in-node 10 p s ≡ Peg.after [] k (in-node 10 q t)
+      go (fits u ms j) f = node-fits 10 p s (e ∙ ap (Peg.after [] k) f) ∙ rw (node-fits 10 q t f) (ap (λ ns. fits tt ns (k + j)) (sym (node-up k 10 ms)))
+      go fails f = node-fails 10 p s (e ∙ ap (Peg.after [] k) f) ∙ rw (node-fails 10 q t f) refl
+
+  attribute-at : (s : List ℕ) (g : Gap s) → startsWith 46 (drop (spaces (drop (g .size) s)) (drop (g .size) s)) ≡ true
+      → Attribute rust sub₂ s ≡ Peg.after [] (g .size + (spaces (drop (g .size) s) + 1)) (in-node 10 body₂ (drop (spaces (drop (g .size) s) + 1) (drop (g .size) s)))
+  unfolding Attribute inside body₂ value₂ pick rust Dialect.all
+  attribute-at s g d =
+      let r = drop (g .size) s in
+      let n : blanks s + 1 ≡ g .size + (spaces r + 1) = omega (arith, g .blank) in
+      node-after inside body₂ s (drop (spaces r + 1) r) (g .size + (spaces r + 1)) (inside-is s g ∙ ap (Peg.after [] (blanks s)) (then-fits (byte 46) body₂ (drop (spaces r) r) (byte-fits 46 (drop (spaces r) r) d)) ∙ after-skip [] (blanks s) 1 _ ∙ rw (drop-drop 1 (spaces r) r, n) refl)
+
+  attribute-not : (s : List ℕ) (g : Gap s) → startsWith 46 (drop (spaces (drop (g .size) s)) (drop (g .size) s)) ≡ false → Attribute rust sub₂ s ≡ fails
+  unfolding Attribute inside body₂ value₂ pick rust Dialect.all Peg.after
+  attribute-not s g d = node-fails 10 inside s (inside-is s g ∙ ap (Peg.after [] (blanks s)) (then-fails (byte 46) body₂ _ (byte-fails 46 _ d)))
+
+  attribute-off : (s : List ℕ) → lineEnds s ≡ false → Attribute rust sub₂ s ≡ fails
+  unfolding Attribute
+  attribute-off s e = node-fails 10 _ s (then-fails line-end _ s (no-line-end s e))
