@@ -7,7 +7,7 @@ use mathlib.Core.Logic.{_⊎_, inl, inr}
 use mathlib.Core.Bool.{Bool, true, false, _&&_, _||_}
 use mathlib.Core.List.{List, [], _∷_, _++_, append-nil}
 use lib.ListN.{drop, take, length, length-drop}
-use lib.Seq.{drop-drop}
+use lib.Seq.{drop-drop, drop-nil}
 use lib.Dec.{eqb, ltb}
 use Rattle.syntax.specs.Bytes.{startsWith, spaces, eol, run}
 use Rattle.syntax.specs.Marks.{Mark, moveUp, node}
@@ -17,14 +17,14 @@ use Rattle.syntax.specs.Helper.{skipBlankInline, skipBlankBlock, expectByte, ge
 use Rattle.syntax.specs.Pattern as Pattern
 use Rattle.syntax.specs.Pattern.{getPattern}
 use Rattle.syntax.specs.Expression.{needsValue}
-use Rattle.syntax.specs.Core.{getAttribute, attributeBy, attributeTurn}
+use Rattle.syntax.specs.Core.{getAttribute, getAttributes, attributeBy, attributeTurn}
 use Rattle.laws.specs.Bytes.{byCase, clash}
 use Rattle.laws.specs.Moving.{moveUp-twice, moveUp-append}
 use Rattle.standard.specs.Dialect as Dialect
 use Rattle.standard.specs.Dialect.{rust}
 use Rattle.standard.specs.Peg as Peg
 use Rattle.standard.specs.Peg.{Answer, fits, fails, Parser, many, some, byte, ahead, void, pick, in-node, withFirst, _>>_}
-use Rattle.standard.specs.Steps.{then-fits, then-fails, void-fits, void-fails, ahead-fits, ahead-fails, after-none, after-skip, after-fails, node-fits, node-fails, byte-fits, byte-fails}
+use Rattle.standard.specs.Steps.{then-fits, then-fails, void-fits, void-fails, ahead-fits, ahead-fails, after-none, after-skip, after-fails, node-fits, node-fails, byte-fits, byte-fails, Uses, uses-node, uses-rest, uses-first, uses-byte}
 use Rattle.standard.specs.Abstract.{Line}
 use Rattle.standard.specs.Lexical.{line-end, blank-inline?, blank?, blank-block, Identifier}
 use Rattle.standard.specs.Grammar as Grammar
@@ -217,10 +217,94 @@ module _ (sub₁ : Pattern.Inside) (sub₂ : Grammar.Inside) (agree : Agree sub�
       let n : blanks s + 1 ≡ g .size + (spaces r + 1) = omega (arith, g .blank) in
       node-after inside body₂ s (drop (spaces r + 1) r) (g .size + (spaces r + 1)) (inside-is s g ∙ ap (Peg.after [] (blanks s)) (then-fits (byte 46) body₂ (drop (spaces r) r) (byte-fits 46 (drop (spaces r) r) d)) ∙ after-skip [] (blanks s) 1 _ ∙ rw (drop-drop 1 (spaces r) r, n) refl)
 
-  attribute-not : (s : List ℕ) (g : Gap s) → startsWith 46 (drop (spaces (drop (g .size) s)) (drop (g .size) s)) ≡ false → Attribute rust sub₂ s ≡ fails
+  pub attribute-not : (s : List ℕ) (g : Gap s) → startsWith 46 (drop (spaces (drop (g .size) s)) (drop (g .size) s)) ≡ false → Attribute rust sub₂ s ≡ fails
   unfolding Attribute inside body₂ value₂ pick rust Dialect.all Peg.after
   attribute-not s g d = node-fails 10 inside s (inside-is s g ∙ ap (Peg.after [] (blanks s)) (then-fails (byte 46) body₂ _ (byte-fails 46 _ d)))
 
-  attribute-off : (s : List ℕ) → lineEnds s ≡ false → Attribute rust sub₂ s ≡ fails
+  pub attribute-off : (s : List ℕ) → lineEnds s ≡ false → Attribute rust sub₂ s ≡ fails
   unfolding Attribute
   attribute-off s e = node-fails 10 _ s (then-fails line-end _ s (no-line-end s e))
+
+  -- Attributes in a row -----------------------------------------------------------------------------------------------------------------------
+
+  -- the attributes behind a line end with its blank lines: the reading starts behind these
+  abbrev pub Attrs : ℕ → (s : List ℕ) → Gap s → Out ℕ → Answer (List (Unit {0})) → Type 0
+  Attrs c s g (ok d ms k) a = (us : List (Unit {0})) × (j : ℕ) × (a ≡ fits us (moveUp (g .size) ms) j) × (d ≡ c + length us) × (h : Gap (drop j s)) × (g .size + k ≡ j + h .size)
+  Attrs c s g (bad e k) a = ⊥
+  Attrs c s g (deep k) a = Unit {0}
+
+  starts-some : (b : ℕ) (s : List ℕ) → startsWith b s ≡ true → 0 < length s
+  unfolding startsWith
+  starts-some b [] e = clash {v = false} e refl
+  starts-some b (x ∷ xs) e = omega arith
+
+  by-shrinks : (n k : ℕ) (s : List ℕ) (o : Out (Unit {0})) → 0 < length s → Shrinks s (attributeBy n (k + 1) o)
+  unfolding attributeBy
+  by-shrinks n k s (ok u ms j) h = omega (arith, length-drop (k + 1 + j) s)
+  by-shrinks n k s (bad e j) h = tt
+  by-shrinks n k s (deep j) h = tt
+
+  attribute-shrinks : (n : ℕ) (s : List ℕ) → Shrinks s (attributeTurn sub₁ n s)
+  unfolding attributeTurn
+  attribute-shrinks n s = byCase (startsWith 46 (drop (spaces s) s))
+      (λ q. rw (q, attributeTurn) (by-shrinks n (spaces s) s (getAttribute sub₁ (drop (spaces s + 1) s)) (omega (arith, starts-some 46 (drop (spaces s) s) q, length-drop (spaces s) s))))
+      (λ q. rw (q, attributeTurn) tt)
+
+  pub no-attribute : AtEnd (Attribute rust sub₂ [])
+  unfolding lineEnds startsWith
+  no-attribute = let g = gap-of [] refl in rw (attribute-not [] g (rw (drop-nil {A = ℕ} (g .size), drop-nil {A = ℕ} (spaces [])) refl)) tt
+
+  attrs-by : (n : ℕ) (s : List ℕ) (g : Gap s) (c : ℕ) → length (drop (g .size) s) < n → Attrs c s g (repeat (attributeTurn sub₁) c (drop (g .size) s)) (many (Attribute rust sub₂) s)
+  unfolding attributeTurn attributeBy Peg.after Reader.after withFirst moveUp
+  attrs-by zero s g c l = absurd (not-suc-le-zero l)
+  attrs-by (suc n) s g c l = byCase (startsWith 46 (drop (spaces r) r)) (λ q. dotted q (getAttribute sub₁ (drop (spaces r + 1) r)) refl (attribute-lined (drop (spaces r + 1) r)) (λ t h d m. attrs-by n t h d m))
+      (λ q. ends (rw (q, attributeTurn) refl) (attribute-not s g q))
+    where
+      r : List ℕ
+      r = drop (g .size) s
+
+      ends : attributeTurn sub₁ c r ≡ done (ok c [] 0) → Attribute rust sub₂ s ≡ fails → Attrs c s g (repeat (attributeTurn sub₁) c r) (many (Attribute rust sub₂) s)
+      ends e f = rw (repeat-done (attributeTurn sub₁) c r (ok c [] 0) e, many-none (Attribute rust sub₂) no-attribute s f) ([], 0, refl, sym (add-zero c), g, omega arith)
+
+      rest : (j v i : ℕ) → i ≡ j + v → drop v (drop (g .size + (spaces r + 1) + j) s) ≡ drop (spaces r + 1 + i) r
+      rest j v i w = drop-drop v (g .size + (spaces r + 1) + j) s ∙ ap (λ k. drop k s) (num (spaces r + 1) w) ∙ sym (drop-drop (spaces r + 1 + i) (g .size) s)
+        where
+          num : (a : ℕ) → i ≡ j + v → g .size + a + j + v ≡ g .size + (a + i)
+          num a w = omega arith
+
+      -- one attribute before others
+      joins : (ms : List Mark) (i j : ℕ) (G : Gap (drop (g .size + (spaces r + 1) + j) s)) → i ≡ j + G .size → (o : Out ℕ) (a : Answer (List (Unit {0}))) → Attrs (suc c) (drop (g .size + (spaces r + 1) + j) s) G o a
+          → Attrs c s g (Reader.after (moveUp (spaces r + 1) ms) (spaces r + 1 + i) o) (withFirst tt (Peg.after (moveUp (g .size + (spaces r + 1)) ms) (g .size + (spaces r + 1) + j) a))
+      joins ms i j G w (ok d ns k) a (us, j′, e, dc, h, n) = (tt ∷ us, g .size + (spaces r + 1) + j + j′, ap (λ o. withFirst tt (Peg.after (moveUp (g .size + (spaces r + 1)) ms) (g .size + (spaces r + 1) + j) o)) e ∙ ap (λ os. fits (tt ∷ us) os (g .size + (spaces r + 1) + j + j′)) (marks (spaces r + 1)), omega arith, subst Gap (drop-drop j′ (g .size + (spaces r + 1) + j) s) h, omega arith)
+        where
+          num : (a : ℕ) → g .size + a + j + G .size ≡ g .size + (a + i)
+          num a = omega arith
+
+          marks : (a : ℕ) → moveUp (g .size + a) ms ++ moveUp (g .size + a + j) (moveUp (G .size) ns) ≡ moveUp (g .size) (moveUp a ms ++ moveUp (a + i) ns)
+          marks a = ap₂ (λ x y. x ++ y) (sym (moveUp-twice (g .size) a ms)) (moveUp-twice (g .size + a + j) (G .size) ns ∙ ap (λ k. moveUp k ns) (num a) ∙ sym (moveUp-twice (g .size) (a + i) ns)) ∙ sym (moveUp-append (g .size) (moveUp a ms) (moveUp (a + i) ns))
+      joins ms i j G w (bad x k) a h = absurd h
+      joins ms i j G w (deep k) a h = tt
+
+      dotted : startsWith 46 (drop (spaces r) r) ≡ true → (o : Out (Unit {0})) → getAttribute sub₁ (drop (spaces r + 1) r) ≡ o → Lined (drop (spaces r + 1) r) (getAttribute sub₁ (drop (spaces r + 1) r)) (in-node 10 body₂ (drop (spaces r + 1) r))
+          → ((t : List ℕ) (h : Gap t) (d : ℕ) → length (drop (h .size) t) < n → Attrs d t h (repeat (attributeTurn sub₁) d (drop (h .size) t)) (many (Attribute rust sub₂) t)) → Attrs c s g (repeat (attributeTurn sub₁) c r) (many (Attribute rust sub₂) s)
+      dotted q (ok u ms i) e h f =
+          let a = spaces r + 1 in
+          let (j, b, g′, w) = rw e at h in
+          let K = g .size + a + j in
+          let A : Attribute rust sub₂ s ≡ fits tt (moveUp (g .size + (spaces r + 1)) ms) (g .size + (spaces r + 1) + j) = attribute-at s g q ∙ ap (Peg.after [] (g .size + (spaces r + 1))) b in
+          let D : drop j (drop (spaces r + 1) r) ≡ drop (g .size + (spaces r + 1) + j) s = ap (drop j) (drop-drop a (g .size) s) ∙ drop-drop j (g .size + a) s in
+          let G : Gap (drop (g .size + (spaces r + 1) + j) s) = subst Gap D g′ in
+          let E : drop (g′ .size) (drop (g .size + (spaces r + 1) + j) s) ≡ drop (spaces r + 1 + i) r = rest j (g′ .size) i w in
+          let T : attributeTurn sub₁ c r ≡ again (suc c) (moveUp (spaces r + 1) ms) (spaces r + 1 + i) = rw (q, attributeTurn) (rw e refl) in
+          rw (repeat-again (attributeTurn sub₁) attribute-shrinks c r (suc c) (moveUp a ms) (a + i) T, many-again (Attribute rust sub₂) no-attribute s tt (moveUp (g .size + a) ms) K A (omega arith))
+          (joins ms i j G w (repeat (attributeTurn sub₁) (suc c) (drop (a + i) r)) (many (Attribute rust sub₂) (drop K s)) (rw E at (f (drop K s) G (suc c) (rw E (omega (arith, length-drop (a + i) r, starts-some 46 (drop (spaces r) r) q, length-drop (spaces r) r))))))
+      dotted q (bad x i) e h f = ends (rw (q, attributeTurn) (rw e refl)) (attribute-at s g q ∙ ap (Peg.after [] (g .size + (spaces r + 1))) (rw e at h))
+      dotted q (deep i) e h f = rw (repeat-done (attributeTurn sub₁) c r (deep (spaces r + 1 + i)) (rw (q, attributeTurn) (rw e refl))) tt
+
+  pub attributes-agree : (s : List ℕ) (g : Gap s) → Attrs 0 s g (getAttributes sub₁ (drop (g .size) s)) (many (Attribute rust sub₂) s)
+  unfolding getAttributes
+  attributes-agree s g = attrs-by (suc (length (drop (g .size) s))) s g 0 (omega arith)
+
+  pub attribute-uses : (s : List ℕ) → Uses (Attribute rust sub₂ s)
+  unfolding Attribute _>>_
+  attribute-uses s = uses-node 10 _ s (uses-rest s _ (line-end s) (λ x r. uses-rest r _ (blank? r) (λ y t. uses-first t _ (byte 46 t) (uses-byte 46 t))))
