@@ -92,7 +92,7 @@ fault-zero f = ap (λ es. faultOf es) (upErrors-zero (record { fault = f; junkFr
     faultOf [] = f
     faultOf (e ∷ es) = e .fault
 
-after-zero : {A : Type 0} (o : Out A) → Reader.after [] 0 o ≡ o
+pub after-zero : {A : Type 0} (o : Out A) → Reader.after [] 0 o ≡ o
 unfolding Reader.after
 after-zero (ok a ms k) = ap₂ (λ ns j. ok a ns j) (moveUp-zero ms) (zero-add k)
 after-zero (bad f k) = ap₂ (λ g j. bad g j) (fault-zero f) (zero-add k)

@@ -26,3 +26,4 @@ pub mod Arguments
 pub mod Select
 pub mod Placeable
 pub mod Attributes
+pub mod Messages

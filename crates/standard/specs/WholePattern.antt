@@ -48,7 +48,7 @@ unfoldable patterned : List ℕ → Answer (List Raw) → Answer (Unit {0})
 patterned s (fits rs ms k) = fits tt (patternNode rust s rs) k
 patterned s fails = fails
 
-line-plain : (s : List ℕ) → Plain (blank-line s)
+pub line-plain : (s : List ℕ) → Plain (blank-line s)
 line-plain s = byCase (lineEnds (drop (spaces s) s)) (λ h. rw (line-fits s h) refl) (λ h. rw (line-fails s h) tt)
 
 -- what follows the pattern has no marks

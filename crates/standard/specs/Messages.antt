@@ -1,0 +1,174 @@
+-- Messages and terms: the reading's against the grammar's, with the line end and the blank lines behind them.
+use Prim.Native.Nat.{ℕ, zero, suc, _+_, _-_, _≤_, _<_}
+use native.Mathlib.Nat.{not-suc-le-zero, add-assoc, zero-add, add-zero}
+use native.Mathlib.Omega.{arith}
+use mathlib.Core.Path.{_≡_, refl, sym, ap, ap₂, _∙_, subst}
+use mathlib.Core.Bool.{Bool, true, false, _||_, not}
+use mathlib.Core.List.{List, [], _∷_, _++_, append-nil, append-assoc}
+use lib.ListN.{drop, take, length, length-drop}
+use lib.Seq.{drop-drop}
+use lib.Dec.{eqb, eqb·suc-zero}
+use Rattle.syntax.specs.Bytes.{startsWith, spaces, eol, run}
+use Rattle.syntax.specs.Marks.{Mark, moveUp}
+use Rattle.syntax.specs.Reader as Reader
+use Rattle.syntax.specs.Reader.{Out, ok, bad, deep, Reader}
+use Rattle.syntax.specs.Helper.{skipBlankInline, skipBlankBlock, expectByte, getIdentifier}
+use Rattle.syntax.specs.Pattern as Pattern
+use Rattle.syntax.specs.Pattern.{getPattern}
+use Rattle.syntax.specs.Core as Core
+use Rattle.syntax.specs.Core.{getAttributes, Fields, fields, termFields, asMessage, asTerm}
+use Rattle.laws.specs.Bytes.{byCase, clash}
+use Rattle.laws.specs.Moving.{moveUp-twice, moveUp-append, moveUp-zero}
+use Rattle.standard.specs.Dialect as Dialect
+use Rattle.standard.specs.Dialect.{rust}
+use Rattle.standard.specs.Peg as Peg
+use Rattle.standard.specs.Peg.{Answer, fits, fails, Parser, pure, many, some, byte, opt, withFirst, void, pick, _>>=_, _>>_, _/_}
+use Rattle.standard.specs.Steps.{bind-fits, bind-fails, then-fits, then-fails, first, second, opt-fits, opt-fails, void-fits, void-fails, some-fits, some-fails, after-none, after-skip, next-after, Uses}
+use Rattle.standard.specs.Abstract as Abstract
+use Rattle.standard.specs.Abstract.{Line}
+use Rattle.standard.specs.Lexical.{line-end, blank-inline?, blank-line, blank-block, Identifier}
+use Rattle.standard.specs.Grammar as Grammar
+use Rattle.standard.specs.Grammar.{Attribute, PatternElement, dedented-pattern, inPattern, Message, Term, entry-end}
+use Rattle.standard.specs.Blank.{lineEnds, line-end-is, no-line-end, blank-inline?-is, ends-spaces}
+use Rattle.standard.specs.Same.{Same, nothing, Agree, whole-pattern, same-byte, same-blank-inline, reads-then, reads-bind}
+use Rattle.standard.specs.Words.{same-name}
+use Rattle.standard.specs.BlankLines.{after-zero}
+use Rattle.standard.specs.Turns.{AtEnd, Plain, many-plain, many-again, many-none, many-still, some-many}
+use Rattle.standard.specs.Blocks.{Block, stop, block-of, block-stops, skip-block, line-fits, line-fails, line-at-end, lf-block, crlf-block}
+use Rattle.standard.specs.Elements.{closing, tail}
+use Rattle.standard.specs.WholePattern.{Whole, whole-agrees, line-plain}
+use Rattle.standard.specs.Attributes.{Gap, gap-of, closing-gap, Value, value-of, fit, broken, missing, Attrs, attributes-agree, attribute-uses, attribute-not, attribute-off, no-attribute}
+
+-- The end of an entry -------------------------------------------------------------------------------------------------------------------------
+
+-- blank lines, or none
+opt-block : (r : List ℕ) (a : Answer (List Line)) → many blank-line r ≡ a → (xs : List Line) (q : ℕ) → a ≡ fits xs [] q → (ys : List Line) × (opt [] blank-block r ≡ fits ys [] q)
+unfolding blank-block moveUp
+opt-block r a e xs q f = go (blank-line r) refl (line-plain r)
+  where
+    go : (o : Answer Line) → blank-line r ≡ o → Plain o → (ys : List Line) × (opt [] (some blank-line) r ≡ fits ys [] q)
+    go (fits l ms zero) h p = let m : many blank-line r ≡ fits [] [] 0 = many-still blank-line line-at-end r l ms h in let z : 0 ≡ q = cc in (l ∷ [], opt-fits [] (some blank-line) r (some-fits blank-line r h m ∙ rw p (ap (fits (l ∷ []) []) z)))
+    go (fits l ms (suc k)) h p = (xs, opt-fits [] (some blank-line) r (some-many blank-line line-at-end r l ms (suc k) h (omega arith) ∙ e ∙ f))
+    go fails h p = ([], opt-fails [] (some blank-line) r (some-fails blank-line r h) ∙ (let m : many blank-line r ≡ fits [] [] 0 = many-none blank-line line-at-end r h in let z : 0 ≡ q = cc in ap (fits [] []) z))
+
+pub entry-end-fits : (n : ℕ) (s : List ℕ) (g : Gap s) → entry-end rust n s ≡ fits tt [] (g .size)
+unfolding entry-end pick rust Dialect.all Peg.after moveUp blank-block some
+entry-end-fits n s g = go (many blank-line (drop (eol s) s)) refl (many-plain blank-line line-plain (drop (eol s) s))
+  where
+    l : Line
+    l = record { spaces = 0; ending = eol s }
+
+    line : blank-line s ≡ fits (record { spaces = 0; ending = eol s }) [] (eol s)
+    line = let z = ends-spaces s (g .ends) in line-fits s (rw z (g .ends)) ∙ rw z (ap (fits (record { spaces = 0; ending = eol s }) []) (zero-add (eol s)))
+
+    go : (a : Answer (List Line)) → many blank-line (drop (eol s) s) ≡ a → Plain a → entry-end rust n s ≡ fits tt [] (g .size)
+    go (fits more ns q) e p =
+        let (ys, f) = opt-block (drop (eol s) s) (fits more ns q) e more q (ap (λ ms. fits more ms q) p) in
+        let b : some blank-line s ≡ fits (l ∷ more) [] (eol s + q) = some-fits blank-line s line e ∙ rw p refl in
+        let z : eol s + q ≡ g .size = cc (g .block) in
+        then-fits line-end (void (opt [] blank-block)) s (line-end-is s (g .ends)) ∙ ap (Peg.after [] (eol s)) (void-fits (opt [] blank-block) (drop (eol s) s) f) ∙ ap (fits tt []) z
+    go fails e p = let b : some blank-line s ≡ fails = bind-fits blank-line (λ a. many blank-line >>= λ more. pure (a ∷ more)) s line ∙ ap (Peg.after [] (eol s)) (bind-fails (many blank-line) (λ more. pure (l ∷ more)) (drop (eol s) s) e) in let z : _≡_ {A = ℕ} 0 1 = cc (g .block) in absurd (omega arith)
+
+pub entry-end-fails : (n : ℕ) (s : List ℕ) → lineEnds s ≡ false → entry-end rust n s ≡ fails
+unfolding entry-end
+entry-end-fails n s e = then-fails line-end _ s (no-line-end s e)
+
+-- Fields --------------------------------------------------------------------------------------------------------------------------------------
+
+-- fields that pass a test, against a production
+abbrev Held : (Fields → Bool) → Out Fields → Answer (Unit {0}) → Type 0
+Held v (ok f ms k) a = (v f ≡ true → a ≡ fits tt ms k) × (v f ≡ false → a ≡ fails)
+Held v (bad e k) a = a ≡ fails
+Held v (deep k) a = Unit {0}
+
+held-after : (v : Fields → Bool) (ms : List Mark) (k : ℕ) (o : Out Fields) (a : Answer (Unit {0})) → Held v o a → Held v (Reader.after ms k o) (Peg.after ms k a)
+unfolding Reader.after Peg.after
+held-after v ms k (ok f ns j) a h = (λ q. ap (Peg.after ms k) (h .0 q), λ q. ap (Peg.after ms k) (h .1 q))
+held-after v ms k (bad e j) a h = ap (Peg.after ms k) h
+held-after v ms k (deep j) a h = tt
+
+held-next : {A B : Type 0} (v : Fields → Bool) (f : A → B) (s : List ℕ) (q : A → Reader Fields) (q′ : Parser (Unit {0})) (o : Out A) (a : Answer B) → Same f o a → ((x : A) (r : List ℕ) → Held v (q x r) (q′ r)) → Held v (Reader.next s q o) (Peg.next s (λ _. q′) a)
+unfolding Reader.next Peg.next
+held-next v f s q q′ (ok x ms k) a h l = rw h (held-after v ms k (q x (drop k s)) (q′ (drop k s)) (l x (drop k s)))
+held-next v f s q q′ (bad e k) a h l = rw h refl
+held-next v f s q q′ (deep k) a h l = tt
+
+abbrev valued : Fields → Bool
+valued f = f .value
+
+abbrev named : Fields → Bool
+named f = f .value || not (eqb (f .attributes) 0)
+
+module _ (sub₁ : Pattern.Inside) (sub₂ : Grammar.Inside) (agree : Agree sub₁ sub₂) (n : ℕ) where
+  rest₁ : ℕ → Reader Fields
+  rest₁ m = Reader._>>=_ (getPattern sub₁) (λ value. Reader._>>_ skipBlankBlock (Reader._>>=_ (getAttributes sub₁) (λ count. Reader.pure (record { name = m; value = value; attributes = count }))))
+
+  term₂ : Parser (Unit {0})
+  term₂ = Grammar.Pattern rust sub₂ >> void (many (Attribute rust sub₂))
+
+  message₂ : Parser (Unit {0})
+  message₂ = term₂ / void (some (Attribute rust sub₂))
+
+  rest₂ : Parser (Unit {0}) → Parser (Unit {0})
+  rest₂ p = blank-inline? >> (p >> entry-end rust n)
+
+  -- what follows the value, behind the marks ms and K bytes
+  more₁ : ℕ → Bool → Reader Fields
+  more₁ m value = Reader._>>_ skipBlankBlock (Reader._>>=_ (getAttributes sub₁) (λ count. Reader.pure (record { name = m; value = value; attributes = count })))
+
+  -- no blank line is left
+  more-is : (m : ℕ) (value : Bool) (r : List ℕ) → eol (drop (spaces r) r) ≡ 0 → more₁ m value r ≡ Reader.next r (λ count. Reader.pure (record { name = m; value = value; attributes = count })) (getAttributes sub₁ r)
+  unfolding more₁ Reader._>>=_
+  more-is m value r e = reads-then skipBlankBlock _ r (skip-block (stop e)) ∙ after-zero _
+
+  -- the production, and the end of the entry
+  rest-fits : (p : Parser (Unit {0})) (s : List ℕ) (ms : List Mark) (j : ℕ) → p (drop (spaces s) s) ≡ fits tt ms j → (g : Gap (drop j (drop (spaces s) s))) → rest₂ p s ≡ fits tt (moveUp (spaces s) ms) (spaces s + (j + g .size))
+  unfolding rest₂ Peg.after moveUp
+  rest-fits p s ms j e g = then-fits blank-inline? (p >> entry-end rust n) s (blank-inline?-is s) ∙ ap (Peg.after [] (spaces s)) (then-fits p (entry-end rust n) (drop (spaces s) s) e ∙ ap (Peg.after ms j) (entry-end-fits n (drop j (drop (spaces s) s)) g) ∙ ap (λ ns. fits tt ns (j + g .size)) (append-nil ms))
+
+  rest-fails : (p : Parser (Unit {0})) (s : List ℕ) → p (drop (spaces s) s) ≡ fails → rest₂ p s ≡ fails
+  unfolding rest₂ Peg.after
+  rest-fails p s e = then-fits blank-inline? (p >> entry-end rust n) s (blank-inline?-is s) ∙ ap (Peg.after [] (spaces s)) (then-fails p (entry-end rust n) (drop (spaces s) s) e)
+
+  rest-broken : (p : Parser (Unit {0})) (s : List ℕ) (ms : List Mark) (j : ℕ) → p (drop (spaces s) s) ≡ fits tt ms j → lineEnds (drop j (drop (spaces s) s)) ≡ false → rest₂ p s ≡ fails
+  unfolding rest₂ Peg.after
+  rest-broken p s ms j e l = then-fits blank-inline? (p >> entry-end rust n) s (blank-inline?-is s) ∙ ap (Peg.after [] (spaces s)) (then-fits p (entry-end rust n) (drop (spaces s) s) e ∙ ap (Peg.after ms j) (entry-end-fails n (drop j (drop (spaces s) s)) l))
+
+  -- a pattern and attributes
+  term-fits : (s : List ℕ) (ns : List Mark) (j : ℕ) (us : List (Unit {0})) (os : List Mark) (i : ℕ) → Grammar.Pattern rust sub₂ s ≡ fits tt ns j → many (Attribute rust sub₂) (drop j s) ≡ fits us os i → term₂ s ≡ fits tt (ns ++ moveUp j os) (j + i)
+  unfolding term₂ Peg.after
+  term-fits s ns j us os i e f = then-fits (Grammar.Pattern rust sub₂) (void (many (Attribute rust sub₂))) s e ∙ ap (Peg.after ns j) (void-fits (many (Attribute rust sub₂)) (drop j s) f)
+
+  term-fails : (s : List ℕ) → Grammar.Pattern rust sub₂ s ≡ fails → term₂ s ≡ fails
+  unfolding term₂
+  term-fails s e = then-fails (Grammar.Pattern rust sub₂) (void (many (Attribute rust sub₂))) s e
+
+  message-term : (s : List ℕ) {ms : List Mark} {k : ℕ} → term₂ s ≡ fits tt ms k → message₂ s ≡ fits tt ms k
+  unfolding message₂
+  message-term s e = first term₂ (void (some (Attribute rust sub₂))) s e
+
+  -- attributes alone
+  message-fails : (s : List ℕ) → term₂ s ≡ fails → Attribute rust sub₂ s ≡ fails → message₂ s ≡ fails
+  unfolding message₂
+  message-fails s e f = second term₂ (void (some (Attribute rust sub₂))) s e ∙ void-fails (some (Attribute rust sub₂)) s (some-fails (Attribute rust sub₂) s f)
+
+  message-only : (s : List ℕ) (u : Unit {0}) (us : List (Unit {0})) (os : List Mark) (i : ℕ) → term₂ s ≡ fails → many (Attribute rust sub₂) s ≡ fits (u ∷ us) os i → message₂ s ≡ fits tt os i
+  unfolding message₂
+  message-only s u us os i e f = second term₂ (void (some (Attribute rust sub₂))) s e ∙ void-fits (some (Attribute rust sub₂)) s (go (Attribute rust sub₂ s) refl (attribute-uses sub₁ sub₂ agree s))
+    where
+      go : (o : Answer (Unit {0})) → Attribute rust sub₂ s ≡ o → Uses (Attribute rust sub₂ s) → some (Attribute rust sub₂) s ≡ fits (u ∷ us) os i
+      go (fits x ms k) h z = some-many (Attribute rust sub₂) (no-attribute sub₁ sub₂ agree) s x ms k h (rw h at z) ∙ f
+      go fails h z = let m : many (Attribute rust sub₂) s ≡ fits [] [] 0 = many-none (Attribute rust sub₂) (no-attribute sub₁ sub₂ agree) s h in let y : _≡_ {A = ℕ} 0 1 = cc in absurd (omega arith)
+
+  -- none
+  none-fails : (s : List ℕ) (os : List Mark) (i : ℕ) → many (Attribute rust sub₂) s ≡ fits [] os i → Attribute rust sub₂ s ≡ fails
+  unfolding withFirst
+  none-fails s os i f = go (Attribute rust sub₂ s) refl (attribute-uses sub₁ sub₂ agree s)
+    where
+      more : (a : Answer (List (Unit {0}))) (x : Unit {0}) → fits [] os i ≡ withFirst x a → _≡_ {A = ℕ} 0 1
+      more (fits us ms k) x e = cc
+      more fails x e = cc
+
+      go : (o : Answer (Unit {0})) → Attribute rust sub₂ s ≡ o → Uses (Attribute rust sub₂ s) → Attribute rust sub₂ s ≡ fails
+      go (fits x ms k) h z = absurd (omega (arith, more (Peg.after ms k (many (Attribute rust sub₂) (drop k s))) x (sym f ∙ many-again (Attribute rust sub₂) (no-attribute sub₁ sub₂ agree) s x ms k h (rw h at z))))
+      go fails h z = h
