@@ -29,12 +29,12 @@ use Rattle.standard.specs.Abstract.{Line}
 use Rattle.standard.specs.Lexical.{line-end, blank-inline?, blank?, blank-block, Identifier}
 use Rattle.standard.specs.Grammar as Grammar
 use Rattle.standard.specs.Grammar.{Attribute, PatternElement}
-use Rattle.standard.specs.Blank.{isBlankAt, blanks, blanks-on, eol-blanks, lineEnds, line-end-is, no-line-end, blank-inline?-is, blank?-is, parser-skips, block-lines, ends-spaces, Lines}
+use Rattle.standard.specs.Blank.{isBlankAt, blanks, blanks-on, spaces-blanks, eol-blanks, lineEnds, line-end-is, no-line-end, blank-inline?-is, blank?-is, parser-skips, block-lines, ends-spaces, Lines}
 use Rattle.standard.specs.Same.{Same, nothing, Agree, whole-pattern, same-byte, same-blank-inline, node-up}
 use Rattle.standard.specs.Words.{same-name}
 use Rattle.standard.specs.Turns.{Shrinks, AtEnd, repeat-again, repeat-done, many-again, many-none}
 use Rattle.standard.specs.Texts.{Sign, end, lf, cr-lf, opens, closes, plain, sign-of, plain-eol}
-use Rattle.standard.specs.Blocks.{Block, stop, block-of, block-stops, block-many, lines-many, lines-end, lf-block, crlf-block}
+use Rattle.standard.specs.Blocks.{Block, stop, step, block-of, block-stops, block-many, lines-many, lines-end, lf-block, crlf-block}
 use Rattle.standard.specs.Elements.{closing, closing-fits, closing-brace, closing-fails, block-at-end}
 use Rattle.standard.specs.WholePattern.{Whole, whole-agrees}
 
@@ -53,6 +53,15 @@ pub blanks-spaces : (r : List ℕ) → eol (drop (spaces r) r) ≡ 0 → blanks 
 unfolding blanks isBlankAt spaces run
 blanks-spaces [] e = refl
 blanks-spaces (b ∷ bs) e = byCase (eqb b 32) (λ q. rw (q, blanks, isBlankAt, run) (ap suc (blanks-spaces bs (rw (q, run) at e)))) (λ q. let z : eol (b ∷ bs) ≡ 0 = rw (q, run) at e in rw (q, blanks, isBlankAt, run, z) refl)
+
+-- a block and the spaces behind it are all the blanks
+pub block-blanks : {s : List ℕ} {ls : List Line} {u : ℕ} → Block s ls u → u + spaces (drop u s) ≡ blanks s
+block-blanks {s} (stop q) = zero-add (spaces s) ∙ sym (blanks-spaces s q)
+block-blanks {s} (step {u = u} e q b) =
+    let K = spaces s + suc e in
+    let a : spaces s + blanks (drop (spaces s) s) ≡ blanks s = blanks-on (spaces s) s (spaces-blanks s) in
+    let c : spaces s + suc e + blanks (drop (spaces s + suc e) s) ≡ blanks s = blanks-on K s (omega (arith, eol-blanks (drop (spaces s) s))) in
+    ap (λ r. spaces s + suc e + u + spaces r) (sym (drop-drop u K s)) ∙ omega (arith, block-blanks b)
 
 -- where the lines end, the block ends
 stops-block : {s : List ℕ} {l : Line} {ls : List Line} {u : ℕ} → Block s (l ∷ ls) u → (ks : List Line) × (q : ℕ) × (blank-block s ≡ fits ks [] q) × (eol (drop (spaces (drop q s)) (drop q s)) ≡ 0)

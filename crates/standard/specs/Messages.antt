@@ -8,17 +8,18 @@ use mathlib.Core.List.{List, [], _∷_, _++_, append-nil, append-assoc}
 use lib.ListN.{drop, take, length, length-drop}
 use lib.Seq.{drop-drop}
 use lib.Dec.{eqb, eqb·suc-zero}
+use borrow.Author.Tests.{eqb-true, eq-eqb, ne-eqb}
 use Rattle.syntax.specs.Bytes.{startsWith, spaces, eol, run}
 use Rattle.syntax.specs.Marks.{Mark, moveUp}
 use Rattle.syntax.specs.Reader as Reader
 use Rattle.syntax.specs.Reader.{Out, ok, bad, deep, Reader}
 use Rattle.syntax.specs.Helper.{skipBlankInline, skipBlankBlock, expectByte, getIdentifier}
 use Rattle.syntax.specs.Pattern as Pattern
-use Rattle.syntax.specs.Pattern.{getPattern}
+use Rattle.syntax.specs.Pattern.{getPattern, goesOn, isContinuation}
 use Rattle.syntax.specs.Core as Core
 use Rattle.syntax.specs.Core.{getAttributes, Fields, fields, termFields, asMessage, asTerm}
 use Rattle.laws.specs.Bytes.{byCase, clash}
-use Rattle.laws.specs.Moving.{moveUp-twice, moveUp-append, moveUp-zero}
+use Rattle.laws.specs.Moving.{moveUp-twice, moveUp-append, moveUp-zero, moveUp-nil}
 use Rattle.standard.specs.Dialect as Dialect
 use Rattle.standard.specs.Dialect.{rust}
 use Rattle.standard.specs.Peg as Peg
@@ -29,15 +30,16 @@ use Rattle.standard.specs.Abstract.{Line}
 use Rattle.standard.specs.Lexical.{line-end, blank-inline?, blank-line, blank-block, Identifier}
 use Rattle.standard.specs.Grammar as Grammar
 use Rattle.standard.specs.Grammar.{Attribute, PatternElement, dedented-pattern, inPattern, Message, Term, entry-end}
-use Rattle.standard.specs.Blank.{lineEnds, line-end-is, no-line-end, blank-inline?-is, ends-spaces}
+use Rattle.standard.specs.Blank.{isBlankAt, blanks, lineEnds, line-end-is, no-line-end, blank-inline?-is, ends-spaces}
 use Rattle.standard.specs.Same.{Same, nothing, Agree, whole-pattern, same-byte, same-blank-inline, reads-then, reads-bind}
 use Rattle.standard.specs.Words.{same-name}
 use Rattle.standard.specs.BlankLines.{after-zero}
 use Rattle.standard.specs.Turns.{AtEnd, Plain, many-plain, many-again, many-none, many-still, some-many}
 use Rattle.standard.specs.Blocks.{Block, stop, block-of, block-stops, skip-block, line-fits, line-fails, line-at-end, lf-block, crlf-block}
-use Rattle.standard.specs.Elements.{closing, tail}
+use Rattle.standard.specs.Elements.{onward, behind, onLine, lineTail, line-off-tail, goesOn-suc, closing, tail, tail-lf, tail-crlf}
+use Rattle.standard.specs.Texts.{Sign, end, lf, cr-lf, opens, closes, plain, sign-of, plain-eol}
 use Rattle.standard.specs.WholePattern.{Whole, whole-agrees, line-plain}
-use Rattle.standard.specs.Attributes.{Gap, gap-of, closing-gap, Value, value-of, fit, broken, missing, Attrs, attributes-agree, attribute-uses, attribute-not, attribute-off, no-attribute}
+use Rattle.standard.specs.Attributes.{Gap, gap-of, block-blanks, closing-gap, Value, value-of, fit, broken, missing, Attrs, attributes-agree, attribute-uses, attribute-not, attribute-off, no-attribute}
 
 -- The end of an entry -------------------------------------------------------------------------------------------------------------------------
 
@@ -172,3 +174,101 @@ module _ (sub₁ : Pattern.Inside) (sub₂ : Grammar.Inside) (agree : Agree sub�
       go : (o : Answer (Unit {0})) → Attribute rust sub₂ s ≡ o → Uses (Attribute rust sub₂ s) → Attribute rust sub₂ s ≡ fails
       go (fits x ms k) h z = absurd (omega (arith, more (Peg.after ms k (many (Attribute rust sub₂) (drop k s))) x (sym f ∙ many-again (Attribute rust sub₂) (no-attribute sub₁ sub₂ agree) s x ms k h (rw h at z))))
       go fails h z = h
+
+  pattern-missing : (s : List ℕ) → PatternElement rust sub₂ s ≡ fails → Grammar.Pattern rust sub₂ s ≡ fails
+  unfolding Grammar.Pattern dedented-pattern inPattern
+  pattern-missing s e = then-fails (dedented-pattern rust sub₂) _ s (rw (some-fails (PatternElement rust sub₂) s e) refl)
+
+  -- a line that starts with a dot is no error of the pattern
+  line-dot : (r : List ℕ) → startsWith 46 (drop (spaces r) r) ≡ true → lineTail sub₂ r ≡ fits [] [] 0
+  unfolding onLine
+  line-dot r d = go (drop (spaces r) r) refl d
+    where
+      off : (k : ℕ) → goesOn k 46 ≡ false
+      off zero = unfold goesOn in refl
+      off (suc k) = goesOn-suc k 46 ∙ (unfold isContinuation in refl)
+
+      go : (q : List ℕ) → drop (spaces r) r ≡ q → startsWith 46 q ≡ true → lineTail sub₂ r ≡ fits [] [] 0
+      go [] e h = unfold startsWith in (clash {v = false} h refl)
+      go (c ∷ cs) e h = let z : c ≡ 46 = unfold startsWith in (eqb-true c 46 h) in let f : drop (spaces r) r ≡ 46 ∷ cs = e ∙ ap (λ x. x ∷ cs) z in line-off-tail sub₂ r 46 cs f (rw (onLine, off (spaces r)) refl)
+
+  tail-dot : (s : List ℕ) → lineEnds s ≡ true → startsWith 46 (drop (blanks s) s) ≡ true → (rs : List Abstract.Raw) × (ms : List Mark) × (k : ℕ) × (tail sub₂ s ≡ fits rs ms k)
+  unfolding lineEnds eol startsWith onward behind blanks isBlankAt
+  tail-dot s l d = go (sign-of s) l d
+    where
+      go : {s : List ℕ} → Sign s → lineEnds s ≡ true → startsWith 46 (drop (blanks s) s) ≡ true → (rs : List Abstract.Raw) × (ms : List Mark) × (k : ℕ) × (tail sub₂ s ≡ fits rs ms k)
+      go end l d = clash {v = false} d refl
+      go (lf t) l d = let (ls, u, b) = block-of t in ([], [], 1 + u + 0, tail-lf sub₂ (agree .no-brace) t b ∙ rw (line-dot (drop u t) (subst (λ r. startsWith 46 r ≡ true) (sym (drop-drop (spaces (drop u t)) u t ∙ ap (λ i. drop i t) (block-blanks b))) d)) refl)
+      go (cr-lf t) l d = let (ls, u, b) = block-of t in ([], [], 2 + u + 0, tail-crlf sub₂ (agree .no-brace) t b ∙ rw (line-dot (drop u t) (subst (λ r. startsWith 46 r ≡ true) (sym (drop-drop (spaces (drop u t)) u t ∙ ap (λ i. drop i t) (block-blanks b))) d)) refl)
+      go (opens t) l d = clash {v = false} l refl
+      go (closes t) l d = clash {v = false} l refl
+      go (plain b t x y w v) l d = clash l (rw (plain-eol b t x v) refl)
+
+  -- an attribute that is there is no error of the pattern
+  attribute-missing : (s : List ℕ) → tail sub₂ s ≡ fails → Attribute rust sub₂ s ≡ fails
+  attribute-missing s e = byCase (lineEnds s)
+      (λ l. let g = gap-of s l in byCase (startsWith 46 (drop (spaces (drop (g .size) s)) (drop (g .size) s)))
+        (λ d. let (rs, ms, k, f) = tail-dot s l (subst (λ r. startsWith 46 r ≡ true) (drop-drop (spaces (drop (g .size) s)) (g .size) s ∙ ap (λ i. drop i s) (g .blank)) d) in let z : _≡_ {A = ℕ} 0 1 = cc in absurd (omega arith))
+        (λ d. attribute-not sub₁ sub₂ agree s g d))
+      (λ l. attribute-off sub₁ sub₂ agree s l)
+
+  Both : ℕ → List ℕ → Out Fields → Type 0
+  Both m s o = Held valued o (rest₂ term₂ s) × Held named o (rest₂ message₂ s)
+
+  rest-held : (m : ℕ) (s : List ℕ) → Both m s (rest₁ m s)
+  unfolding Both rest₁ more₁ Reader._>>=_ Reader.next Reader.after Reader.pure
+  rest-held m s = go (getPattern sub₁ s) (whole-agrees sub₁ sub₂ agree s) (value-of sub₂ s)
+    where
+      moved : (ns : List Mark) (j : ℕ) (os : List Mark) (k x : ℕ) → moveUp (spaces s) (ns ++ moveUp j (moveUp x os)) ≡ moveUp (spaces s) ns ++ moveUp (spaces s + (j + x)) (os ++ moveUp k [])
+      moved ns j os k x = moveUp-append (spaces s) ns (moveUp j (moveUp x os)) ∙ ap (λ ms. moveUp (spaces s) ns ++ ms) (ap (moveUp (spaces s)) (moveUp-twice j x os) ∙ moveUp-twice (spaces s) (j + x) os ∙ ap (moveUp (spaces s + (j + x))) (sym (ap (λ ms. os ++ ms) (moveUp-nil k) ∙ append-nil os)))
+
+      -- with a value: the attributes behind it
+      valued-rest : (ns : List Mark) (j : ℕ) → Grammar.Pattern rust sub₂ (drop (spaces s) s) ≡ fits tt ns j → (g : Gap (drop j (drop (spaces s) s))) → (o : Out ℕ) → Attrs sub₁ sub₂ agree 0 (drop j (drop (spaces s) s)) g o (many (Attribute rust sub₂) (drop j (drop (spaces s) s)))
+          → Both m s (Reader.after (moveUp (spaces s) ns) (spaces s + (j + g .size)) (Reader.next (drop (g .size) (drop j (drop (spaces s) s))) (λ count. Reader.pure (record { name = m; value = true; attributes = count })) o))
+      valued-rest ns j e g (ok c os k) (us, i, a, dc, h, q) =
+          let t = term-fits (drop (spaces s) s) ns j us (moveUp (g .size) os) i e a in
+          let g′ : Gap (drop (j + i) (drop (spaces s) s)) = subst Gap (drop-drop i j (drop (spaces s) s)) h in
+          ((λ v. rest-fits term₂ s (ns ++ moveUp j (moveUp (g .size) os)) (j + i) t g′ ∙ same g os k i (h .size) q, λ v. clash {v = true} refl v),
+          (λ v. rest-fits message₂ s (ns ++ moveUp j (moveUp (g .size) os)) (j + i) (message-term (drop (spaces s) s) t) g′ ∙ same g os k i (h .size) q, λ v. clash {v = true} refl v))
+        where
+          same : (g : Gap (drop j (drop (spaces s) s))) (os : List Mark) (k i x : ℕ) → g .size + k ≡ i + x → _≡_ {A = Answer (Unit {0})} (fits tt (moveUp (spaces s) (ns ++ moveUp j (moveUp (g .size) os))) (spaces s + (j + i + x))) (fits tt (moveUp (spaces s) ns ++ moveUp (spaces s + (j + g .size)) (os ++ moveUp k [])) (spaces s + (j + g .size) + (k + 0)))
+          same g os k i x q = ap₂ (λ ms z. fits tt ms z) (moved ns j os k (g .size)) (omega arith)
+      valued-rest ns j e g (bad x k) h = absurd h
+      valued-rest ns j e g (deep k) h = (tt, tt)
+
+      -- without a value: attributes alone
+      alone : PatternElement rust sub₂ (drop (spaces s) s) ≡ fails → (g : Gap (drop (spaces s) s)) → (o : Out ℕ) → Attrs sub₁ sub₂ agree 0 (drop (spaces s) s) g o (many (Attribute rust sub₂) (drop (spaces s) s))
+          → Both m s (Reader.after [] (spaces s + g .size) (Reader.next (drop (g .size) (drop (spaces s) s)) (λ count. Reader.pure (record { name = m; value = false; attributes = count })) o))
+      alone el g (ok c os k) (us, i, a, dc, h, q) = (((λ v. clash {v = false} v refl), λ v. rest-fails term₂ s t), attributed us a dc)
+        where
+          t : term₂ (drop (spaces s) s) ≡ fails
+          t = term-fails (drop (spaces s) s) (pattern-missing (drop (spaces s) s) el)
+
+          attributed : (us : List (Unit {0})) → many (Attribute rust sub₂) (drop (spaces s) s) ≡ fits us (moveUp (g .size) os) i → c ≡ 0 + length us → Held named (ok (record { name = m; value = false; attributes = c }) (moveUp (spaces s + g .size) (os ++ moveUp k [])) (spaces s + g .size + (k + 0))) (rest₂ message₂ s)
+          attributed [] a dc = ((λ v. clash v (rw (eq-eqb c 0 dc) refl)), λ v. rest-fails message₂ s (message-fails (drop (spaces s) s) t (none-fails (drop (spaces s) s) (moveUp (g .size) os) i a)))
+          attributed (x ∷ xs) a dc = ((λ v. rest-fits message₂ s (moveUp (g .size) os) i (message-only (drop (spaces s) s) x xs (moveUp (g .size) os) i t a) h ∙ ap₂ (λ ms z. fits tt ms z) (moveUp-twice (spaces s) (g .size) os ∙ ap (moveUp (spaces s + g .size)) (sym (ap (λ ms. os ++ ms) (moveUp-nil k) ∙ append-nil os))) (omega arith)), λ v. clash {v = named (record { name = m; value = false; attributes = c })} (rw (ne-eqb c 0 (λ z. omega arith)) refl) v)
+      alone el g (bad x k) h = absurd h
+      alone el g (deep k) h = (tt, tt)
+
+      go : (o : Out Bool) → Whole sub₂ s o (whole-pattern sub₂ s) → Value sub₂ s → Both m s (Reader.next s (λ value. more₁ m value) o)
+      go (ok true ms k) w (fit ns j e g h) =
+          let x : ms ≡ moveUp (spaces s) ns = cc in
+          let y : k ≡ spaces s + (j + g .size) = cc in
+          let D : drop (spaces s + (j + g .size)) s ≡ drop (g .size) (drop j (drop (spaces s) s)) = sym (drop-drop (g .size) j (drop (spaces s) s) ∙ drop-drop (j + g .size) (spaces s) s) in
+          rw (x, y, D, more-is m true (drop (g .size) (drop j (drop (spaces s) s))) (g .stops)) (valued-rest ns j e g (getAttributes sub₁ (drop (g .size) (drop j (drop (spaces s) s)))) (attributes-agree sub₁ sub₂ agree (drop j (drop (spaces s) s)) g))
+      go (ok true ms k) w (broken ns j e l h) = let z : _≡_ {A = ℕ} 0 1 = cc in absurd (omega arith)
+      go (ok true ms k) w (missing e h) = let z : _≡_ {A = ℕ} 0 1 = cc in absurd (omega arith)
+      go (ok false ms k) w v =
+          let (a, el, mz, u, ns, j, c, kq) = w in
+          let (g, gq) = closing-gap (drop (spaces s) s) c in
+          let y : k ≡ spaces s + g .size = kq ∙ ap (λ i. spaces s + i) (sym gq) in
+          rw (mz, y, sym (drop-drop (g .size) (spaces s) s), more-is m false (drop (g .size) (drop (spaces s) s)) (g .stops)) (alone el g (getAttributes sub₁ (drop (g .size) (drop (spaces s) s))) (attributes-agree sub₁ sub₂ agree (drop (spaces s) s) g))
+      go (bad e k) w (fit ns j f g h) = let z : _≡_ {A = ℕ} 0 1 = cc (w .0) in absurd (omega arith)
+      go (bad e k) w (broken ns j f l h) =
+          let t = term-fits (drop (spaces s) s) ns j [] [] 0 f (many-none (Attribute rust sub₂) (no-attribute sub₁ sub₂ agree) (drop j (drop (spaces s) s)) (attribute-off sub₁ sub₂ agree (drop j (drop (spaces s) s)) l)) in
+          let b : lineEnds (drop (j + 0) (drop (spaces s) s)) ≡ false = rw (add-zero j) l in
+          (rest-broken term₂ s (ns ++ moveUp j []) (j + 0) t b, rest-broken message₂ s (ns ++ moveUp j []) (j + 0) (message-term (drop (spaces s) s) t) b)
+      go (bad e k) w (missing f h) =
+          let t = term-fails (drop (spaces s) s) f in
+          (rest-fails term₂ s t, rest-fails message₂ s (message-fails (drop (spaces s) s) t (attribute-missing (drop (spaces s) s) (w .1))))
+      go (deep k) w v = (tt, tt)
