@@ -2,7 +2,7 @@
 use Prim.Native.Nat.{ℕ, zero, suc, _+_, _-_, _≤_, _<_}
 use native.Mathlib.Nat.{not-suc-le-zero, add-assoc, zero-add, add-zero}
 use native.Mathlib.Omega.{arith}
-use mathlib.Core.Path.{_≡_, refl, sym, ap, ap₂, _∙_, subst}
+use mathlib.Core.Path.{_≡_, refl, sym, ap, ap₂, _∙_, subst, fun-ext}
 use mathlib.Core.Bool.{Bool, true, false, _||_, not}
 use mathlib.Core.List.{List, [], _∷_, _++_, append-nil, append-assoc}
 use lib.ListN.{drop, take, length, length-drop}
@@ -31,7 +31,7 @@ use Rattle.standard.specs.Lexical.{line-end, blank-inline?, blank-line, 
 use Rattle.standard.specs.Grammar as Grammar
 use Rattle.standard.specs.Grammar.{Attribute, PatternElement, dedented-pattern, inPattern, Message, Term, entry-end}
 use Rattle.standard.specs.Blank.{isBlankAt, blanks, lineEnds, line-end-is, no-line-end, blank-inline?-is, ends-spaces}
-use Rattle.standard.specs.Same.{Same, nothing, Agree, whole-pattern, same-byte, same-blank-inline, reads-then, reads-bind}
+use Rattle.standard.specs.Same.{Same, nothing, Agree, whole-pattern, same-byte, same-blank-inline, reads-then, fits-pure}
 use Rattle.standard.specs.Words.{same-name}
 use Rattle.standard.specs.BlankLines.{after-zero}
 use Rattle.standard.specs.Turns.{AtEnd, Plain, many-plain, many-again, many-none, many-still, some-many}
@@ -100,6 +100,12 @@ valued f = f .value
 
 abbrev named : Fields → Bool
 named f = f .value || not (eqb (f .attributes) 0)
+
+-- what an entry of the reading is
+abbrev pub itemOf : Core.Entry → Abstract.Item
+itemOf (Core.Entry.comment l) = Abstract.comment l
+itemOf Core.Entry.message = Abstract.message
+itemOf Core.Entry.term = Abstract.term
 
 module _ (sub₁ : Pattern.Inside) (sub₂ : Grammar.Inside) (agree : Agree sub₁ sub₂) (n : ℕ) where
   rest₁ : ℕ → Reader Fields
@@ -272,3 +278,63 @@ module _ (sub₁ : Pattern.Inside) (sub₂ : Grammar.Inside) (agree : Agree sub�
           let t = term-fails (drop (spaces s) s) f in
           (rest-fails term₂ s t, rest-fails message₂ s (message-fails (drop (spaces s) s) t (attribute-missing (drop (spaces s) s) (w .1))))
       go (deep k) w v = (tt, tt)
+
+  -- from the name on
+  message-held : (s : List ℕ) → Held named (fields sub₁ s) ((Identifier 9 >> (blank-inline? >> (byte 61 >> rest₂ message₂))) s)
+  unfolding fields _>>_ Reader._>>=_ Reader._>>_ rest₁ Both
+  message-held s = held-next named (λ m. take m s) s _ _ (getIdentifier 9 s) (Identifier 9 s) (same-name 9 s)
+      (λ m r. held-next named nothing r _ _ (skipBlankInline r) (blank-inline? r) (same-blank-inline .same r)
+      (λ x q. held-next named nothing q _ _ (expectByte 61 q) (byte 61 q) (same-byte 61 .same q) (λ y t. rest-held m t .1)))
+
+  term-held : (s : List ℕ) → Held valued (termFields sub₁ s) ((byte 45 >> (Identifier 9 >> (blank-inline? >> (byte 61 >> rest₂ term₂)))) s)
+  unfolding termFields fields _>>_ Reader._>>=_ Reader._>>_ rest₁ Both
+  term-held s = held-next valued nothing s _ _ (expectByte 45 s) (byte 45 s) (same-byte 45 .same s)
+      (λ w o. held-next valued (λ m. take m o) o _ _ (getIdentifier 9 o) (Identifier 9 o) (same-name 9 o)
+      (λ m r. held-next valued nothing r _ _ (skipBlankInline r) (blank-inline? r) (same-blank-inline .same r)
+      (λ x q. held-next valued nothing q _ _ (expectByte 61 q) (byte 61 q) (same-byte 61 .same q) (λ y t. rest-held m t .0))))
+
+  -- the productions of entries, regrouped
+  then-assoc : {A B C : Type 0} (p : Parser A) (q : Parser B) (w : Parser C) → (p >> q) >> w ≡ p >> (q >> w)
+  unfolding _>>_ Peg.next
+  then-assoc {A} p q w = fun-ext (λ s. go s (p s))
+    where
+      go : (s : List ℕ) (o : Answer A) → Peg.next s (λ _. w) (Peg.next s (λ _. q) o) ≡ Peg.next s (λ _ r. Peg.next r (λ _. w) (q r)) o
+      go s (fits a ms k) = next-after s (λ _. w) ms k (q (drop k s))
+      go s fails = refl
+
+  message-chain : Message rust sub₂ >> entry-end rust n ≡ Identifier 9 >> (blank-inline? >> (byte 61 >> rest₂ message₂))
+  unfolding Message message₂ term₂ rest₂
+  message-chain = then-assoc (Identifier 9) _ (entry-end rust n) ∙ ap (λ p. Identifier 9 >> p) (then-assoc blank-inline? _ (entry-end rust n) ∙ ap (λ p. blank-inline? >> p) (then-assoc (byte 61) _ (entry-end rust n) ∙ ap (λ p. byte 61 >> p) (then-assoc blank-inline? _ (entry-end rust n))))
+
+  term-chain : Term rust sub₂ >> entry-end rust n ≡ byte 45 >> (Identifier 9 >> (blank-inline? >> (byte 61 >> rest₂ term₂)))
+  unfolding Term term₂ rest₂
+  term-chain = then-assoc (byte 45) _ (entry-end rust n) ∙ ap (λ p. byte 45 >> p) (then-assoc (Identifier 9) _ (entry-end rust n) ∙ ap (λ p. Identifier 9 >> p) (then-assoc blank-inline? _ (entry-end rust n) ∙ ap (λ p. blank-inline? >> p) (then-assoc (byte 61) _ (entry-end rust n) ∙ ap (λ p. byte 61 >> p) (then-assoc blank-inline? _ (entry-end rust n)))))
+
+  -- as entries
+  pub message-agrees : (s : List ℕ) → Same itemOf (asMessage (fields sub₁ s)) ((Message rust sub₂ >> entry-end rust n >> pure Abstract.message) s)
+  unfolding asMessage pure
+  message-agrees s = go (fields sub₁ s) (rw (← message-chain) at (message-held s))
+    where
+      P : Parser (Unit {0})
+      P = Message rust sub₂ >> entry-end rust n
+
+      go : (o : Out Fields) → Held named o ((Message rust sub₂ >> entry-end rust n) s) → Same itemOf (asMessage o) ((Message rust sub₂ >> entry-end rust n >> pure Abstract.message) s)
+      go (ok f ms k) h = byCase (f .value || not (eqb (f .attributes) 0))
+          (λ v. rw (v, asMessage) (then-fits P (pure Abstract.message) s (h .0 v) ∙ fits-pure Abstract.message ms k))
+          (λ v. rw (v, asMessage) (then-fails P (pure Abstract.message) s (h .1 v)))
+      go (bad e k) h = then-fails P (pure Abstract.message) s h
+      go (deep k) h = tt
+
+  pub term-agrees : (s : List ℕ) → Same itemOf (asTerm (termFields sub₁ s)) ((Term rust sub₂ >> entry-end rust n >> pure Abstract.term) s)
+  unfolding asTerm pure
+  term-agrees s = go (termFields sub₁ s) (rw (← term-chain) at (term-held s))
+    where
+      P : Parser (Unit {0})
+      P = Term rust sub₂ >> entry-end rust n
+
+      go : (o : Out Fields) → Held valued o ((Term rust sub₂ >> entry-end rust n) s) → Same itemOf (asTerm o) ((Term rust sub₂ >> entry-end rust n >> pure Abstract.term) s)
+      go (ok f ms k) h = byCase (f .value)
+          (λ v. rw (v, asTerm) (then-fits P (pure Abstract.term) s (h .0 v) ∙ fits-pure Abstract.term ms k))
+          (λ v. rw (v, asTerm) (then-fails P (pure Abstract.term) s (h .1 v)))
+      go (bad e k) h = then-fails P (pure Abstract.term) s h
+      go (deep k) h = tt
