@@ -27,3 +27,4 @@ pub mod Select
 pub mod Placeable
 pub mod Attributes
 pub mod Messages
+pub mod Comments
