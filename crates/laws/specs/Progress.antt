@@ -92,7 +92,7 @@ module _ (sub : Inside) where
       (λ t. clash f (rw t (rw r (rw q refl))))))
 
   -- an entry's bytes, or its junk's
-  ok-moves : (b : ℕ) (bs : List ℕ) (e : Entry) (ms : List Mark) (k : ℕ) → getEntry sub (b ∷ bs) ≡ ok e ms k → 0 < k
+  pub ok-moves : (b : ℕ) (bs : List ℕ) (e : Entry) (ms : List Mark) (k : ℕ) → getEntry sub (b ∷ bs) ≡ ok e ms k → 0 < k
   ok-moves b bs e ms k h = byCase (isFresh b) (λ q. subst Moved h (fresh-moved b bs q)) (λ q. absurd (other q))
     where
       other : isFresh b ≡ false → ⊥
@@ -102,7 +102,7 @@ module _ (sub : Inside) where
           let c : eqb b 35 ≡ false = byCase (eqb b 35) (λ z. clash (rw l (rw d (rw z refl))) q) (λ z. z) in
           let (f, j, p) = no-entry sub b bs c d l in let z : _≡_ {A = ℕ} 0 1 = cc in omega arith
 
-  bad-moves : (b : ℕ) (bs : List ℕ) (f : ParserError) (k : ℕ) → getEntry sub (b ∷ bs) ≡ bad f k → 0 < junkEnd k (b ∷ bs)
+  pub bad-moves : (b : ℕ) (bs : List ℕ) (f : ParserError) (k : ℕ) → getEntry sub (b ∷ bs) ≡ bad f k → 0 < junkEnd k (b ∷ bs)
   unfolding junkEnd toNextEntry lineStartsAt
   bad-moves b bs f zero h = byCase (isFresh b) (λ q. absurd (not-suc-le-zero (subst Moved h (fresh-moved b bs q)))) (λ q. rw (q, toNextEntry) (omega arith))
   bad-moves b bs f (suc k) h = omega arith

@@ -28,3 +28,4 @@ pub mod Placeable
 pub mod Attributes
 pub mod Messages
 pub mod Comments
+pub mod Pieces

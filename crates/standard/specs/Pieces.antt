@@ -1,0 +1,148 @@
+-- The pieces of a resource: entries, blank lines and junk, against the reading's entries.
+use Prim.Native.Nat.{ℕ, zero, suc, _+_, _-_, _≤_, _<_}
+use native.Mathlib.Nat.{not-suc-le-zero, add-assoc, zero-add, add-zero}
+use native.Mathlib.Omega.{arith}
+use mathlib.Core.Path.{_≡_, refl, sym, ap, ap₂, _∙_, subst}
+use mathlib.Core.Logic.{_⊎_, inl, inr}
+use mathlib.Core.Bool.{Bool, true, false, _&&_, _||_, not}
+use mathlib.Core.List.{List, [], _∷_, _++_, append-nil}
+use lib.ListN.{drop, length, length-drop}
+use lib.Seq.{drop-drop}
+use lib.Dec.{eqb, ltb, eqb·suc-zero}
+use borrow.Author.Tests.{eqb-true, eqb-false, ne-eqb}
+use Rattle.syntax.specs.Bytes.{startsWith, starts, spaces, eol, run, isLetter}
+use Rattle.syntax.specs.Marks.{Mark, moveUp, textNode}
+use Rattle.syntax.specs.declared.errors.ParserError.{ParserError}
+use Rattle.syntax.specs.Reader.{Out, ok, bad, deep}
+use Rattle.syntax.specs.Expression.{level}
+use Rattle.syntax.specs.Core as Core
+use Rattle.syntax.specs.Core.{asMessage, asTerm, fields, termFields, getEntry, junkEnd, toNextEntry, lineStartsAt}
+use Rattle.laws.specs.Bytes.{byCase, clash}
+use Rattle.laws.specs.Entries.{nil-entry}
+use Rattle.laws.specs.Progress.{ok-moves, bad-moves}
+use Rattle.standard.specs.Dialect as Dialect
+use Rattle.standard.specs.Dialect.{rust}
+use Rattle.standard.specs.Peg as Peg
+use Rattle.standard.specs.Peg.{Answer, fits, fails, Parser, pure, many, some, byte, one, given, pick, withFirst, _>>_, _/_}
+use Rattle.standard.specs.Steps.{then-fits, then-fails, first, second, byte-fits, byte-fails, some-fails}
+use Rattle.standard.specs.Abstract as Abstract
+use Rattle.standard.specs.Abstract.{Item, Part, Line}
+use Rattle.standard.specs.Lexical.{blank-inline?, Identifier}
+use Rattle.standard.specs.Grammar as Grammar
+use Rattle.standard.specs.Grammar.{nesting, Message, Term, entry-end, CommentLine, Entry, blank-lines, swallowing-junk, Junk, piece, part, asPart}
+use Rattle.standard.specs.Blank.{blank-inline?-is}
+use Rattle.standard.specs.Same.{Same, Agree, fits-pure}
+use Rattle.standard.specs.Words.{no-name}
+use Rattle.standard.specs.Turns.{AtEnd, many-again, many-none, some-many}
+use Rattle.standard.specs.Texts.{Sign, end, lf, cr-lf, opens, closes, plain, sign-of, plain-eol}
+use Rattle.standard.specs.Blocks.{Block, stop, step}
+use Rattle.standard.specs.Messages.{itemOf, message-agrees, term-agrees}
+use Rattle.standard.specs.Comments.{no-comment, line-comment}
+
+-- Blank lines ---------------------------------------------------------------------------------------------------------------------------------
+
+newline : Parser (Unit {0})
+newline = (byte 13 >> byte 10) / byte 10
+
+newline-fits : (s : List ℕ) (e : ℕ) → eol s ≡ suc e → newline s ≡ fits tt [] (suc e)
+unfolding newline eol startsWith _>>_ _/_ Peg.next Peg.after byte one starts moveUp
+newline-fits s e q = go (sign-of s) q
+  where
+    go : {s : List ℕ} → Sign s → eol s ≡ suc e → newline s ≡ fits tt [] (suc e)
+    go end q = absurd (omega arith)
+    go (lf t) q = ap (fits tt []) q
+    go (cr-lf t) q = ap (fits tt []) q
+    go (opens t) q = absurd (omega arith)
+    go (closes t) q = absurd (omega arith)
+    go (plain b t x y w v) q = absurd (omega (arith, plain-eol b t x v))
+
+newline-fails : (s : List ℕ) → eol s ≡ 0 → newline s ≡ fails
+unfolding newline eol startsWith _>>_ _/_ Peg.next Peg.after byte one starts moveUp
+newline-fails s q = go (sign-of s) q
+  where
+    after-cr : (b : ℕ) (t : List ℕ) → (eqb b 13 && startsWith 10 t) ≡ false → (byte 13 >> byte 10) (b ∷ t) ≡ fails
+    after-cr b t v = byCase (eqb b 13) (λ r. then-fits (byte 13) (byte 10) (b ∷ t) (byte-fits 13 (b ∷ t) r) ∙ ap (Peg.after [] 1) (byte-fails 10 t (rw r at v))) (λ r. then-fails (byte 13) (byte 10) (b ∷ t) (byte-fails 13 (b ∷ t) r))
+
+    go : {s : List ℕ} → Sign s → eol s ≡ 0 → newline s ≡ fails
+    go end q = refl
+    go (lf t) q = absurd (omega arith)
+    go (cr-lf t) q = absurd (omega arith)
+    go (opens t) q = refl
+    go (closes t) q = refl
+    go (plain b t x y w v) q = second (byte 13 >> byte 10) (byte 10) (b ∷ t) (after-cr b t v) ∙ byte-fails 10 (b ∷ t) x
+
+gap-line : Parser (Unit {0})
+gap-line = blank-inline? >> newline
+
+gap-fits : (s : List ℕ) (e : ℕ) → eol (drop (spaces s) s) ≡ suc e → gap-line s ≡ fits tt [] (spaces s + suc e)
+unfolding gap-line Peg.after moveUp
+gap-fits s e q = then-fits blank-inline? newline s (blank-inline?-is s) ∙ ap (Peg.after [] (spaces s)) (newline-fits (drop (spaces s) s) e q)
+
+gap-fails : (s : List ℕ) → eol (drop (spaces s) s) ≡ 0 → gap-line s ≡ fails
+unfolding gap-line Peg.after
+gap-fails s q = then-fits blank-inline? newline s (blank-inline?-is s) ∙ ap (Peg.after [] (spaces s)) (newline-fails (drop (spaces s) s) q)
+
+gap-end : AtEnd (gap-line [])
+unfolding spaces run eol
+gap-end = rw (gap-fails [] refl) tt
+
+gaps : {s : List ℕ} {ls : List Line} {u : ℕ} → Block s ls u → (us : List (Unit {0})) × (many gap-line s ≡ fits us [] u)
+unfolding withFirst Peg.after moveUp
+gaps {s} (stop q) = ([], many-none gap-line gap-end s (gap-fails s q))
+gaps {s} (step {u = u} e q b) = let (us, f) = gaps b in (tt ∷ us, many-again gap-line gap-end s tt [] (spaces s + suc e) (gap-fits s e q) (omega arith) ∙ ap (λ o. withFirst tt (Peg.after [] (spaces s + suc e) o)) f)
+
+-- the production of blank lines between entries
+pub blanks-fit : (n : ℕ) {s : List ℕ} {l : Line} {ls : List Line} {u : ℕ} → Block s (l ∷ ls) u → blank-lines rust n s ≡ fits Abstract.blank [] u
+unfolding blank-lines pick rust Dialect.all newline gap-line pure
+blanks-fit n {s} {u = u} (step {u = v} e q b) = let (us, f) = gaps (step e q b) in then-fits (some gap-line) (pure Abstract.blank) s (some-many gap-line gap-end s tt [] (spaces s + suc e) (gap-fits s e q) (omega arith) ∙ f) ∙ fits-pure Abstract.blank [] (spaces s + suc e + v)
+
+pub blanks-fail : (n : ℕ) (s : List ℕ) → eol (drop (spaces s) s) ≡ 0 → blank-lines rust n s ≡ fails
+unfolding blank-lines pick rust Dialect.all newline gap-line
+blanks-fail n s q = then-fails (some gap-line) (pure Abstract.blank) s (some-fails gap-line s (gap-fails s q))
+
+-- Entries -------------------------------------------------------------------------------------------------------------------------------------
+
+module _ (n : ℕ) (agree : Agree (level n) (nesting rust n)) where
+  message-branch : Parser Item
+  message-branch = Message rust (nesting rust n) >> entry-end rust n >> pure Abstract.message
+
+  term-branch : Parser Item
+  term-branch = Term rust (nesting rust n) >> entry-end rust n >> pure Abstract.term
+
+  no-message : (s : List ℕ) → starts isLetter s ≡ false → message-branch s ≡ fails
+  unfolding message-branch Message
+  no-message s e = then-fails (Message rust (nesting rust n) >> entry-end rust n) (pure Abstract.message) s (then-fails (Message rust (nesting rust n)) (entry-end rust n) s (then-fails (Identifier 9) _ s (no-name 9 s e)))
+
+  no-term : (s : List ℕ) → startsWith 45 s ≡ false → term-branch s ≡ fails
+  unfolding term-branch Term
+  no-term s e = then-fails (Term rust (nesting rust n) >> entry-end rust n) (pure Abstract.term) s (then-fails (Term rust (nesting rust n)) (entry-end rust n) s (then-fails (byte 45) _ s (byte-fails 45 s e)))
+
+  no-letter : (b : ℕ) (s : List ℕ) → startsWith b s ≡ true → isLetter b ≡ false → starts isLetter s ≡ false
+  unfolding startsWith starts
+  no-letter b [] e h = refl
+  no-letter b (x ∷ xs) e h = rw (eqb-true x b e) h
+
+  other-byte : (b c : ℕ) (s : List ℕ) → startsWith b s ≡ true → eqb b c ≡ false → startsWith c s ≡ false
+  unfolding startsWith
+  other-byte b c [] e h = refl
+  other-byte b c (x ∷ xs) e h = rw (eqb-true x b e) h
+
+  pub entry-hash : (s : List ℕ) → startsWith 35 s ≡ true → Entry rust n s ≡ CommentLine rust s
+  unfolding Entry message-branch term-branch isLetter
+  entry-hash s e = second message-branch (term-branch / CommentLine rust) s (no-message s (no-letter 35 s e refl)) ∙ second term-branch (CommentLine rust) s (no-term s (other-byte 35 45 s e refl))
+
+  pub entry-agrees : (s : List ℕ) → startsWith 35 s ≡ false → Same itemOf (getEntry (level n) s) (Entry rust n s)
+  unfolding Entry message-branch term-branch isLetter getEntry
+  entry-agrees s e = byCase (startsWith 45 s)
+      (λ d. rw (e, getEntry, d, second message-branch (term-branch / CommentLine rust) s (no-message s (no-letter 45 s d refl))) (or-comment (asTerm (termFields (level n) s)) term-branch (term-agrees (level n) (nesting rust n) agree n s)))
+      (λ d. rw (e, getEntry, d) (or-message (asMessage (fields (level n) s)) (message-agrees (level n) (nesting rust n) agree n s) d))
+    where
+      or-comment : (o : Out Core.Entry) (p : Parser Item) → Same itemOf o (p s) → Same itemOf o ((p / CommentLine rust) s)
+      or-comment (ok x ms k) p h = first p (CommentLine rust) s h
+      or-comment (bad f k) p h = second p (CommentLine rust) s h ∙ no-comment s e
+      or-comment (deep k) p h = tt
+
+      or-message : (o : Out Core.Entry) → Same itemOf o (message-branch s) → startsWith 45 s ≡ false → Same itemOf o ((message-branch / (term-branch / CommentLine rust)) s)
+      or-message (ok x ms k) h d = first message-branch (term-branch / CommentLine rust) s h
+      or-message (bad f k) h d = second message-branch (term-branch / CommentLine rust) s h ∙ second term-branch (CommentLine rust) s (no-term s d) ∙ no-comment s e
+      or-message (deep k) h d = tt
