@@ -18,7 +18,9 @@ use Rattle.syntax.specs.Expression.{level}
 use Rattle.syntax.specs.Core as Core
 use Rattle.syntax.specs.Core.{asMessage, asTerm, fields, termFields, getEntry, junkEnd, toNextEntry, lineStartsAt}
 use Rattle.laws.specs.Bytes.{byCase, clash}
-use Rattle.laws.specs.Entries.{nil-entry}
+use Rattle.syntax.specs.declared.errors.ErrorKind.the-variants.{ExpectedCharRange}
+use Rattle.syntax.specs.Reader as Reader
+use Rattle.syntax.specs.Helper.{getIdentifier}
 use Rattle.laws.specs.Progress.{ok-moves, bad-moves}
 use Rattle.standard.specs.Dialect as Dialect
 use Rattle.standard.specs.Dialect.{rust}
@@ -26,14 +28,14 @@ use Rattle.standard.specs.Peg as Peg
 use Rattle.standard.specs.Peg.{Answer, fits, fails, Parser, pure, many, some, byte, one, given, pick, withFirst, _>>_, _/_}
 use Rattle.standard.specs.Steps.{then-fits, then-fails, first, second, byte-fits, byte-fails, some-fails}
 use Rattle.standard.specs.Abstract as Abstract
-use Rattle.standard.specs.Abstract.{Item, Part, Line}
+use Rattle.standard.specs.Abstract.{Item, Part, Line, A2, A3}
 use Rattle.standard.specs.Lexical.{blank-inline?, Identifier}
 use Rattle.standard.specs.Grammar as Grammar
-use Rattle.standard.specs.Grammar.{nesting, Message, Term, entry-end, CommentLine, Entry, blank-lines, swallowing-junk, Junk, piece, part, asPart}
+use Rattle.standard.specs.Grammar.{nesting, Message, Term, entry-end, CommentLine, Entry, blank-lines, swallowing-junk, Junk, piece, part, asPart, treeOf, ResourceWithin}
 use Rattle.standard.specs.Blank.{blank-inline?-is}
 use Rattle.standard.specs.Same.{Same, Agree, fits-pure}
 use Rattle.standard.specs.Words.{no-name}
-use Rattle.standard.specs.Turns.{AtEnd, many-again, many-none, some-many}
+use Rattle.standard.specs.Turns.{AtEnd, many-again, many-none, some-many, Fitting, many-fit}
 use Rattle.standard.specs.Texts.{Sign, end, lf, cr-lf, opens, closes, plain, sign-of, plain-eol}
 use Rattle.standard.specs.Blocks.{Block, stop, step}
 use Rattle.standard.specs.Messages.{itemOf, message-agrees, term-agrees}
@@ -100,6 +102,10 @@ pub blanks-fail : (n : ℕ) (s : List ℕ) → eol (drop (spaces s) s) ≡ 0 →
 unfolding blank-lines pick rust Dialect.all newline gap-line
 blanks-fail n s q = then-fails (some gap-line) (pure Abstract.blank) s (some-fails gap-line s (gap-fails s q))
 
+unfoldable pub partsOf : Answer (List Part) → List Part
+partsOf (fits ps ms k) = ps
+partsOf fails = []
+
 -- Entries -------------------------------------------------------------------------------------------------------------------------------------
 
 module _ (n : ℕ) (agree : Agree (level n) (nesting rust n)) where
@@ -146,3 +152,72 @@ module _ (n : ℕ) (agree : Agree (level n) (nesting rust n)) where
       or-message (ok x ms k) h d = first message-branch (term-branch / CommentLine rust) s h
       or-message (bad f k) h d = second message-branch (term-branch / CommentLine rust) s h ∙ second term-branch (CommentLine rust) s (no-term s d) ∙ no-comment s e
       or-message (deep k) h d = tt
+
+  -- no entry at a blank line
+  first-blank : (s : List ℕ) (e : ℕ) → eol (drop (spaces s) s) ≡ suc e → (p : ℕ → Bool) → p 32 ≡ false → p 10 ≡ false → p 13 ≡ false → starts p s ≡ false
+  unfolding spaces run eol starts
+  first-blank [] e q p x y z = refl
+  first-blank (b ∷ bs) e q p x y z = byCase (eqb b 32) (λ r. rw (eqb-true b 32 r) x) (λ r. byCase (eqb b 10) (λ w. rw (eqb-true b 10 w) y) (λ w. byCase (eqb b 13) (λ v. rw (eqb-true b 13 v) z) (λ v. absurd (omega (arith, rw (r, run, eol, w, v) at q)))))
+
+  starts-with : (b : ℕ) (s : List ℕ) → starts (λ x. eqb x b) s ≡ startsWith b s
+  unfolding starts startsWith
+  starts-with b [] = refl
+  starts-with b (x ∷ xs) = refl
+
+  entry-blank : (s : List ℕ) (e : ℕ) → eol (drop (spaces s) s) ≡ suc e → Entry rust n s ≡ fails
+  unfolding Entry message-branch term-branch isLetter
+  entry-blank s e q = second message-branch (term-branch / CommentLine rust) s (no-message s (first-blank s e q isLetter refl refl refl)) ∙ second term-branch (CommentLine rust) s (no-term s (sym (starts-with 45 s) ∙ first-blank s e q (λ x. eqb x 45) refl refl refl)) ∙ no-comment s (sym (starts-with 35 s) ∙ first-blank s e q (λ x. eqb x 35) refl refl refl)
+
+  -- Pieces ------------------------------------------------------------------------------------------------------------------------------------
+
+  abbrev item : Parser Item
+  item = Entry rust n / (blank-lines rust n / Junk rust n)
+
+  piece-is : (s : List ℕ) {i : Item} {ms : List Mark} {k : ℕ} → item s ≡ fits i ms k → piece rust n s ≡ fits (record { item = i; inside = ms; size = k }) [] k
+  unfolding piece part asPart
+  piece-is s e = ap asPart e
+
+  pub piece-entry : (s : List ℕ) {i : Item} {ms : List Mark} {k : ℕ} → Entry rust n s ≡ fits i ms k → piece rust n s ≡ fits (record { item = i; inside = ms; size = k }) [] k
+  piece-entry s e = piece-is s (first (Entry rust n) (blank-lines rust n / Junk rust n) s e)
+
+  pub piece-blank : {s : List ℕ} {l : Line} {ls : List Line} {u : ℕ} → Block s (l ∷ ls) u → piece rust n s ≡ fits (record { item = Abstract.blank; inside = []; size = u }) [] u
+  piece-blank {s} {u = u} (step {u = v} e q b) = piece-is s (second (Entry rust n) (blank-lines rust n / Junk rust n) s (entry-blank s e q) ∙ first (blank-lines rust n) (Junk rust n) s (blanks-fit n (step e q b)))
+
+  junk-is : (s : List ℕ) (f : ParserError) (k : ℕ) → getEntry (level n) s ≡ bad f k → Junk rust n s ≡ fits Abstract.junk (textNode 7 0 (junkEnd k s)) (junkEnd k s)
+  unfolding Junk given rust Dialect.all swallowing-junk
+  junk-is s f k e = first (swallowing-junk rust n) _ s (rw (e, swallowing-junk) refl)
+
+  pub piece-junk : (s : List ℕ) (f : ParserError) (k : ℕ) → Entry rust n s ≡ fails → eol (drop (spaces s) s) ≡ 0 → getEntry (level n) s ≡ bad f k → piece rust n s ≡ fits (record { item = Abstract.junk; inside = textNode 7 0 (junkEnd k s); size = junkEnd k s }) [] (junkEnd k s)
+  piece-junk s f k x q e = piece-is s (second (Entry rust n) (blank-lines rust n / Junk rust n) s x ∙ second (blank-lines rust n) (Junk rust n) s (blanks-fail n s q) ∙ junk-is s f k e)
+
+  nil-bad : getEntry (level n) [] ≡ bad (record { start = 0; end = 1; kind = ExpectedCharRange 1 }) 0
+  unfolding getEntry startsWith asMessage fields Reader._>>=_ Reader.next getIdentifier starts Reader.fail
+  nil-bad = refl
+
+  piece-end : AtEnd (piece rust n [])
+  unfolding startsWith spaces run eol junkEnd toNextEntry
+  piece-end = let e : Entry rust n [] ≡ fails = rw nil-bad at (entry-agrees [] refl) in rw (piece-junk [] (record { start = 0; end = 1; kind = ExpectedCharRange 1 }) 0 e refl nil-bad) refl
+
+  -- the parts of a source
+  unfoldable pub parts : List ℕ → List Part
+  parts s = partsOf (many (piece rust n) s)
+
+  pub parts-again : (s : List ℕ) (p : Part) (k : ℕ) → piece rust n s ≡ fits p [] k → 0 < k → parts s ≡ p ∷ parts (drop k s)
+  unfolding parts
+  parts-again s p k e h = ap partsOf (many-again (piece rust n) piece-end s p [] k e h) ∙ go (many (piece rust n) (drop k s)) (many-fit (piece rust n) (drop k s))
+    where
+      go : (o : Answer (List Part)) → Fitting o → partsOf (withFirst p (Peg.after [] k o)) ≡ p ∷ partsOf o
+      go (fits ps ms j) f = unfold partsOf withFirst Peg.after in refl
+      go fails f = absurd f
+
+  pub parts-nil : parts [] ≡ []
+  unfolding parts partsOf many Peg.turns
+  parts-nil = refl
+
+  pub tree-parts : (s : List ℕ) → ResourceWithin rust n s ≡ A3 (A2 (parts s))
+  unfolding ResourceWithin parts
+  tree-parts s = go (many (piece rust n) s) (many-fit (piece rust n) s)
+    where
+      go : (o : Answer (List Part)) → Fitting o → treeOf o ≡ A3 (A2 (partsOf o))
+      go (fits ps ms k) f = unfold treeOf partsOf in refl
+      go fails f = absurd f

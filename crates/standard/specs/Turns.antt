@@ -165,3 +165,26 @@ module _ {A : Type 0} (p : Parser A) (h : (s : List ℕ) → Plain (p s)) where
       go : (o : Answer A) → p s ≡ o → Plain o → Plain (some p s)
       go (fits a ms k) e q = rw (bind-fits p (λ x. many p >>= λ more. pure (x ∷ more)) s e, q) (plain-after k ((many p >>= λ more. pure (a ∷ more)) (drop k s)) (rest a (drop k s) (many p (drop k s)) refl (many-plain (drop k s))))
       go fails e q = rw (bind-fails p (λ x. many p >>= λ more. pure (x ∷ more)) s e) tt
+
+-- a repetition always fits
+abbrev pub Fitting : {A : Type 0} → Answer A → Type 0
+Fitting (fits a ms k) = Unit {0}
+Fitting fails = ⊥
+
+fitting-first : {A : Type 0} (a : A) (ms : List Mark) (k : ℕ) (o : Answer (List A)) → Fitting o → Fitting (withFirst a (Peg.after ms k o))
+unfolding withFirst Peg.after
+fitting-first a ms k (fits more ns j) h = tt
+fitting-first a ms k fails h = h
+
+turns-fit : {A : Type 0} (p : Parser A) (n : ℕ) (s : List ℕ) → Fitting (turns n p s)
+unfolding turns
+turns-fit p zero s = tt
+turns-fit {A} p (suc n) s = go (p s) (λ r. turns-fit p n r)
+  where
+    go : (o : Answer A) → ((r : List ℕ) → Fitting (turns n p r)) → Fitting {A = List A} (elim o [ fits a ms k ↦ elim (eqb k 0) [ true ↦ fits [] [] 0 | false ↦ withFirst a (Peg.after ms k (turns n p (drop k s))) ] | fails ↦ fits [] [] 0 ])
+    go (fits a ms k) f = byCase (eqb k 0) (λ z. rw z tt) (λ z. rw z (fitting-first a ms k (turns n p (drop k s)) (f (drop k s))))
+    go fails f = tt
+
+pub many-fit : {A : Type 0} (p : Parser A) (s : List ℕ) → Fitting (many p s)
+unfolding many
+many-fit p s = turns-fit p (length s) s
