@@ -29,3 +29,4 @@ pub mod Attributes
 pub mod Messages
 pub mod Comments
 pub mod Pieces
+pub mod Resource

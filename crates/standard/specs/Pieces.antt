@@ -29,13 +29,13 @@ use Rattle.standard.specs.Peg.{Answer, fits, fails, Parser, pure, many, 
 use Rattle.standard.specs.Steps.{then-fits, then-fails, first, second, byte-fits, byte-fails, some-fails}
 use Rattle.standard.specs.Abstract as Abstract
 use Rattle.standard.specs.Abstract.{Item, Part, Line, A2, A3}
-use Rattle.standard.specs.Lexical.{blank-inline?, Identifier}
+use Rattle.standard.specs.Lexical.{blank-inline?, Identifier, junk-lines}
 use Rattle.standard.specs.Grammar as Grammar
 use Rattle.standard.specs.Grammar.{nesting, Message, Term, entry-end, CommentLine, Entry, blank-lines, swallowing-junk, Junk, piece, part, asPart, treeOf, ResourceWithin}
 use Rattle.standard.specs.Blank.{blank-inline?-is}
 use Rattle.standard.specs.Same.{Same, Agree, fits-pure}
 use Rattle.standard.specs.Words.{no-name}
-use Rattle.standard.specs.Turns.{AtEnd, many-again, many-none, some-many, Fitting, many-fit}
+use Rattle.standard.specs.Turns.{AtEnd, many-again, many-none, many-still, some-many, Fitting, many-fit}
 use Rattle.standard.specs.Texts.{Sign, end, lf, cr-lf, opens, closes, plain, sign-of, plain-eol}
 use Rattle.standard.specs.Blocks.{Block, stop, step}
 use Rattle.standard.specs.Messages.{itemOf, message-agrees, term-agrees}
@@ -101,6 +101,23 @@ blanks-fit n {s} {u = u} (step {u = v} e q b) = let (us, f) = gaps (step e q b) 
 pub blanks-fail : (n : ℕ) (s : List ℕ) → eol (drop (spaces s) s) ≡ 0 → blank-lines rust n s ≡ fails
 unfolding blank-lines pick rust Dialect.all newline gap-line
 blanks-fail n s q = then-fails (some gap-line) (pure Abstract.blank) s (some-fails gap-line s (gap-fails s q))
+
+-- what a choice or a sequence answers
+module _ {A : Type 0} (a : A) (ms : List Mark) (k : ℕ) where
+  either : (p q : Parser A) (s : List ℕ) → (p / q) s ≡ fits a ms k → (p s ≡ fits a ms k) ⊎ (q s ≡ fits a ms k)
+  either p q s e = go (p s) refl
+    where
+      go : (o : Answer A) → p s ≡ o → (p s ≡ fits a ms k) ⊎ (q s ≡ fits a ms k)
+      go (fits b ns j) f = inl (f ∙ sym (first p q s f) ∙ e)
+      go fails f = inr (sym (second p q s f) ∙ e)
+
+  last-value : {B : Type 0} (p : Parser B) (b : A) (s : List ℕ) → (p >> pure b) s ≡ fits a ms k → a ≡ b
+  unfolding pure Peg.after
+  last-value {B} p b s e = go (p s) refl
+    where
+      go : (o : Answer B) → p s ≡ o → a ≡ b
+      go (fits x ns j) f = let z = then-fits p (pure b) s f in cc
+      go fails f = let z = then-fails p (pure b) s f in let y : _≡_ {A = ℕ} 0 1 = cc in absurd (omega arith)
 
 unfoldable pub partsOf : Answer (List Part) → List Part
 partsOf (fits ps ms k) = ps
@@ -221,3 +238,57 @@ module _ (n : ℕ) (agree : Agree (level n) (nesting rust n)) where
       go : (o : Answer (List Part)) → Fitting o → treeOf o ≡ A3 (A2 (partsOf o))
       go (fits ps ms k) f = unfold treeOf partsOf in refl
       go fails f = absurd f
+
+  -- an item has no level, or is a comment line
+  item-level : (s : List ℕ) (i : Item) (ms : List Mark) (k : ℕ) → item s ≡ fits i ms k → (Abstract.levelOf i ≡ 0) ⊎ (CommentLine rust s ≡ fits i ms k)
+  unfolding Entry message-branch term-branch blank-lines Junk pick given rust Dialect.all Abstract.levelOf junk-lines
+  item-level s i ms k e = entry (either i ms k (Entry rust n) (blank-lines rust n / Junk rust n) s e)
+    where
+      G : Type 0
+      G = (Abstract.levelOf i ≡ 0) ⊎ (CommentLine rust s ≡ fits i ms k)
+
+      swallowed : (o : Out Core.Entry) → getEntry (level n) s ≡ o → swallowing-junk rust n s ≡ fits i ms k → G
+      swallowed (ok x ns j) h f = let w : swallowing-junk rust n s ≡ fails = unfold swallowing-junk in (rw (h, swallowing-junk) refl) in let z : _≡_ {A = ℕ} 0 1 = cc in absurd (omega arith)
+      swallowed (bad x j) h f = let w : swallowing-junk rust n s ≡ fits Abstract.junk (textNode 7 0 (junkEnd j s)) (junkEnd j s) = unfold swallowing-junk in (rw (h, swallowing-junk) refl) in let z : i ≡ Abstract.junk = cc in inl (ap Abstract.levelOf z)
+      swallowed (deep j) h f = let w : swallowing-junk rust n s ≡ fails = unfold swallowing-junk in (rw (h, swallowing-junk) refl) in let z : _≡_ {A = ℕ} 0 1 = cc in absurd (omega arith)
+
+      junk : (swallowing-junk rust n s ≡ fits i ms k) ⊎ (junk-lines s ≡ fits i ms k) → G
+      junk (inl h) = swallowed (getEntry (level n) s) refl h
+      junk (inr h) = inl (ap Abstract.levelOf (last-value i ms k _ Abstract.junk s h))
+
+      rest : (blank-lines rust n s ≡ fits i ms k) ⊎ (Junk rust n s ≡ fits i ms k) → G
+      rest (inl h) = inl (ap Abstract.levelOf (last-value i ms k _ Abstract.blank s h))
+      rest (inr h) = junk (either i ms k (swallowing-junk rust n) junk-lines s h)
+
+      named : (term-branch s ≡ fits i ms k) ⊎ (CommentLine rust s ≡ fits i ms k) → G
+      named (inl h) = inl (ap Abstract.levelOf (last-value i ms k _ Abstract.term s h))
+      named (inr h) = inr h
+
+      entered : (message-branch s ≡ fits i ms k) ⊎ ((term-branch / CommentLine rust) s ≡ fits i ms k) → G
+      entered (inl h) = inl (ap Abstract.levelOf (last-value i ms k _ Abstract.message s h))
+      entered (inr h) = named (either i ms k term-branch (CommentLine rust) s h)
+
+      entry : (Entry rust n s ≡ fits i ms k) ⊎ ((blank-lines rust n / Junk rust n) s ≡ fits i ms k) → G
+      entry (inl h) = entered (either i ms k message-branch (term-branch / CommentLine rust) s h)
+      entry (inr h) = rest (either i ms k (blank-lines rust n) (Junk rust n) s h)
+
+  -- the first part
+  pub data Head (s : List ℕ) : Type 0 where
+    no-part : parts s ≡ [] → Head s
+    a-part : (p : Part) (qs : List Part) → parts s ≡ p ∷ qs → (Abstract.levelOf (p .item) ≡ 0) ⊎ ((l : ℕ) × (ms : List Mark) × (k : ℕ) × (CommentLine rust s ≡ fits (Abstract.comment l) ms k) × (Abstract.levelOf (p .item) ≡ l)) → Head s
+
+  pub head-of : (s : List ℕ) → Head s
+  unfolding parts partsOf piece part asPart Abstract.levelOf
+  head-of s = go (item s) refl
+    where
+      none : many (piece rust n) s ≡ fits [] [] 0 → Head s
+      none e = no-part (ap partsOf e)
+
+      level-of : (i : Item) (ms : List Mark) (k : ℕ) → (Abstract.levelOf i ≡ 0) ⊎ (CommentLine rust s ≡ fits i ms k) → (Abstract.levelOf i ≡ 0) ⊎ ((l : ℕ) × (ms : List Mark) × (k : ℕ) × (CommentLine rust s ≡ fits (Abstract.comment l) ms k) × (Abstract.levelOf i ≡ l))
+      level-of i ms k (inl h) = inl h
+      level-of i ms k (inr h) = let (l, e, z) = line-comment s i ms k h in inr (l, ms, k, rw e at h, ap Abstract.levelOf e)
+
+      go : (o : Answer Item) → item s ≡ o → Head s
+      go (fits i ms zero) e = none (many-still (piece rust n) piece-end s _ [] (piece-is s e))
+      go (fits i ms (suc k)) e = a-part (record { item = i; inside = ms; size = suc k }) (parts (drop (suc k) s)) (parts-again s (record { item = i; inside = ms; size = suc k }) (suc k) (piece-is s e) (omega arith)) (level-of i ms (suc k) (item-level s i ms (suc k) e))
+      go fails e = none (many-none (piece rust n) piece-end s (ap asPart e))
