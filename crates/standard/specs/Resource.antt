@@ -1,4 +1,4 @@
--- The theorem: the tree of the standard with all departures is the tree of the reading.
+-- Resources: the parts of a source against the entries of the reading, given that placeables agree.
 use Prim.Native.Nat.{ℕ, zero, suc, _+_, _-_, _≤_, _<_}
 use native.Mathlib.Nat.{not-suc-le-zero, add-assoc, zero-add, add-zero}
 use native.Mathlib.Omega.{arith}
@@ -9,7 +9,7 @@ use mathlib.Core.List.{List, [], _∷_, _++_, append-nil}
 use lib.ListN.{drop, length, length-drop}
 use lib.Seq.{drop-drop}
 use lib.Dec.{eqb, ltb, eqb·suc-zero}
-use borrow.Author.Tests.{eqb-true, eqb-false, ne-eqb, eq-eqb}
+use borrow.Author.Tests.{eqb-true, eqb-false, ne-eqb, eq-eqb, le-ltb}
 use Rattle.syntax.specs.Bytes.{startsWith, starts, spaces, eol, run, isLetter}
 use Rattle.syntax.specs.Marks.{Mark, moveUp, node, textNode}
 use Rattle.syntax.specs.declared.errors.ParserError.{ParserError}
@@ -20,10 +20,10 @@ use Rattle.syntax.specs.Comment.{levelOf, lineEndUsed, lineTurn, commentTurn, g
 use Rattle.syntax.specs.Pattern.{usedBy}
 use Rattle.syntax.specs.Expression.{level}
 use Rattle.syntax.specs.Core as Core
-use Rattle.syntax.specs.Core.{asComment, getEntry, junkEnd, Error, Reading, read, refused, following, isNamed, count, kindOfEntry, entries, parse}
+use Rattle.syntax.specs.Core.{asComment, asMessage, asTerm, fields, termFields, getEntry, junkEnd, Error, Reading, read, refused, following, isNamed, count, kindOfEntry, entries, parse}
 use Rattle.laws.specs.Bytes.{byCase, clash}
 use Rattle.laws.specs.Moving.{moveUp-twice, moveUp-zero, moveUp-append}
-use Rattle.laws.specs.Entries.{following-read, entries-with, not-deep, nil-named, hash-named, entry-comment}
+use Rattle.laws.specs.Entries.{following-read, entries-with, not-deep, nil-entry, nil-named, entry-comment}
 use Rattle.laws.specs.Progress.{ok-moves, bad-moves}
 use Rattle.standard.specs.Dialect.{rust}
 use Rattle.standard.specs.Peg.{Answer, fits, fails}
@@ -236,3 +236,158 @@ module _ (n : ℕ) (agree : Agree (level n) (nesting rust n)) where
           by : (t : List ℕ) → drop (eol (drop k s)) (drop k s) ≡ t → Went c s (repeat commentTurn c s)
           by [] d = cont (used-all (drop k s) d) (inl (sym D ∙ d))
           by (b ∷ bs) d = byCase (eqb b 35) (λ q. cont (used-hash (drop k s) b bs d q) (inr (rw (sym D ∙ d) (unfold startsWith in q)))) (λ q. stop-at b bs d q (eol (drop k s)) refl)
+
+  -- Entries -----------------------------------------------------------------------------------------------------------------------------------
+
+  -- blank lines make no marks
+  blank-skip : {s : List ℕ} {ls : List Line} {u : ℕ} → Block s ls u → A3 (A2 (ps s)) ≡ moveUp u (A3 (A2 (ps (drop u s))))
+  unfolding A3 partMarks Abstract.levelOf
+  blank-skip {s} (stop q) = sym (moveUp-zero (A3 (A2 (ps s))))
+  blank-skip {s} (step {ls = ls} {u = u} e q b) =
+      let p : Part = record { item = Abstract.blank; inside = []; size = spaces s + suc e + u } in
+      let w : ps s ≡ p ∷ ps (drop (spaces s + suc e + u) s) = parts-again n agree s p (spaces s + suc e + u) (piece-blank n agree (step e q b)) (omega arith) in
+      ap (λ y. A3 (A2 y)) w ∙ ap A3 (alone p (ps (drop (spaces s + suc e + u) s)) refl)
+
+  not-comment : (s : List ℕ) → startsWith 35 s ≡ false → (l : ℕ) (ms : List Mark) (k : ℕ) → getEntry (level n) s ≡ ok (Core.Entry.comment l) ms k → ⊥
+  unfolding getEntry asMessage asTerm
+  not-comment s e l ms k h = byCase (startsWith 45 s) (λ d. term (termFields (level n) s) (rw (e, getEntry, d) at h)) (λ d. message (fields (level n) s) (rw (e, getEntry, d) at h))
+    where
+      term : (o : Out Core.Fields) → asTerm o ≡ ok (Core.Entry.comment l) ms k → ⊥
+      term (ok f ns j) h = byCase (f .value) (λ v. let a : _≡_ {A = Out Core.Entry} (ok Core.Entry.term ns j) (ok (Core.Entry.comment l) ms k) = rw (asTerm, v) at h in let z : _≡_ {A = ℕ} 0 1 = cc in omega arith) (λ v. let a = rw (asTerm, v) at h in let z : _≡_ {A = ℕ} 0 1 = cc in omega arith)
+      term (bad f j) h = let z : _≡_ {A = ℕ} 0 1 = cc in omega arith
+      term (deep j) h = let z : _≡_ {A = ℕ} 0 1 = cc in omega arith
+
+      message : (o : Out Core.Fields) → asMessage o ≡ ok (Core.Entry.comment l) ms k → ⊥
+      message (ok f ns j) h = byCase (f .value || not (eqb (f .attributes) 0)) (λ v. let a : _≡_ {A = Out Core.Entry} (ok Core.Entry.message ns j) (ok (Core.Entry.comment l) ms k) = rw (asMessage, v) at h in let z : _≡_ {A = ℕ} 0 1 = cc in omega arith) (λ v. let a = rw (asMessage, v) at h in let z : _≡_ {A = ℕ} 0 1 = cc in omega arith)
+      message (bad f j) h = let z : _≡_ {A = ℕ} 0 1 = cc in omega arith
+      message (deep j) h = let z : _≡_ {A = ℕ} 0 1 = cc in omega arith
+
+  -- the first entry, and the parts that it is
+  data First (s : List ℕ) : Type 0 where
+    junked : (f : ParserError) (k : ℕ) → getEntry (level n) s ≡ bad f k → A2 (ps s) ≡ record { item = Abstract.junk; inside = textNode 7 0 (junkEnd k s); size = junkEnd k s } ∷ A2 (ps (drop (junkEnd k s) s)) → First s
+    named : (e : Core.Entry) (ms : List Mark) (k : ℕ) → getEntry (level n) s ≡ ok e ms k → Abstract.isNamed (itemOf e) ≡ true → A2 (ps s) ≡ record { item = itemOf e; inside = ms; size = k } ∷ A2 (ps (drop k s)) → First s
+    commented : (l : ℕ) (ms : List Mark) (k K : ℕ) → getEntry (level n) s ≡ ok (Core.Entry.comment (suc l)) ms k → A2 (ps s) ≡ comment-part (suc l) ms K ∷ A2 (ps (drop K s)) → Cut s k K → First s
+
+  first-of : (b : ℕ) (bs : List ℕ) → eol (drop (spaces (b ∷ bs)) (b ∷ bs)) ≡ 0 → ((k : ℕ) → getEntry (level n) (b ∷ bs) ≡ deep k → ⊥) → First (b ∷ bs)
+  unfolding startsWith Abstract.levelOf Abstract.isNamed asComment getComment
+  first-of b bs q nd = byCase (eqb b 35) (λ h. hashed h (comment-went (suc (length (b ∷ bs))) 0 (b ∷ bs) (omega arith) (λ z. h))) (λ h. other h (getEntry (level n) (b ∷ bs)) refl (entry-agrees n agree (b ∷ bs) h))
+    where
+      a-junk : (f : ParserError) (k : ℕ) → getEntry (level n) (b ∷ bs) ≡ bad f k → Entry rust n (b ∷ bs) ≡ fails → First (b ∷ bs)
+      a-junk f k e x = junked f k e (ap A2 (parts-again n agree (b ∷ bs) _ (junkEnd k (b ∷ bs)) (piece-junk n agree (b ∷ bs) f k x q e) (bad-moves (level n) b bs f k e)) ∙ alone _ (ps (drop (junkEnd k (b ∷ bs)) (b ∷ bs))) refl)
+
+      hashed : eqb b 35 ≡ true → Went 0 (b ∷ bs) (repeat commentTurn 0 (b ∷ bs)) → First (b ∷ bs)
+      hashed h (stopped e x) = absurd (not-suc-le-zero (ok-moves (level n) b bs (Core.Entry.comment 0) [] 0 (entry-comment (level n) b bs h ∙ ap asComment e)))
+      hashed h (went l ms k K e z w a cut) = commented l ms k K (entry-comment (level n) b bs h ∙ ap asComment e) a cut
+      hashed h (failed f k z e x) = a-junk f k (entry-comment (level n) b bs h ∙ ap asComment e) (entry-hash n agree (b ∷ bs) h ∙ x)
+
+      other : eqb b 35 ≡ false → (o : Out Core.Entry) → getEntry (level n) (b ∷ bs) ≡ o → Same itemOf (getEntry (level n) (b ∷ bs)) (Entry rust n (b ∷ bs)) → First (b ∷ bs)
+      other h (ok (Core.Entry.comment l) ms k) e a = absurd (not-comment (b ∷ bs) h l ms k e)
+      other h (ok Core.Entry.message ms k) e a = named Core.Entry.message ms k e refl (ap A2 (parts-again n agree (b ∷ bs) _ k (piece-entry n agree (b ∷ bs) (rw e at a)) (ok-moves (level n) b bs Core.Entry.message ms k e)) ∙ alone _ (ps (drop k (b ∷ bs))) refl)
+      other h (ok Core.Entry.term ms k) e a = named Core.Entry.term ms k e refl (ap A2 (parts-again n agree (b ∷ bs) _ k (piece-entry n agree (b ∷ bs) (rw e at a)) (ok-moves (level n) b bs Core.Entry.term ms k e)) ∙ alone _ (ps (drop k (b ∷ bs))) refl)
+      other h (bad f k) e a = a-junk f k e (rw e at a)
+      other h (deep k) e a = absurd (nd k e)
+
+  -- whether a message or term comes first
+  named-first : (s : List ℕ) → eol (drop (spaces s) s) ≡ 0 → ((k : ℕ) → getEntry (level n) s ≡ deep k → ⊥) → namedFirst (A2 (ps s)) ≡ isNamed (getEntry (level n) s)
+  unfolding namedFirst isNamed Abstract.isNamed A2
+  named-first [] q nd = rw (parts-nil n agree) (sym (nil-named (level n)))
+  named-first (b ∷ bs) q nd = go (first-of b bs q nd)
+    where
+      go : First (b ∷ bs) → namedFirst (A2 (ps (b ∷ bs))) ≡ isNamed (getEntry (level n) (b ∷ bs))
+      go (junked f k e a) = rw (a, e) refl
+      go (named Core.Entry.message ms k e z a) = rw (a, e) refl
+      go (named Core.Entry.term ms k e z a) = rw (a, e) refl
+      go (named (Core.Entry.comment l) ms k e z a) = clash {v = false} z refl
+      go (commented l ms k K e a cut) = rw (a, e) refl
+
+  following-inv : (ms : List Mark) (es : List Error) (k : ℕ) (r : Reading) (ns : List Mark) (fs : List Error) → following ms es k r ≡ read ns fs → (ns′ : List Mark) × (es′ : List Error) × (r ≡ read ns′ es′) × (ms ++ moveUp k ns′ ≡ ns)
+  unfolding following
+  following-inv ms es k (read ns′ es′) ns fs e = (ns′, es′, refl, cc)
+  following-inv ms es k (refused j) ns fs e = let z : _≡_ {A = ℕ} 0 1 = cc in absurd (omega arith)
+
+  -- reading on is not refused, so nothing is too deep
+  read-on : (m : ℕ) (s : List ℕ) (ms : List Mark) (es : List Error) → entries m (level n) s ≡ read ms es → (k : ℕ) → getEntry (level n) s ≡ deep k → ⊥
+  unfolding entries
+  read-on zero s ms es e k d = let z : _≡_ {A = ℕ} 0 1 = cc in omega arith
+  read-on (suc m) [] ms es e k d = let (f, j, h) = nil-entry (level n) in let z : _≡_ {A = ℕ} 0 1 = cc in omega arith
+  read-on (suc m) (b ∷ bs) ms es e k d = not-deep (level n) m b bs ms es k e d
+
+  -- behind an entry of k bytes there are blank lines, then the others
+  moved : (s : List ℕ) (k u : ℕ) {ls : List Line} → Block (drop k s) ls u → (ns : List Mark) → A3 (A2 (ps (drop (k + u) s))) ≡ ns → moveUp k (A3 (A2 (ps (drop k s)))) ≡ moveUp (k + u) ns
+  moved s k u b ns e = ap (moveUp k) (blank-skip b ∙ ap (λ r. moveUp u (A3 (A2 (ps r)))) (drop-drop u k s) ∙ ap (moveUp u) e) ∙ moveUp-twice k u ns
+
+  entries-junk : (m b : ℕ) (bs : List ℕ) (f : ParserError) (k c u : ℕ) (gs : List Mark) → getEntry (level n) (b ∷ bs) ≡ bad f k → skipBlankBlock (drop (junkEnd k (b ∷ bs)) (b ∷ bs)) ≡ ok c gs u
+      → entries (suc m) (level n) (b ∷ bs) ≡ following (textNode 7 0 (junkEnd k (b ∷ bs))) (record { fault = f; junkFrom = 0; junkTill = junkEnd k (b ∷ bs) } ∷ []) (junkEnd k (b ∷ bs) + u) (entries m (level n) (drop (junkEnd k (b ∷ bs) + u) (b ∷ bs)))
+  unfolding entries usedBy
+  entries-junk m b bs f k c u gs h g = rw (h, entries) (ap (λ o. following (textNode 7 0 (junkEnd k (b ∷ bs))) (record { fault = f; junkFrom = 0; junkTill = junkEnd k (b ∷ bs) } ∷ []) (junkEnd k (b ∷ bs) + usedBy o) (entries m (level n) (drop (junkEnd k (b ∷ bs) + usedBy o) (b ∷ bs)))) g)
+
+  -- the marks of a comment, by whether it is near
+  comment-marks : (l : ℕ) (near near′ : Bool) (ns : List Mark) → near′ ≡ near → partMarks (Abstract.comment l) near′ ns ≡ node (kindOfEntry (Core.Entry.comment l) near) ns
+  unfolding partMarks kindOfEntry
+  comment-marks l near near′ ns e = rw e refl
+
+  -- a comment is near what stands on the next line
+  near-line : {t : List ℕ} {ls : List Line} {u : ℕ} → Block t ls u → (r : List ℕ) → drop u t ≡ r → ((k : ℕ) → getEntry (level n) r ≡ deep k → ⊥) → namedFirst (A2 (ps t)) ≡ (ltb (suc (length ls)) 2 && isNamed (getEntry (level n) r))
+  unfolding namedFirst Abstract.isNamed Abstract.levelOf
+  near-line {t} (stop q) r d nd = named-first t q (rw (sym d) at nd) ∙ ap (λ y. isNamed (getEntry (level n) y)) d
+  near-line {t} (step {ls = ls} {u = u} e q b) r d nd =
+      let p : Part = record { item = Abstract.blank; inside = []; size = spaces t + suc e + u } in
+      let w : ps t ≡ p ∷ ps (drop (spaces t + suc e + u) t) = parts-again n agree t p (spaces t + suc e + u) (piece-blank n agree (step e q b)) (omega arith) in
+      ap (λ y. namedFirst (A2 y)) w ∙ ap namedFirst (alone p (ps (drop (spaces t + suc e + u) t)) refl) ∙ rw (le-ltb (suc (suc (length ls))) 2 (omega arith)) refl
+
+  place-stops : (r : List ℕ) → (r ≡ []) ⊎ (startsWith 35 r ≡ true) → eol (drop (spaces r) r) ≡ 0
+  unfolding spaces run eol startsWith
+  place-stops [] h = refl
+  place-stops (x ∷ xs) (inl e) = let z : _≡_ {A = ℕ} 0 1 = cc in absurd (omega arith)
+  place-stops (x ∷ xs) (inr e) = rw (eqb-true x 35 e) refl
+
+  claim : (m : ℕ) (s : List ℕ) (ms : List Mark) (es : List Error) → entries m (level n) s ≡ read ms es → eol (drop (spaces s) s) ≡ 0 → A3 (A2 (ps s)) ≡ ms
+  unfolding entries A3 A2 partMarks kindOfEntry usedBy
+  claim zero s ms es e q = let z : _≡_ {A = ℕ} 0 1 = cc in absurd (omega arith)
+  claim (suc m) [] ms es e q = rw (parts-nil n agree) cc
+  claim (suc m) (b ∷ bs) ms es e q = go (first-of b bs q (read-on (suc m) (b ∷ bs) ms es e)) (λ t ns fs f h. claim m t ns fs f h)
+    where
+      Others : Type 0
+      Others = (t : List ℕ) (ns : List Mark) (fs : List Error) → entries m (level n) t ≡ read ns fs → eol (drop (spaces t) t) ≡ 0 → A3 (A2 (ps t)) ≡ ns
+
+      stops : (k u : ℕ) {ls : List Line} → Block (drop k (b ∷ bs)) ls u → eol (drop (spaces (drop (k + u) (b ∷ bs))) (drop (k + u) (b ∷ bs))) ≡ 0
+      stops k u d = subst (λ r. eol (drop (spaces r) r) ≡ 0) (drop-drop u k (b ∷ bs)) (block-stops d)
+
+      -- an entry that no comment of its own level follows
+      entered : (en : Core.Entry) (ns : List Mark) (k K : ℕ) (i : Item) → getEntry (level n) (b ∷ bs) ≡ ok en ns k → A2 (ps (b ∷ bs)) ≡ record { item = i; inside = ns; size = K } ∷ A2 (ps (drop K (b ∷ bs))) → (u : ℕ) {ls vs : List Line} → Block (drop k (b ∷ bs)) ls u → (v : ℕ) → Block (drop K (b ∷ bs)) vs v → K + v ≡ k + u → Others
+          → ((ns′ : List Mark) (fs : List Error) → entries m (level n) (drop (k + u) (b ∷ bs)) ≡ read ns′ fs → partMarks i (namedFirst (A2 (ps (drop K (b ∷ bs))))) ns ≡ node (kindOfEntry en (ltb (length ls) 2 && isNamed (getEntry (level n) (drop (k + u) (b ∷ bs))))) ns)
+          → A3 (A2 (ps (b ∷ bs))) ≡ ms
+      entered en ns k K i h a u {ls} d v c z ih near =
+          let (ns′, fs, r, w) = following-inv _ [] (k + u) (entries m (level n) (drop (k + u) (b ∷ bs))) ms es (sym (entries-with (level n) m b bs en ns k (length ls) u [] (drop (k + u) (b ∷ bs)) h (skip-block d) refl) ∙ e) in
+          let x : A3 (A2 (ps (drop (K + v) (b ∷ bs)))) ≡ ns′ = rw z (ih (drop (k + u) (b ∷ bs)) ns′ fs r (stops k u d)) in
+          ap A3 a ∙ ap₂ (λ y t. y ++ t) (near ns′ fs r) (moved (b ∷ bs) K v c ns′ x ∙ ap (λ y. moveUp y ns′) z) ∙ w
+
+      go : First (b ∷ bs) → Others → A3 (A2 (ps (b ∷ bs))) ≡ ms
+      go (junked f k h a) ih =
+          let j = junkEnd k (b ∷ bs) in
+          let (ls, u, d) = block-of (drop j (b ∷ bs)) in
+          let (ns′, fs, r, w) = following-inv _ _ (j + u) (entries m (level n) (drop (j + u) (b ∷ bs))) ms es (sym (entries-junk m b bs f k (length ls) u [] h (skip-block d)) ∙ e) in
+          ap A3 a ∙ ap (λ t. textNode 7 0 j ++ t) (moved (b ∷ bs) j u d ns′ (ih (drop (j + u) (b ∷ bs)) ns′ fs r (stops j u d))) ∙ w
+      go (named Core.Entry.message ns k h z a) ih = let (ls, u, d) = block-of (drop k (b ∷ bs)) in entered Core.Entry.message ns k k Abstract.message h a u d u d refl ih (λ ns′ fs r. refl)
+      go (named Core.Entry.term ns k h z a) ih = let (ls, u, d) = block-of (drop k (b ∷ bs)) in entered Core.Entry.term ns k k Abstract.term h a u d u d refl ih (λ ns′ fs r. refl)
+      go (named (Core.Entry.comment l) ns k h z a) ih = unfold Abstract.isNamed in (clash {v = false} z refl)
+      go (commented l ns k K h a (inl (y, place))) ih =
+          let w : eol (drop (spaces (drop K (b ∷ bs))) (drop K (b ∷ bs))) ≡ 0 = rw y (place-stops (drop k (b ∷ bs)) place) in
+          entered (Core.Entry.comment (suc l)) ns k K (Abstract.comment (suc l)) h a 0 (stop (place-stops (drop k (b ∷ bs)) place)) 0 (stop w) (ap (λ i. i + 0) y) ih
+          (λ ns′ fs r. let i : K ≡ k + 0 = y ∙ sym (add-zero k) in comment-marks (suc l) _ _ ns (named-first (drop K (b ∷ bs)) w (rw i (read-on m (drop (k + 0) (b ∷ bs)) ns′ fs r)) ∙ ap (λ j. isNamed (getEntry (level n) (drop j (b ∷ bs)))) i))
+      go (commented l ns k K h a (inr (y, x))) ih =
+          let t = x .0 in
+          let (ls, u, bt) = block-of t in
+          let T : drop K (b ∷ bs) ≡ x .0 = ap (λ i. drop i (b ∷ bs)) y ∙ sym (drop-drop 1 k (b ∷ bs)) ∙ ap (drop 1) (x .1) in
+          let c : Block (drop K (b ∷ bs)) ls u = subst (λ r. Block r ls u) (sym T) bt in
+          let z : K + u ≡ k + (1 + u) = omega arith in
+          entered (Core.Entry.comment (suc l)) ns k K (Abstract.comment (suc l)) h a (1 + u) (subst (λ r. Block r (record { spaces = 0; ending = 1 } ∷ ls) (1 + u)) (sym (x .1)) (lf-block t bt)) u c z ih
+          (λ ns′ fs r. comment-marks (suc l) _ _ ns (near-line c (drop (k + (1 + u)) (b ∷ bs)) (drop-drop u K (b ∷ bs) ∙ ap (λ i. drop i (b ∷ bs)) z) (read-on m (drop (k + (1 + u)) (b ∷ bs)) ns′ fs r)))
+
+  -- for every source that is read, the tree of the standard with all departures is the tree of the reading
+  pub tree-is-standard : (s : List ℕ) (ms : List Mark) (es : List Error) → parse n s ≡ read ms es → ResourceWithin rust n s ≡ ms
+  unfolding parse usedBy
+  tree-is-standard s ms es e =
+      let (ls, u, b) = block-of s in
+      let (ns, fs, r, z) = following-inv [] [] u (entries (suc (length s)) (level n) (drop u s)) ms es (rw (skip-block b) at e) in
+      tree-parts n agree s ∙ blank-skip b ∙ ap (moveUp u) (claim (suc (length s)) (drop u s) ns fs r (block-stops b)) ∙ z
