@@ -18,7 +18,6 @@ use Rattle.syntax.specs.Pattern as Pattern
 use Rattle.syntax.specs.Expression as Reading
 use Rattle.syntax.specs.Expression.{Inline, string, number, variable, function, inner, message, term, getInlineExpression, sameBytes, isAmong, isNone, namedValue, namedArgument, afterReference, pastBlank, argumentBy, argumentTurn, parenthesised}
 use Rattle.laws.specs.Bytes.{byCase, clash}
-use Rattle.laws.specs.Moving.{moveUp-nil}
 use Rattle.laws.specs.Stable.{Holds}
 use Rattle.standard.specs.Dialect.{rust, all}
 use Rattle.standard.specs.Peg as Peg
@@ -28,12 +27,12 @@ use Rattle.standard.specs.Abstract.{Arg, named, same, freshIn, A9}
 use Rattle.standard.specs.Lexical.{Identifier, blank?}
 use Rattle.standard.specs.Grammar as Grammar
 use Rattle.standard.specs.Grammar.{InlineExpression, literal, NamedArgument, Argument, argument-list, CallArguments}
-use Rattle.standard.specs.Steps.{byte-fits, byte-fails, then-fits, then-fails, bind-fits, bind-fails, opt-fits, opt-fails, first, second, node-fits, node-fails, after-fails, after-none, after-skip, only-passes, only-forbids, only-fails, next-after, Uses, uses-first, uses-choice, uses-node}
-use Rattle.standard.specs.Blank.{blanks, isBlankAt, over, over-over, drop-over, no-blanks, blank?-is, skipBlank-is, reader-skips, parser-skips}
+use Rattle.standard.specs.Steps.{moveUp-none, byte-fits, byte-fails, then-fits, then-fails, bind-fits, bind-fails, opt-fits, opt-fails, first, second, node-fits, node-fails, after-fails, after-none, after-skip, only-passes, only-forbids, only-fails, next-after, Uses, uses-first, uses-choice, uses-node}
+use Rattle.standard.specs.Blank.{behind, blanks, isBlankAt, over, over-over, drop-over, no-blanks, blank?-is, skipBlank-is, reader-skips, parser-skips}
 use Rattle.standard.specs.Same.{Same, nothing, Agree, same-after, same-wrap, wrap-after, then, same-blank, same-byte, reads-then, reads-after, reads-skip, fits-pure, expects}
 use Rattle.standard.specs.Near.{isOpening, Opens, Left, Near, over-after}
 use Rattle.standard.specs.Words.{nameOf, parses-name, no-name, uses-name, formOf}
-use Rattle.standard.specs.Inline.{behind, inline-near, literal-near, no-inline, uses-inline, colon-reference, Uncoloned, uncoloned}
+use Rattle.standard.specs.Inline.{inline-near, literal-near, no-inline, uses-inline, colon-reference, Uncoloned, uncoloned}
 
 -- A9 ------------------------------------------------------------------------------------------------------------------------------------------
 
@@ -103,26 +102,26 @@ commaUsed s = elim (startsWith 44 s) [ true ↦ 1 + blanks (drop 1 s) | false �
 unfoldable pub separated : List ℕ → ℕ → ℕ
 separated s k = over s k + commaUsed (drop (over s k) s)
 
-separator-read : (names : List (List ℕ)) (s : List ℕ) → Reading.separator names s ≡ ok names [] (blanks s + commaUsed (drop (blanks s) s))
+separator-read : (names : List (List ℕ)) (s : List ℕ) → Reading.separator names s ≡ ok names [] (blanks s + commaUsed (behind s))
 unfolding Reading.separator commaUsed takeByteIf Reader.pure Reader.after moveUp
-separator-read names s = reader-skips _ s ∙ ap (Reader.after [] (blanks s)) (go (drop (blanks s) s) (no-blanks s))
+separator-read names s = reader-skips _ s ∙ ap (Reader.after [] (blanks s)) (go (behind s) (no-blanks s))
   where
     end : Reader (List (List ℕ))
     end = Reader._>>_ skipBlank (Reader.pure names)
 
     go : (t : List ℕ) → blanks t ≡ 0 → (Reader._>>_ (takeByteIf 44) end) t ≡ ok names [] (commaUsed t)
     go t z = byCase (startsWith 44 t)
-      (λ e. let h : takeByteIf 44 t ≡ ok true [] 1 = rw (e, takeByteIf) refl in reads-then (takeByteIf 44) end t h ∙ ap (Reader.after [] 1) (reader-skips (Reader.pure names) (drop 1 t)) ∙ rw (e, commaUsed) (ap (ok names []) (omega arith)))
-      (λ e. let h : takeByteIf 44 t ≡ ok false [] 0 = rw (e, takeByteIf) refl in reads-then (takeByteIf 44) end t h ∙ ap (Reader.after [] 0) (reader-skips (Reader.pure names) t) ∙ rw (e, commaUsed, z) refl)
+        (λ e. let h : takeByteIf 44 t ≡ ok true [] 1 = rw (e, takeByteIf) refl in reads-then (takeByteIf 44) end t h ∙ ap (Reader.after [] 1) (reader-skips (Reader.pure names) (drop 1 t)) ∙ rw (e, commaUsed) (ap (ok names []) (omega arith)))
+        (λ e. let h : takeByteIf 44 t ≡ ok false [] 0 = rw (e, takeByteIf) refl in reads-then (takeByteIf 44) end t h ∙ ap (Reader.after [] 0) (reader-skips (Reader.pure names) t) ∙ rw (e, commaUsed, z) refl)
 
-separator-parsed : (sub : Grammar.Inside) (s : List ℕ) → Grammar.separator rust sub s ≡ fits tt [] (blanks s + commaUsed (drop (blanks s) s))
+separator-parsed : (sub : Grammar.Inside) (s : List ℕ) → Grammar.separator rust sub s ≡ fits tt [] (blanks s + commaUsed (behind s))
 unfolding Grammar.separator commaUsed pick rust all Peg.after moveUp
-separator-parsed sub s = parser-skips _ s ∙ ap (Peg.after [] (blanks s)) (go (drop (blanks s) s) (no-blanks s))
+separator-parsed sub s = parser-skips _ s ∙ ap (Peg.after [] (blanks s)) (go (behind s) (no-blanks s))
   where
     go : (t : List ℕ) → blanks t ≡ 0 → (opt tt (byte 44) >> blank?) t ≡ fits tt [] (commaUsed t)
     go t z = byCase (startsWith 44 t)
-      (λ e. then-fits (opt tt (byte 44)) blank? t (opt-fits tt (byte 44) t (byte-fits 44 t e)) ∙ ap (Peg.after [] 1) (blank?-is (drop 1 t)) ∙ rw (e, commaUsed) refl)
-      (λ e. then-fits (opt tt (byte 44)) blank? t (opt-fails tt (byte 44) t (byte-fails 44 t e)) ∙ ap (Peg.after [] 0) (blank?-is t) ∙ rw (e, commaUsed, z) refl)
+        (λ e. then-fits (opt tt (byte 44)) blank? t (opt-fits tt (byte 44) t (byte-fits 44 t e)) ∙ ap (Peg.after [] 1) (blank?-is (drop 1 t)) ∙ rw (e, commaUsed) refl)
+        (λ e. then-fits (opt tt (byte 44)) blank? t (opt-fails tt (byte 44) t (byte-fails 44 t e)) ∙ ap (Peg.after [] 0) (blank?-is t) ∙ rw (e, commaUsed, z) refl)
 
 -- no blank is left behind it
 comma-blanks : (t : List ℕ) → blanks t ≡ 0 → blanks (drop (commaUsed t) t) ≡ 0
@@ -137,7 +136,7 @@ unfolding separated
 separated-blanks s k = rw (← drop-drop (commaUsed (drop (over s k) s)) (over s k) s) (comma-blanks (drop (over s k) s) (over-blank s k))
 
 -- the separator k bytes on
-separator-from : (s : List ℕ) (k : ℕ) → k + (blanks (drop k s) + commaUsed (drop (blanks (drop k s)) (drop k s))) ≡ separated s k
+separator-from : (s : List ℕ) (k : ℕ) → k + (blanks (drop k s) + commaUsed (behind (drop k s))) ≡ separated s k
 unfolding separated over
 separator-from s k = ap (λ r. k + (blanks (drop k s) + commaUsed r)) (drop-over s k) ∙ sym (add-assoc k (blanks (drop k s)) (commaUsed (drop (over s k) s)))
 
@@ -153,7 +152,7 @@ module _ {sub₁ : Pattern.Inside} {sub₂ : Grammar.Inside} (agree : Agree sub�
   list-on : (n : ℕ) (s : List ℕ) {a : Arg} {ms : List Mark} {k : ℕ} → argument s ≡ fits a ms k → listed (suc n) s ≡ withFirst a (Peg.after ms (separated s k) (listed n (drop (separated s k) s)))
   unfolding listTurns
   list-on n s {a} {ms} {k} e =
-      let i = blanks (drop k s) + commaUsed (drop (blanks (drop k s)) (drop k s)) in
+      let i = blanks (drop k s) + commaUsed (behind (drop k s)) in
       rw (e, listTurns, separator-parsed sub₂ (drop k s)) (ap (withFirst a) (after-skip ms k i (listed n (drop i (drop k s)))
       ∙ ap (λ r. Peg.after ms (k + i) (listed n r)) (drop-drop i k s) ∙ ap (λ j. Peg.after ms j (listed n (drop j s))) (separator-from s k)))
 
@@ -237,11 +236,11 @@ module _ {sub₁ : Pattern.Inside} {sub₂ : Grammar.Inside} (agree : Agree sub�
   stuck-at : (b : ℕ) (bs : List ℕ) → (isOpening b || eqb b 58) ≡ true → Stuck (b ∷ bs)
   unfolding isOpening blanks isBlankAt eol startsWith starts isLetter isDigit
   stuck-at b bs e = byCase (eqb b 40) (λ q. subst (λ x. Stuck (x ∷ bs)) (sym (eqb-true b 40 q))
-          (record { unblank = refl; uncommaed = refl; unclosed = refl; unargued = no-argument (40 ∷ bs) (no-named (40 ∷ bs) refl) (no-inline agree (40 ∷ bs) refl refl refl refl refl refl) }))
+      (record { unblank = refl; uncommaed = refl; unclosed = refl; unargued = no-argument (40 ∷ bs) (no-named (40 ∷ bs) refl) (no-inline agree (40 ∷ bs) refl refl refl refl refl refl) }))
       (λ q. byCase (eqb b 46) (λ r. subst (λ x. Stuck (x ∷ bs)) (sym (eqb-true b 46 r))
-          (record { unblank = refl; uncommaed = refl; unclosed = refl; unargued = no-argument (46 ∷ bs) (no-named (46 ∷ bs) refl) (no-inline agree (46 ∷ bs) refl refl refl refl refl refl) }))
+      (record { unblank = refl; uncommaed = refl; unclosed = refl; unargued = no-argument (46 ∷ bs) (no-named (46 ∷ bs) refl) (no-inline agree (46 ∷ bs) refl refl refl refl refl refl) }))
       (λ r. byCase (eqb b 58) (λ t. subst (λ x. Stuck (x ∷ bs)) (sym (eqb-true b 58 t))
-          (record { unblank = refl; uncommaed = refl; unclosed = refl; unargued = no-argument (58 ∷ bs) (no-named (58 ∷ bs) refl) (no-inline agree (58 ∷ bs) refl refl refl refl refl refl) }))
+      (record { unblank = refl; uncommaed = refl; unclosed = refl; unargued = no-argument (58 ∷ bs) (no-named (58 ∷ bs) refl) (no-inline agree (58 ∷ bs) refl refl refl refl refl refl) }))
       (λ t. clash e (rw q (rw r (rw t refl))))))
 
   opens-stuck : (t : List ℕ) → Opens t → Stuck t
@@ -275,7 +274,7 @@ module _ {sub₁ : Pattern.Inside} {sub₂ : Grammar.Inside} (agree : Agree sub�
       → Step names s (Reader.after ms k (Reading.separator names′ (drop k s)))
   unfolding Reader.after
   step-ok names names′ s a ms k j e h f = rw (separator-read names′ (drop k s))
-      (a, j, e ∙ ap (λ l. fits a l j) (sym (ap (λ r. ms ++ r) (moveUp-nil k) ∙ append-nil ms)), separated-same s j k h ∙ sym (separator-from s k), f)
+      (a, j, e ∙ ap (λ l. fits a l j) (sym (ap (λ r. ms ++ r) (moveUp-none k) ∙ append-nil ms)), separated-same s j k h ∙ sym (separator-from s k), f)
 
   -- a positional argument
   positional-step : (names : List (List ℕ)) (s : List ℕ) (ms : List Mark) (k j : ℕ) → argument s ≡ fits Arg.positional ms j → over s j ≡ over s k → Step names s (Reading.positional names ms k s)
@@ -296,15 +295,15 @@ module _ {sub₁ : Pattern.Inside} {sub₂ : Grammar.Inside} (agree : Agree sub�
   inline-step : (names : List (List ℕ)) (s : List ℕ) → blanks s ≡ 0 → startsWith 41 s ≡ false → NamedArgument rust sub₂ s ≡ fails → (o : Out Inline) → Near formOf s o (InlineExpression rust sub₂ s)
       → Holds (λ x ms k. Uncoloned agree s x k) o → Step names s (argumentBy sub₁ names s o)
   unfolding argumentBy afterReference
-  inline-step names s z c e (ok (message n false) ms k) (j , h , l) u = subst (λ p. Step names s (afterReference sub₁ names n ms p s)) (sym (past-is k s))
+  inline-step names s z c e (ok (message n false) ms k) (j, h, l) u = subst (λ p. Step names s (afterReference sub₁ names n ms p s)) (sym (past-is k s))
       (rw (u, afterReference) (positional-step names s ms (over s k) j (positional-fits s e h) (l ∙ sym (over-over s k))))
-  inline-step names s z c e (ok (message n true) ms k) (j , h , l) u = positional-step names s ms k j (positional-fits s e h) l
-  inline-step names s z c e (ok string ms k) (j , h , l) u = positional-step names s ms k j (positional-fits s e h) l
-  inline-step names s z c e (ok number ms k) (j , h , l) u = positional-step names s ms k j (positional-fits s e h) l
-  inline-step names s z c e (ok variable ms k) (j , h , l) u = positional-step names s ms k j (positional-fits s e h) l
-  inline-step names s z c e (ok function ms k) (j , h , l) u = positional-step names s ms k j (positional-fits s e h) l
-  inline-step names s z c e (ok inner ms k) (j , h , l) u = positional-step names s ms k j (positional-fits s e h) l
-  inline-step names s z c e (ok (term a) ms k) (j , h , l) u = positional-step names s ms k j (positional-fits s e h) l
+  inline-step names s z c e (ok (message n true) ms k) (j, h, l) u = positional-step names s ms k j (positional-fits s e h) l
+  inline-step names s z c e (ok string ms k) (j, h, l) u = positional-step names s ms k j (positional-fits s e h) l
+  inline-step names s z c e (ok number ms k) (j, h, l) u = positional-step names s ms k j (positional-fits s e h) l
+  inline-step names s z c e (ok variable ms k) (j, h, l) u = positional-step names s ms k j (positional-fits s e h) l
+  inline-step names s z c e (ok function ms k) (j, h, l) u = positional-step names s ms k j (positional-fits s e h) l
+  inline-step names s z c e (ok inner ms k) (j, h, l) u = positional-step names s ms k j (positional-fits s e h) l
+  inline-step names s z c e (ok (term a) ms k) (j, h, l) u = positional-step names s ms k j (positional-fits s e h) l
   inline-step names s z c e (bad f k) h u = bad-step names s z c e (InlineExpression rust sub₂ s) refl h
   inline-step names s z c e (deep k) h u = tt
 
@@ -320,7 +319,7 @@ module _ {sub₁ : Pattern.Inside} {sub₂ : Grammar.Inside} (agree : Agree sub�
     abbrev value-at : ℕ
     value-at = colon-at + (1 + blanks (drop 1 (drop colon-at s)))
 
-    value-drop : drop (blanks (drop 1 (drop colon-at s))) (drop 1 (drop colon-at s)) ≡ drop value-at s
+    value-drop : behind (drop 1 (drop colon-at s)) ≡ drop value-at s
     value-drop = drop-drop (blanks (drop 1 (drop colon-at s))) 1 (drop colon-at s) ∙ drop-drop (1 + blanks (drop 1 (drop colon-at s))) colon-at s
 
     named-value : List ℕ → Parser Arg
@@ -394,7 +393,7 @@ module _ {sub₁ : Pattern.Inside} {sub₂ : Grammar.Inside} (agree : Agree sub�
       value-step : (names : List (List ℕ)) → isAmong name names ≡ false → (o : Out Inline) → Near formOf (drop value-at s) o (literal rust sub₂ (drop value-at s))
           → Step names s (Reader.next s (λ _. Reading.separator (name ∷ names)) (wrap 26 (Reader.after (textNode 9 0 (nameOf s)) value-at o)))
       unfolding Reader.next Reader.after wrap A9-after
-      value-step names q (ok x ms k) (j , e , h) =
+      value-step names q (ok x ms k) (j, e, h) =
           step-ok names (name ∷ names) s (named name) (node 26 (textNode 9 0 (nameOf s) ++ moveUp value-at ms)) (value-at + k) (value-at + j) (named-fits e) (value-over k j h) (λ args. rw q refl)
       value-step names q (bad f k) h = go (literal rust sub₂ (drop value-at s)) refl h
         where
@@ -459,7 +458,7 @@ module _ {sub₁ : Pattern.Inside} {sub₂ : Grammar.Inside} (agree : Agree sub�
       → ((names′ : List (List ℕ)) (r : List ℕ) → blanks r ≡ 0 → length r ≤ n → Same nothing (reads-closed m names′ r) (listed-closed n names′ r))
       → Same nothing (Reader.next s (λ _. expectByte 41) (turned m s (turnOf o))) (listed-closed (suc n) names s)
   unfolding turnOf
-  list-more m n names s (ok names′ ms p) (a , k , e , q , f) l i ih =
+  list-more m n names s (ok names′ ms p) (a, k, e, q, f) l i ih =
       let u : 0 < k = subst Uses e (uses-argument s) in
       let z : blanks (drop p s) ≡ 0 = subst (λ j. blanks (drop j s) ≡ 0) q (separated-blanks s k) in
       rw (reads-after s (λ _. expectByte 41) ms p (loop m (argumentTurn sub₁) names′ (drop p s)), closed-on n names names′ s e f, q)

@@ -15,9 +15,8 @@ use Rattle.syntax.specs.Reader as Reader
 use Rattle.syntax.specs.Reader.{ok, loop, repeat}
 use Rattle.syntax.specs.Helper.{blankTurn, skipBlank}
 use Rattle.laws.specs.Bytes.{byCase, clash}
-use Rattle.laws.specs.Moving.{moveUp-nil}
 use Rattle.standard.specs.Peg as Peg
-use Rattle.standard.specs.Steps.{some-run, first, second, turns-on, turns-end, turns-still, opt-fits, opt-fails, void-fits, void-fails, some-fits, some-fails, byte-fits, byte-fails, then-fits, then-fails, after-fails, bind-fits, bind-fails, turns-more}
+use Rattle.standard.specs.Steps.{moveUp-none, some-run, first, second, turns-on, turns-end, turns-still, opt-fits, opt-fails, void-fits, void-fails, some-fits, some-fails, byte-fits, byte-fails, then-fits, then-fails, after-fails, bind-fits, bind-fails, turns-more}
 use Rattle.standard.specs.Peg.{fits, fails, Parser, _/_, opt, many, some, turns, one, byte, sized, void, eof, _>>=_, _>>_, Answer, withFirst}
 use Rattle.standard.specs.Abstract.{Line}
 use Rattle.standard.specs.Lexical.{line-end, blank-inline, blank-inline?, blank, blank?, blank-line, blank-block}
@@ -30,6 +29,10 @@ isBlankAt b bs = eqb b 32 || ltb 0 (eol (b ∷ bs))
 unfoldable pub blanks : List ℕ → ℕ
 blanks [] = 0
 blanks (b ∷ bs) = elim (isBlankAt b bs) [ true ↦ suc (blanks bs) | false ↦ 0 ]
+
+-- what stands behind the blanks
+abbrev pub behind : List ℕ → List ℕ
+behind s = drop (blanks s) s
 
 -- where blanks k bytes on end
 unfoldable pub over : List ℕ → ℕ → ℕ
@@ -53,8 +56,8 @@ blank-of [] = none refl refl
 blank-of (b ∷ bs) = byCase (eqb b 32) (λ q. subst (λ x. Blank (x ∷ bs)) (sym (eqb-true b 32 q)) (space bs))
     (λ q. byCase (eqb b 10) (λ r. subst (λ x. Blank (x ∷ bs)) (sym (eqb-true b 10 r)) (lf bs))
     (λ r. byCase (eqb b 13)
-      (λ t. byCase (startsWith 10 bs) (λ u. subst (λ x. Blank (x ∷ bs)) (sym (eqb-true b 13 t)) (cr-blank bs u)) (λ u. none q (rw (r, eol, t, u) refl)))
-      (λ t. none q (rw (r, eol, t) refl))))
+    (λ t. byCase (startsWith 10 bs) (λ u. subst (λ x. Blank (x ∷ bs)) (sym (eqb-true b 13 t)) (cr-blank bs u)) (λ u. none q (rw (r, eol, t, u) refl)))
+    (λ t. none q (rw (r, eol, t) refl))))
 
 none-blanks : (s : List ℕ) → startsWith 32 s ≡ false → eol s ≡ 0 → blanks s ≡ 0
 unfolding blanks isBlankAt startsWith
@@ -67,7 +70,7 @@ no-blank-at c [] e p q r = refl
 no-blank-at c (x ∷ xs) e p q r = subst (λ y. blanks (y ∷ xs) ≡ 0) (sym (eqb-true x c e)) (rw (p, blanks, isBlankAt, q, eol, r) refl)
 
 -- no blank is left behind blanks
-pub no-blanks : (s : List ℕ) → blanks (drop (blanks s) s) ≡ 0
+pub no-blanks : (s : List ℕ) → blanks (behind s) ≡ 0
 unfolding blanks
 no-blanks [] = refl
 no-blanks (b ∷ bs) = byCase (isBlankAt b bs) (λ q. rw (q, blanks) (no-blanks bs)) (λ q. rw (q, blanks) (rw (q, blanks) refl))
@@ -163,8 +166,8 @@ no-line-end [] e = clash refl e
 no-line-end (b ∷ bs) e =
     let q : eqb b 10 ≡ false = byCase (eqb b 10) (λ q. clash (rw (q, eol) refl) e) (λ q. q) in
     let r : (byte 13 >> byte 10) (b ∷ bs) ≡ fails = byCase (eqb b 13)
-        (λ r. byCase (startsWith 10 bs) (λ t. clash (rw (q, eol, r, t) refl) e) (λ t. then-fits (byte 13) (byte 10) (b ∷ bs) (byte-fits 13 (b ∷ bs) r) ∙ after-fails [] 1 (byte-fails 10 bs t)))
-        (λ r. then-fails (byte 13) (byte 10) (b ∷ bs) (byte-fails 13 (b ∷ bs) r)) in
+    (λ r. byCase (startsWith 10 bs) (λ t. clash (rw (q, eol, r, t) refl) e) (λ t. then-fits (byte 13) (byte 10) (b ∷ bs) (byte-fits 13 (b ∷ bs) r) ∙ after-fails [] 1 (byte-fails 10 bs t)))
+    (λ r. then-fails (byte 13) (byte 10) (b ∷ bs) (byte-fails 13 (b ∷ bs) r)) in
     let t : ((byte 13 >> byte 10) / byte 10 / eof) (b ∷ bs) ≡ fails = second (byte 13 >> byte 10) (byte 10 / eof) (b ∷ bs) r ∙ second (byte 10) eof (b ∷ bs) (byte-fails 10 (b ∷ bs) q) in
     rw (t, line-end, sized) refl
 
@@ -184,14 +187,14 @@ blank-turns (suc n) s h = go (blank-of s) h (λ r l. blank-turns n r l)
 
     go : {s : List ℕ} → Blank s → length s ≤ suc n → ((r : List ℕ) → length r ≤ n → Turned n r) → Turned (suc n) s
     go (space s) l f =
-      let (us, e) = f (drop (spaces s) s) (omega (arith, length-drop (spaces s) s)) in
-      (suc (spaces s) ∷ us, turns-on n (blank-inline / line-end) (32 ∷ s) (first blank-inline line-end (32 ∷ s) (space-run (32 ∷ s) refl)) (omega arith) e ∙ ap (fits (suc (spaces s) ∷ us) []) (omega (arith, blanks-on (spaces s) s (spaces-blanks s))))
+        let (us, e) = f (drop (spaces s) s) (omega (arith, length-drop (spaces s) s)) in
+        (suc (spaces s) ∷ us, turns-on n (blank-inline / line-end) (32 ∷ s) (first blank-inline line-end (32 ∷ s) (space-run (32 ∷ s) refl)) (omega arith) e ∙ ap (fits (suc (spaces s) ∷ us) []) (omega (arith, blanks-on (spaces s) s (spaces-blanks s))))
     go (lf s) l f =
-      let (us, e) = f s (omega arith) in
-      (1 ∷ us, turns-on n (blank-inline / line-end) (10 ∷ s) (second blank-inline line-end (10 ∷ s) (no-space (10 ∷ s) refl) ∙ line-end-is (10 ∷ s) refl) (omega arith) e ∙ ap (fits (1 ∷ us) []) (omega arith))
+        let (us, e) = f s (omega arith) in
+        (1 ∷ us, turns-on n (blank-inline / line-end) (10 ∷ s) (second blank-inline line-end (10 ∷ s) (no-space (10 ∷ s) refl) ∙ line-end-is (10 ∷ s) refl) (omega arith) e ∙ ap (fits (1 ∷ us) []) (omega arith))
     go (crlf s) l f =
-      let (us, e) = f s (omega arith) in
-      (2 ∷ us, turns-on n (blank-inline / line-end) (13 ∷ 10 ∷ s) (second blank-inline line-end (13 ∷ 10 ∷ s) (no-space (13 ∷ 10 ∷ s) refl) ∙ line-end-is (13 ∷ 10 ∷ s) refl) (omega arith) e ∙ ap (fits (2 ∷ us) []) (omega arith))
+        let (us, e) = f s (omega arith) in
+        (2 ∷ us, turns-on n (blank-inline / line-end) (13 ∷ 10 ∷ s) (second blank-inline line-end (13 ∷ 10 ∷ s) (no-space (13 ∷ 10 ∷ s) refl) ∙ line-end-is (13 ∷ 10 ∷ s) refl) (omega arith) e ∙ ap (fits (2 ∷ us) []) (omega arith))
     go {s} (none d e) l f = ([], end s d e ∙ ap (fits [] []) (sym (none-blanks s d e)))
 
 pub blank?-is : (s : List ℕ) → blank? s ≡ fits tt [] (blanks s)
@@ -200,8 +203,8 @@ blank?-is s = go (blank-of s)
   where
     yes-blank : (s : List ℕ) {a : ℕ} {k : ℕ} → (blank-inline / line-end) s ≡ fits a [] k → k + blanks (drop k s) ≡ blanks s → blank? s ≡ fits tt [] (blanks s)
     yes-blank s {a} {k} e h =
-      let (us, f) = blank-turns (length (drop k s)) (drop k s) (omega arith) in
-      opt-fits tt blank s (void-fits (some (blank-inline / line-end)) s (some-fits (blank-inline / line-end) s e f)) ∙ ap (fits tt []) h
+        let (us, f) = blank-turns (length (drop k s)) (drop k s) (omega arith) in
+        opt-fits tt blank s (void-fits (some (blank-inline / line-end)) s (some-fits (blank-inline / line-end) s e f)) ∙ ap (fits tt []) h
 
     end : (s : List ℕ) → startsWith 32 s ≡ false → eol s ≡ 0 → blank? s ≡ fits tt [] (blanks s)
     end [] e f = yes-blank [] (second blank-inline line-end [] (no-space [] e) ∙ line-end-is [] refl) refl
@@ -218,15 +221,15 @@ pub over-over : (s : List ℕ) (k : ℕ) → over s (over s k) ≡ over s k
 unfolding over
 over-over s k = rw (← drop-drop (blanks (drop k s)) k s) (omega (arith, no-blanks (drop k s)))
 
-pub drop-over : (s : List ℕ) (k : ℕ) → drop (blanks (drop k s)) (drop k s) ≡ drop (over s k) s
+pub drop-over : (s : List ℕ) (k : ℕ) → behind (drop k s) ≡ drop (over s k) s
 unfolding over
 drop-over s k = drop-drop (blanks (drop k s)) k s
 
-pub reader-skips : {A : Type 0} (q : Reader.Reader A) (s : List ℕ) → (Reader._>>_ skipBlank q) s ≡ Reader.after [] (blanks s) (q (drop (blanks s) s))
+pub reader-skips : {A : Type 0} (q : Reader.Reader A) (s : List ℕ) → (Reader._>>_ skipBlank q) s ≡ Reader.after [] (blanks s) (q (behind s))
 unfolding Reader._>>_ Reader.next
 reader-skips q s = rw (skipBlank-is s, Reader._>>_) refl
 
-pub parser-skips : {A : Type 0} (q : Parser A) (s : List ℕ) → (blank? >> q) s ≡ Peg.after [] (blanks s) (q (drop (blanks s) s))
+pub parser-skips : {A : Type 0} (q : Parser A) (s : List ℕ) → (blank? >> q) s ≡ Peg.after [] (blanks s) (q (behind s))
 parser-skips q s = then-fits blank? q s (blank?-is s)
 
 pub over-none : (s : List ℕ) → over s 0 ≡ blanks s
@@ -266,7 +269,7 @@ Lines s fails = ⊥
 
 lines-on : (s : List ℕ) (l : Line) (k : ℕ) (a : Answer (List Line)) → Blanked s k → Lines (drop k s) a → Lines s (withFirst l (Peg.after [] k a))
 unfolding withFirst Peg.after moveUp
-lines-on s l k (fits ls ms j) h (m , b) = (ap (map (up k)) m, blanked-on s k j h b)
+lines-on s l k (fits ls ms j) h (m, b) = (ap (map (up k)) m, blanked-on s k j h b)
 lines-on s l k fails h b = b
 
 lines-turns : (n : ℕ) (s : List ℕ) → Lines s (turns n blank-line s)
@@ -274,9 +277,9 @@ unfolding turns
 lines-turns zero s = (refl, zero-add (blanks s))
 lines-turns (suc n) s = byCase (lineEnds (drop (spaces s) s))
     (λ e. byCase (eqb (spaces s + eol (drop (spaces s) s)) 0)
-      (λ z. rw (turns-still (suc n) blank-line s (line-is s e ∙ ap (fits (record { spaces = spaces s; ending = eol (drop (spaces s) s) }) []) (eqb-true (spaces s + eol (drop (spaces s) s)) 0 z))) (refl, zero-add (blanks s)))
-      (λ z. rw (turns-more n blank-line s (line-is s e) (omega (arith, eqb-false (spaces s + eol (drop (spaces s) s)) 0 z)))
-        (lines-on s (record { spaces = spaces s; ending = eol (drop (spaces s) s) }) (spaces s + eol (drop (spaces s) s)) (turns n blank-line (drop (spaces s + eol (drop (spaces s) s)) s)) (line-blanked s) (lines-turns n (drop (spaces s + eol (drop (spaces s) s)) s)))))
+    (λ z. rw (turns-still (suc n) blank-line s (line-is s e ∙ ap (fits (record { spaces = spaces s; ending = eol (drop (spaces s) s) }) []) (eqb-true (spaces s + eol (drop (spaces s) s)) 0 z))) (refl, zero-add (blanks s)))
+    (λ z. rw (turns-more n blank-line s (line-is s e) (omega (arith, eqb-false (spaces s + eol (drop (spaces s) s)) 0 z)))
+    (lines-on s (record { spaces = spaces s; ending = eol (drop (spaces s) s) }) (spaces s + eol (drop (spaces s) s)) (turns n blank-line (drop (spaces s + eol (drop (spaces s) s)) s)) (line-blanked s) (lines-turns n (drop (spaces s + eol (drop (spaces s) s)) s)))))
     (λ e. rw (turns-end (suc n) blank-line s (no-line s e)) (refl, zero-add (blanks s)))
 
 pub ends-spaces : (s : List ℕ) → lineEnds s ≡ true → spaces s ≡ 0
@@ -294,5 +297,5 @@ unfolding blank-block many
 block-lines s e = go (many blank-line (drop (spaces s + eol (drop (spaces s) s)) s)) refl (lines-turns (length (drop (spaces s + eol (drop (spaces s) s)) s)) (drop (spaces s + eol (drop (spaces s) s)) s))
   where
     go : (a : Answer (List Line)) → many blank-line (drop (spaces s + eol (drop (spaces s) s)) s) ≡ a → Lines (drop (spaces s + eol (drop (spaces s) s)) s) a → Lines s (blank-block s)
-    go (fits ls ms j) h (m , b) = rw (some-fits blank-line s (line-is s e) h) (ap (moveUp (spaces s + eol (drop (spaces s) s))) m ∙ moveUp-nil (spaces s + eol (drop (spaces s) s)), blanked-on s (spaces s + eol (drop (spaces s) s)) j (line-blanked s) b)
+    go (fits ls ms j) h (m, b) = rw (some-fits blank-line s (line-is s e) h) (ap (moveUp (spaces s + eol (drop (spaces s) s))) m ∙ moveUp-none (spaces s + eol (drop (spaces s) s)), blanked-on s (spaces s + eol (drop (spaces s) s)) j (line-blanked s) b)
     go fails h b = absurd b

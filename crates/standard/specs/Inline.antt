@@ -17,7 +17,6 @@ use Rattle.syntax.specs.Pattern as Pattern
 use Rattle.syntax.specs.Expression as Reading
 use Rattle.syntax.specs.Expression.{Inline, string, number, variable, function, inner, message, term, inlineKind, asInline, callArguments, getCallArguments, getAttributeAccessor, variableReference, functionReference, messageReference, referenceBy, reference, noInline, nonLiteral, getInlineExpression}
 use Rattle.laws.specs.Bytes.{byCase, clash}
-use Rattle.laws.specs.Moving.{moveUp-nil}
 use Rattle.laws.specs.Stable.{Holds, plain-next}
 use Rattle.standard.specs.Dialect.{rust, all}
 use Rattle.standard.specs.Peg as Peg
@@ -27,8 +26,8 @@ use Rattle.standard.specs.Abstract.{A8}
 use Rattle.standard.specs.Lexical.{Identifier, NumberLiteral, UnsignedLiteral, AttributeAccessor, VariableReference, blank?}
 use Rattle.standard.specs.Grammar as Grammar
 use Rattle.standard.specs.Grammar.{StringLiteral, MessageReference, FunctionReference, TermReference, InlineExpression, literal}
-use Rattle.standard.specs.Steps.{byte-fits, byte-fails, then-fits, then-fails, bind-fits, bind-fails, void-fits, void-fails, opt-fits, opt-fails, first, second, node-fits, node-fails, after-fails, only-passes, only-forbids, starts-other, choice-assoc, Uses, uses-first, uses-choice, uses-node, uses-byte}
-use Rattle.standard.specs.Blank.{blanks, over, over-over, drop-over, no-blank-at, over-none, over-blanks, reader-skips, parser-skips}
+use Rattle.standard.specs.Steps.{moveUp-none, byte-fits, byte-fails, then-fits, then-fails, bind-fits, bind-fails, void-fits, void-fails, opt-fits, opt-fails, first, second, node-fits, node-fails, after-fails, only-passes, only-forbids, starts-other, choice-assoc, Uses, uses-first, uses-choice, uses-node, uses-byte}
+use Rattle.standard.specs.Blank.{behind, blanks, over, over-over, drop-over, no-blank-at, over-none, over-blanks, reader-skips, parser-skips}
 use Rattle.standard.specs.Same.{Same, nothing, Agree, reads-bind, ok-pure, fits-pure, same-next, same-wrap, same-byte, expects}
 use Rattle.standard.specs.Near.{isOpening, Opens, opens-by, Left, Near, nearly-near, same-near, near-pure, near-after, near-then, near-wrap, near-pick, near-first, near-second, Wrong, wrong-near}
 use Rattle.standard.specs.Words.{letter-names, nameOf, reads-name, parses-name, no-name, same-name, no-number, no-negative, no-unsigned-literal, number-literal, unsigned-literal, formOf, string-literal, uses-name, uses-number}
@@ -62,18 +61,14 @@ accessor s = byCase (startsWith 46 s) (λ e. rw (e, getAttributeAccessor) (go e 
 abbrev spaced : Parser (Unit {0})
 spaced = given true (blank? >> AttributeAccessor) / AttributeAccessor
 
-spaced-fits : (r : List ℕ) {ms : List Mark} {k : ℕ} → AttributeAccessor (drop (blanks r) r) ≡ fits tt ms k → spaced r ≡ fits tt (moveUp (blanks r) ms) (blanks r + k)
+spaced-fits : (r : List ℕ) {ms : List Mark} {k : ℕ} → AttributeAccessor (behind r) ≡ fits tt ms k → spaced r ≡ fits tt (moveUp (blanks r) ms) (blanks r + k)
 unfolding given Peg.after
 spaced-fits r e = first (blank? >> AttributeAccessor) AttributeAccessor r (parser-skips AttributeAccessor r ∙ ap (Peg.after [] (blanks r)) e)
 
-spaced-fails : (r : List ℕ) → AttributeAccessor (drop (blanks r) r) ≡ fails → spaced r ≡ fails
+spaced-fails : (r : List ℕ) → AttributeAccessor (behind r) ≡ fails → spaced r ≡ fails
 unfolding given
 spaced-fails r e = second (blank? >> AttributeAccessor) AttributeAccessor r (parser-skips AttributeAccessor r ∙ after-fails [] (blanks r) e)
     ∙ byCase (startsWith 46 r) (λ q. subst (λ n. AttributeAccessor (drop n r) ≡ fails) (no-blank-at 46 r q refl refl refl) e) (λ q. no-dot r q)
-
--- what stands behind the blanks of r
-abbrev pub behind : List ℕ → List ℕ
-behind r = drop (blanks r) r
 
 -- References ----------------------------------------------------------------------------------------------------------------------------------
 
@@ -209,18 +204,18 @@ module _ {sub₁ : Pattern.Inside} {sub₂ : Grammar.Inside} (agree : Agree sub�
       where
         call : startsWith 40 (behind past) ≡ true → (o : Out (Unit {0})) → getCallArguments sub₁ past ≡ truly o → Same nothing o (sub₂ .CallArguments past) → Near formOf s (asInline (reference sub₁ s)) ((FunctionReference rust sub₂ / MessageReference rust) s)
         call q (ok u ms k) r h =
-          let g : spaced past ≡ fails = spaced-fails past (no-dot (behind past) (starts-other 40 46 (behind past) q refl)) in
-          byCase (allBytes isCalleePart (take (nameOf s) s))
-          (λ c. rw (read-function r c) (nameOf s + k, first (FunctionReference rust sub₂) (MessageReference rust) s (function-fits h c), refl))
-          (λ c. wrong-near formOf s (asInline (reference sub₁ s)) _ (read-forbidden r c) (leaves 40 refl q (function-forbidden h c) g))
+            let g : spaced past ≡ fails = spaced-fails past (no-dot (behind past) (starts-other 40 46 (behind past) q refl)) in
+            byCase (allBytes isCalleePart (take (nameOf s) s))
+            (λ c. rw (read-function r c) (nameOf s + k, first (FunctionReference rust sub₂) (MessageReference rust) s (function-fits h c), refl))
+            (λ c. wrong-near formOf s (asInline (reference sub₁ s)) _ (read-forbidden r c) (leaves 40 refl q (function-forbidden h c) g))
         call q (bad f k) r h = rw (read-on r) (leaves 40 refl q (function-fails h) (spaced-fails past (no-dot (behind past) (starts-other 40 46 (behind past) q refl))))
         call q (deep k) r h = rw (read-on r) tt
 
         plain : (o : Out Bool) → getAttributeAccessor (behind past) ≡ o → Access (behind past) o (AttributeAccessor (behind past)) → getCallArguments sub₁ past ≡ ok false [] (blanks past)
             → FunctionReference rust sub₂ s ≡ fails → Near formOf s (asInline (reference sub₁ s)) ((FunctionReference rust sub₂ / MessageReference rust) s)
         plain (ok true ms k) o h r f = rw (read-message r o) (nameOf s + (blanks past + k), second (FunctionReference rust sub₂) (MessageReference rust) s f ∙ message-fits (spaced-fits past h), refl)
-        plain (ok false ms k) o (m , z , h) r f = rw (read-message r o) (nameOf s + 0, second (FunctionReference rust sub₂) (MessageReference rust) s f ∙ message-plain (spaced-fails past h) ∙ ap (λ l. fits Abstract.messageReference (node 23 (named l)) (nameOf s + 0)) (sym (ap (moveUp (blanks past)) m ∙ moveUp-nil (blanks past))), past-blanks k z)
-        plain (bad e k) o (d , h) r f = rw (read-on r, o) (leaves 46 refl d f (spaced-fails past h))
+        plain (ok false ms k) o (m, z, h) r f = rw (read-message r o) (nameOf s + 0, second (FunctionReference rust sub₂) (MessageReference rust) s f ∙ message-plain (spaced-fails past h) ∙ ap (λ l. fits Abstract.messageReference (node 23 (named l)) (nameOf s + 0)) (sym (ap (moveUp (blanks past)) m ∙ moveUp-none (blanks past))), past-blanks k z)
+        plain (bad e k) o (d, h) r f = rw (read-on r, o) (leaves 46 refl d f (spaced-fails past h))
         plain (deep k) o h r f = rw (read-on r, o) tt
 
   -- arguments that need not be there
@@ -254,8 +249,8 @@ module _ {sub₁ : Pattern.Inside} {sub₂ : Grammar.Inside} (agree : Agree sub�
       let b : behind r ≡ r = ap (λ n. drop n r) (no-blank-at 46 r d refl refl refl) in
       let c : sub₂ .CallArguments r ≡ fails = agree .no-parenthesis r (rw b (starts-other 46 40 r d refl)) in
       let t : (attribute >>= term-end) r ≡ fits (Abstract.termReference false) [] 0 =
-          bind-fits attribute term-end r (opt-fails false (AttributeAccessor >> Peg.pure true) r (then-fails AttributeAccessor (Peg.pure true) r h))
-          ∙ ap (Peg.after [] 0) (then-fits (opt tt (sub₂ .CallArguments)) (Peg.pure (Abstract.termReference false)) r (opt-fails tt (sub₂ .CallArguments) r c)) in
+      bind-fits attribute term-end r (opt-fails false (AttributeAccessor >> Peg.pure true) r (then-fails AttributeAccessor (Peg.pure true) r h))
+      ∙ ap (Peg.after [] 0) (then-fits (opt tt (sub₂ .CallArguments)) (Peg.pure (Abstract.termReference false)) r (opt-fails tt (sub₂ .CallArguments) r c)) in
       rw t (rw (over-none r) (rw b (opens-by 46 r refl d)))
 
   term-rest : (r : List ℕ) → Near formOf r ((Reader._>>=_ getAttributeAccessor reads-end) r) ((attribute >>= term-end) r)
@@ -265,10 +260,10 @@ module _ {sub₁ : Pattern.Inside} {sub₂ : Grammar.Inside} (agree : Agree sub�
       go : (o : Out Bool) → Access r o (AttributeAccessor r) → Near formOf r (Reader.next r reads-end o) ((attribute >>= term-end) r)
       go (ok true ms k) h = rw (bind-fits attribute term-end r (opt-fits false (AttributeAccessor >> Peg.pure true) r (then-fits AttributeAccessor (Peg.pure true) r h ∙ fits-pure true ms k)))
           (near-after formOf r ms k (reads-end true (drop k r)) (term-end true (drop k r)) (arguments-near true (drop k r)))
-      go (ok false ms k) (m , z , h) = subst₂ (λ ns j. Near formOf r (Reader.after ns j (reads-end false (drop j r))) ((attribute >>= term-end) r)) (sym m) (sym z)
+      go (ok false ms k) (m, z, h) = subst₂ (λ ns j. Near formOf r (Reader.after ns j (reads-end false (drop j r))) ((attribute >>= term-end) r)) (sym m) (sym z)
           (rw (bind-fits attribute term-end r (opt-fails false (AttributeAccessor >> Peg.pure true) r (then-fails AttributeAccessor (Peg.pure true) r h)))
           (near-after formOf r [] 0 (reads-end false r) (term-end false r) (arguments-near false r)))
-      go (bad e k) (d , h) = dot-left r d h
+      go (bad e k) (d, h) = dot-left r d h
       go (deep k) h = tt
 
   -- the kind of what is read
@@ -422,18 +417,18 @@ module _ {sub₁ : Pattern.Inside} {sub₂ : Grammar.Inside} (agree : Agree sub�
       let inline = InlineExpression rust sub₂ s in
       near-pick formOf s (eqb b 34) _ _ inline (λ q. string-at s from-number (quote-fails (eqb-true b 34 q)))
       (λ q. near-pick formOf s (isDigit b) _ _ inline
-          (λ d. past-string s (Reading.numberLiteral s) q (number-at s from-reference (past-references s (digit-no-letter b d) ∙ no-terms s (no-term s (apart isDigit b 45 d refl)) (apart isDigit b 36 d refl) (apart isDigit b 123 d refl))))
+      (λ d. past-string s (Reading.numberLiteral s) q (number-at s from-reference (past-references s (digit-no-letter b d) ∙ no-terms s (no-term s (apart isDigit b 45 d refl)) (apart isDigit b 36 d refl) (apart isDigit b 123 d refl))))
       (λ d. near-pick formOf s (isLetter b) _ _ inline
-          (λ l. past-string s (asInline (reference sub₁ s)) q (past-number s (asInline (reference sub₁ s)) (no-number 20 s (apart isLetter b 45 l refl) d) (reference-at s l (no-terms s (no-term s (apart isLetter b 45 l refl)) (apart isLetter b 36 l refl) (apart isLetter b 123 l refl)))))
+      (λ l. past-string s (asInline (reference sub₁ s)) q (past-number s (asInline (reference sub₁ s)) (no-number 20 s (apart isLetter b 45 l refl) d) (reference-at s l (no-terms s (no-term s (apart isLetter b 45 l refl)) (apart isLetter b 36 l refl) (apart isLetter b 123 l refl)))))
       (λ l. near-pick formOf s (eqb b 45) _ _ inline
-          (λ m. near-pick formOf s (starts isLetter bs) _ _ inline
-            (λ t. past-string s (asInline (Reading.termReference sub₁ s)) q (past-number s (asInline (Reading.termReference sub₁ s)) (no-negative 20 s m (letters-no-digits bs t)) (past-reference s (asInline (Reading.termReference sub₁ s)) l (term-at s (no-variables s (starts-other 45 36 s m refl) (starts-other 45 123 s m refl))))))
-            (λ t. past-string s (Reading.numberLiteral s) q (number-at s from-reference (past-references s l ∙ no-terms s (no-term-name s m t) (starts-other 45 36 s m refl) (starts-other 45 123 s m refl)))))
+      (λ m. near-pick formOf s (starts isLetter bs) _ _ inline
+      (λ t. past-string s (asInline (Reading.termReference sub₁ s)) q (past-number s (asInline (Reading.termReference sub₁ s)) (no-negative 20 s m (letters-no-digits bs t)) (past-reference s (asInline (Reading.termReference sub₁ s)) l (term-at s (no-variables s (starts-other 45 36 s m refl) (starts-other 45 123 s m refl))))))
+      (λ t. past-string s (Reading.numberLiteral s) q (number-at s from-reference (past-references s l ∙ no-terms s (no-term-name s m t) (starts-other 45 36 s m refl) (starts-other 45 123 s m refl)))))
       (λ m. near-pick formOf s (eqb b 36) _ _ inline
-          (λ v. past-term-at s (asInline (variableReference s)) q d l m (variable-at s (no-placeable s (starts-other 36 123 s v refl))))
+      (λ v. past-term-at s (asInline (variableReference s)) q d l m (variable-at s (no-placeable s (starts-other 36 123 s v refl))))
       (λ v. near-pick formOf s (eqb b 123) _ _ inline
-          (λ p. past-term-at s (asInline (Reading.nestedPlaceable sub₁ s)) q d l m (placeable-at s v))
-          (λ p. none-at s (noInline false s) tt q d l m v p))))))
+      (λ p. past-term-at s (asInline (Reading.nestedPlaceable sub₁ s)) q d l m (placeable-at s v))
+      (λ p. none-at s (noInline false s) tt q d l m v p))))))
     where
       quote-fails : b ≡ 34 → from-number (b ∷ bs) ≡ fails
       quote-fails e = subst (λ x. from-number (x ∷ bs) ≡ fails) (sym e)
@@ -470,8 +465,8 @@ module _ {sub₁ : Pattern.Inside} {sub₂ : Grammar.Inside} (agree : Agree sub�
       rw (literal-is s) (near-pick formOf s (eqb b 34) _ _ value (λ q. string-at s from-literal (subst (λ x. from-literal (x ∷ bs) ≡ fails) (sym (eqb-true b 34 q)) (no-literals (34 ∷ bs) refl refl)))
       (λ q. near-pick formOf s (isDigit b) _ _ value (λ d. past-strings s (Reading.numberLiteral s) q (unsigned-at s (apart isDigit b 45 d refl) (digit-no-letter b d)))
       (λ d. near-pick formOf s (isLetter b) _ _ value
-          (λ l. past-strings s (asInline (reference sub₁ s)) q (near-second formOf s (asInline (reference sub₁ s)) UnsignedLiteral (FunctionReference rust sub₂ / MessageReference rust) (no-unsigned-literal s d) (reference-near s l)))
-          (λ l. no-literal-at s (noInline true s) tt q d l))))
+      (λ l. past-strings s (asInline (reference sub₁ s)) q (near-second formOf s (asInline (reference sub₁ s)) UnsignedLiteral (FunctionReference rust sub₂ / MessageReference rust) (no-unsigned-literal s d) (reference-near s l)))
+      (λ l. no-literal-at s (noInline true s) tt q d l))))
 
   -- each uses a byte
   pub uses-inline : (s : List ℕ) → Uses (InlineExpression rust sub₂ s)
@@ -571,7 +566,7 @@ module _ {sub₁ : Pattern.Inside} {sub₂ : Grammar.Inside} (agree : Agree sub�
       plain : (o : Out Bool) → getAttributeAccessor (behind (drop (nameOf s) s)) ≡ o → Access (behind (drop (nameOf s) s)) o (AttributeAccessor (behind (drop (nameOf s) s)))
           → getCallArguments sub₁ (drop (nameOf s) s) ≡ ok false [] (blanks (drop (nameOf s) s)) → Free s (asInline (reference sub₁ s))
       plain (ok true ms k) o a r = rw (read-message s l r o) tt
-      plain (ok false ms k) o (m , z , a) r = rw (read-message s l r o) (rw (sym (past-blanks s l k z) ∙ ap (over s) (add-zero (nameOf s))) (rw (← drop-over s (nameOf s)) h))
+      plain (ok false ms k) o (m, z, a) r = rw (read-message s l r o) (rw (sym (past-blanks s l k z) ∙ ap (over s) (add-zero (nameOf s))) (rw (← drop-over s (nameOf s)) h))
       plain (bad e k) o a r = rw (read-on s l r, o) tt
       plain (deep k) o a r = rw (read-on s l r, o) tt
 

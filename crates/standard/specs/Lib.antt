@@ -3,7 +3,6 @@ pub mod Dialect
 pub mod Peg
 pub mod Steps
 pub mod Signs
-pub mod Kinds
 pub mod Abstract
 pub mod Lexical
 pub mod Grammar

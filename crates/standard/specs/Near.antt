@@ -18,7 +18,7 @@ use Rattle.standard.specs.Peg as Peg
 use Rattle.standard.specs.Peg.{Answer, fits, fails, Parser, _/_, in-node, as-text}
 use Rattle.standard.specs.Lexical.{blank?}
 use Rattle.standard.specs.Steps.{text-fits, text-fails, node-fits, node-fails, after-fails, first, second}
-use Rattle.standard.specs.Blank.{blanks, over, drop-over, reader-skips, parser-skips}
+use Rattle.standard.specs.Blank.{behind, blanks, over, drop-over, reader-skips, parser-skips}
 use Rattle.standard.specs.Same.{Same, same-skip, fits-pure}
 
 unfoldable pub isOpening : ℕ → Bool
@@ -90,12 +90,12 @@ module _ {A B C D : Type 0} (f : A → B) (g : C → D) where
       → ((x : A) (r : List ℕ) → Same g (q x r) (q′ (f x) r)) → ((y : B) (r : List ℕ) → Opens r → q′ y r ≡ fails)
       → Same g (Reader.next s (λ x. Reader._>>_ skipBlank (q x)) o) (Peg.next s (λ y. Peg._>>_ blank? (q′ y)) a)
   unfolding Reader.next Peg.next Reader._>>_ Peg._>>_ over
-  near-next s q q′ (ok x ms k) a (j , e , h) l d =
-      let r : drop (blanks (drop k s)) (drop k s) ≡ drop (blanks (drop j s)) (drop j s) = drop-over s k ∙ ap (λ n. drop n s) (sym h) ∙ sym (drop-over s j) in
+  near-next s q q′ (ok x ms k) a (j, e, h) l d =
+      let r : behind (drop k s) ≡ behind (drop j s) = drop-over s k ∙ ap (λ n. drop n s) (sym h) ∙ sym (drop-over s j) in
       rw (e, reader-skips (q x) (drop k s), parser-skips (q′ (f x)) (drop j s))
-      (same-skip g ms k (blanks (drop k s)) j (blanks (drop j s)) (q x (drop (blanks (drop k s)) (drop k s))) (q′ (f x) (drop (blanks (drop j s)) (drop j s))) (sym h)
-      (subst (λ z. Same g (q x (drop (blanks (drop k s)) (drop k s))) (q′ (f x) z)) r (l x (drop (blanks (drop k s)) (drop k s)))))
-  near-next s q q′ (bad e k) (fits y ms j) h l d = after-fails ms j (parser-skips (q′ y) (drop j s) ∙ after-fails [] (blanks (drop j s)) (d y (drop (blanks (drop j s)) (drop j s)) (subst Opens (sym (drop-over s j)) h)))
+      (same-skip g ms k (blanks (drop k s)) j (blanks (drop j s)) (q x (behind (drop k s))) (q′ (f x) (behind (drop j s))) (sym h)
+      (subst (λ z. Same g (q x (behind (drop k s))) (q′ (f x) z)) r (l x (behind (drop k s)))))
+  near-next s q q′ (bad e k) (fits y ms j) h l d = after-fails ms j (parser-skips (q′ y) (drop j s) ∙ after-fails [] (blanks (drop j s)) (d y (behind (drop j s)) (subst Opens (sym (drop-over s j)) h)))
   near-next s q q′ (bad e k) fails h l d = refl
   near-next s q q′ (deep k) a h l d = tt
 
@@ -137,7 +137,7 @@ nearly-void f y s (deep k) a h = tt
 pub near-pure : {A B C D : Type 0} (f : A → B) (g : C → D) (y : C) (s : List ℕ) (o : Out A) (a : Answer B) → Near f s o a
     → Near g s (Reader.next s (λ _. Reader.pure y) o) (Peg.next s (λ _. Peg.pure (g y)) a)
 unfolding Reader.next Reader.pure Reader.after Peg.next Peg.pure Peg.after moveUp
-near-pure f g y s (ok x ms k) a (j , e , h) = (j, rw e (ap (fits (g y) (ms ++ [])) (add-zero j)), h ∙ ap (over s) (sym (add-zero k)))
+near-pure f g y s (ok x ms k) a (j, e, h) = (j, rw e (ap (fits (g y) (ms ++ [])) (add-zero j)), h ∙ ap (over s) (sym (add-zero k)))
 near-pure f g y s (bad e k) a h = left-pure s (g y) a h
 near-pure f g y s (deep k) a h = tt
 
@@ -148,7 +148,7 @@ over-after s k j = ap (λ r. k + j + blanks r) (sym (drop-drop j k s)) ∙ add-a
 
 pub near-after : {A B : Type 0} (f : A → B) (s : List ℕ) (ms : List Mark) (k : ℕ) (o : Out A) (a : Answer B) → Near f (drop k s) o a → Near f s (Reader.after ms k o) (Peg.after ms k a)
 unfolding Reader.after Peg.after
-near-after f s ms k (ok x ns i) a (j , e , h) = (k + j, ap (Peg.after ms k) e, over-after s k j ∙ ap (λ n. k + n) h ∙ sym (over-after s k i))
+near-after f s ms k (ok x ns i) a (j, e, h) = (k + j, ap (Peg.after ms k) e, over-after s k j ∙ ap (λ n. k + n) h ∙ sym (over-after s k i))
 near-after f s ms k (bad e j) a h = left-after s ms k a h
 near-after f s ms k (deep j) a h = tt
 
@@ -163,7 +163,7 @@ module _ {A B C D : Type 0} (f : A → B) (g : C → D) where
 module _ {A B : Type 0} (f : A → B) where
   pub near-wrap : (kind : ℕ) (s : List ℕ) (o : Out A) (p : Parser B) → Near f s o (p s) → Near f s (wrap kind o) (in-node kind p s)
   unfolding wrap
-  near-wrap kind s (ok x ms k) p (j , e , h) = (j, node-fits kind p s e, h)
+  near-wrap kind s (ok x ms k) p (j, e, h) = (j, node-fits kind p s e, h)
   near-wrap kind s (bad e k) p h = left-node s kind p (p s) refl h
   near-wrap kind s (deep k) p h = tt
 
@@ -177,7 +177,7 @@ module _ {A B : Type 0} (f : A → B) where
   left-first s p q fails e h l = rw (second p q s e, l) tt
 
   pub near-first : (s : List ℕ) (o : Out A) (p q : Parser B) → Near f s o (p s) → q s ≡ fails → Near f s o ((p / q) s)
-  near-first s (ok x ms k) p q (j , e , h) l = (j, first p q s e, h)
+  near-first s (ok x ms k) p q (j, e, h) l = (j, first p q s e, h)
   near-first s (bad e k) p q h l = left-first s p q (p s) refl h l
   near-first s (deep k) p q h l = tt
 

@@ -25,11 +25,11 @@ use Rattle.standard.specs.Lexical.{blank?, blank-inline?}
 use Rattle.standard.specs.Grammar as Grammar
 use Rattle.standard.specs.Grammar.{InlineExpression, variant-list, SelectExpression, expression, inline-placeable, nesting}
 use Rattle.standard.specs.Steps.{byte-fits, byte-fails, then-fits, then-fails, bind-fits, bind-fails, node-fits, node-fails, after-fails, after-skip, only-passes, only-forbids, starts-byte, starts-other, starts-apart, Uses, uses-first, uses-node, uses-byte}
-use Rattle.standard.specs.Blank.{blanks, over, drop-over, no-blanks, spaces-blanks, blank-inline?-is, reader-skips, parser-skips}
+use Rattle.standard.specs.Blank.{behind, blanks, over, drop-over, no-blanks, spaces-blanks, blank-inline?-is, reader-skips, parser-skips}
 use Rattle.standard.specs.Same.{Same, nothing, Agree, PatternAgrees, same-skip, same-wrap, same-byte, same-blank, then, reads-then, reads-skip, ok-pure, fits-pure, expects, refuses}
 use Rattle.standard.specs.Near.{isOpening, Opens, Left, Near, Wrong, wrong-next, wrong-after}
 use Rattle.standard.specs.Words.{formOf}
-use Rattle.standard.specs.Inline.{behind, inline-near}
+use Rattle.standard.specs.Inline.{inline-near}
 use Rattle.standard.specs.Arguments.{arguments-agree, no-arguments}
 use Rattle.standard.specs.Select.{Ended, ended-after, reads-lines, variants-ended}
 
@@ -126,8 +126,8 @@ selected fails = fails
 
 select-same : (s : List ℕ) (o : Out (Unit {0})) (a : Answer (Unit {0})) (b : Answer Content) → Ended s o a → Peg.next s close b ≡ fails → Same nothing (Reader.next s (λ _. reads-close) o) (Peg.next s close (or (selected a) b))
 unfolding Reader.next Peg.next selected A11
-select-same s (ok u ms k) a b (inl (j , e , h)) f = rw e (close-same select s ms k j refl h)
-select-same s (ok u ms k) a b (inr (e , c)) f = rw (e, reads-close-is (drop k s), refuses 125 (drop (spaces (drop k s)) (drop k s)) c) (unfold Reader.after in f)
+select-same s (ok u ms k) a b (inl (j, e, h)) f = rw e (close-same select s ms k j refl h)
+select-same s (ok u ms k) a b (inr (e, c)) f = rw (e, reads-close-is (drop k s), refuses 125 (drop (spaces (drop k s)) (drop k s)) c) (unfold Reader.after in f)
 select-same s (bad d k) (fits u ms j) b h f = after-fails ms j (unclosed select (drop j s) (subst (λ r. startsWith 125 r ≡ false) (sym (drop-over s j)) h))
 select-same s (bad d k) fails b h f = f
 select-same s (deep k) a b h f = tt
@@ -144,8 +144,8 @@ node-is kind p s fails e = node-fails kind p s e
 
 ended-wrap : (kind : ℕ) (s : List ℕ) (o : Out (Unit {0})) (a : Answer (Unit {0})) → Ended s o a → Ended s (wrap kind o) (wrapped kind a)
 unfolding wrap wrapped
-ended-wrap kind s (ok u ms k) a (inl (j , e , h)) = inl (j, ap (wrapped kind) e, h)
-ended-wrap kind s (ok u ms k) a (inr (e , c)) = inr (ap (wrapped kind) e, c)
+ended-wrap kind s (ok u ms k) a (inl (j, e, h)) = inl (j, ap (wrapped kind) e, h)
+ended-wrap kind s (ok u ms k) a (inr (e, c)) = inr (ap (wrapped kind) e, c)
 ended-wrap kind s (bad d k) (fits u ms j) h = h
 ended-wrap kind s (bad d k) fails h = h
 ended-wrap kind s (deep k) a h = tt
@@ -285,7 +285,7 @@ module _ {sub₁ : Pattern.Inside} {sub₂ : Grammar.Inside} (agree : Agree sub�
       let (m, g) = arrow-bytes s e in
       rw (e, afterInline) (reads-then (selector x) (Reader._>>_ (expectByte 45) (Reader._>>_ (expectByte 62) spaces-read)) s (passes tt (A10 (formOf x)) (selector x s) (selects x s) h)
       ∙ ap (Reader.after [] 0) (reads-then (expectByte 45) (Reader._>>_ (expectByte 62) spaces-read) s (expects 45 s m)
-        ∙ ap (Reader.after [] 1) (reads-then (expectByte 62) spaces-read (drop 1 s) (expects 62 (drop 1 s) g) ∙ ap (λ r. Reader.after [] 1 (spaces-read r)) (drop-drop 1 1 s)))
+      ∙ ap (Reader.after [] 1) (reads-then (expectByte 62) spaces-read (drop 1 s) (expects 62 (drop 1 s) g) ∙ ap (λ r. Reader.after [] 1 (spaces-read r)) (drop-drop 1 1 s)))
       ∙ reads-skip [] 0 1 (Reader.after [] 1 (spaces-read (drop 2 s))) ∙ reads-skip [] 1 1 (spaces-read (drop 2 s))
       ∙ ap (Reader.after [] 2) (reads-then skipBlankInline lines-true (drop 2 s) refl ∙ ap (Reader.after [] (spaces (drop 2 s))) (lines-are (list-at s)) ∙ truly-after [] (spaces (drop 2 s)) (reads-lines patterns (list-at s)))
       ∙ truly-after [] 2 (Reader.after [] (spaces (drop 2 s)) (reads-lines patterns (list-at s))))
@@ -403,9 +403,9 @@ module _ {sub₁ : Pattern.Inside} {sub₂ : Grammar.Inside} (agree : Agree sub�
   expression-same s = go (getInlineExpression sub₁ false s) refl (inline-near agree s)
     where
       go : (o : Out Inline) → getInlineExpression sub₁ false s ≡ o → Near formOf s o (InlineExpression rust sub₂ s) → Same nothing (reads-all s) (parses-all s)
-      go (ok x ms k) e (j , here , there) =
-        let read : inlineOrSelect sub₁ s ≡ Reader.after ms (over s k) (afterInline sub₁ x (drop (over s k) s)) = ap (Reader.next s (λ y. Reader._>>_ skipBlank (afterInline sub₁ y))) e ∙ read-on s x ms k in
-        byCase (arrow (drop (over s k) s)) (λ q. select-here s x ms j (over s k) here there read q) (λ q. alone-same s x ms j (over s k) here there read q)
+      go (ok x ms k) e (j, here, there) =
+          let read : inlineOrSelect sub₁ s ≡ Reader.after ms (over s k) (afterInline sub₁ x (drop (over s k) s)) = ap (Reader.next s (λ y. Reader._>>_ skipBlank (afterInline sub₁ y))) e ∙ read-on s x ms k in
+          byCase (arrow (drop (over s k) s)) (λ q. select-here s x ms j (over s k) here there read q) (λ q. alone-same s x ms j (over s k) here there read q)
       go (bad f k) e l = rw (e, left-fails s (InlineExpression rust sub₂ s) refl l) (unfold Reader.next in refl)
       go (deep k) e l = rw e (unfold Reader.next in tt)
 

@@ -8,6 +8,7 @@ use mathlib.Core.Bool.{Bool, true, false}
 use mathlib.Core.List.{List, [], _∷_, _++_, append-nil}
 use lib.ListN.{drop, take}
 use lib.Seq.{drop-drop}
+use Rattle.syntax.specs.Byte as Byte
 use Rattle.syntax.specs.Kind as Kind
 use Rattle.syntax.specs.Bytes.{startsWith}
 use Rattle.syntax.specs.Marks.{Mark, plain, up, moveUp, node}
@@ -20,14 +21,14 @@ use Rattle.syntax.specs.Helper.{skipBlank, skipBlankInline, expectByte, asText}
 use Rattle.syntax.specs.Pattern as Pattern
 use Rattle.syntax.specs.Pattern.{getPattern}
 use Rattle.laws.specs.Bytes.{byCase}
-use Rattle.laws.specs.Moving.{map-append, after-after, moveUp-twice, moveUp-nil}
+use Rattle.laws.specs.Moving.{map-append, after-after, moveUp-twice}
 use Rattle.standard.specs.Dialect.{rust}
 use Rattle.standard.specs.Peg as Peg
 use Rattle.standard.specs.Peg.{Answer, fits, fails, Parser, _/_, byte, in-node, as-text, ahead, void}
-use Rattle.standard.specs.Steps.{Uses, byte-fits, byte-fails, first, second, text-fits, text-fails}
+use Rattle.standard.specs.Steps.{moveUp-none, Uses, byte-fits, byte-fails, first, second, text-fits, text-fails, node-fits, node-fails}
 use Rattle.standard.specs.Lexical.{line-end, blank?, blank-inline?, blank-block}
 use Rattle.standard.specs.Grammar as Grammar
-use Rattle.standard.specs.Blank.{blanks, skipBlank-is, blank?-is, blank-inline?-is}
+use Rattle.standard.specs.Blank.{behind, skipBlank-is, blank?-is, blank-inline?-is}
 
 -- the same value by f, the same marks, the same place
 abbrev pub Same : {A B : Type 0} → (A → B) → Out A → Answer B → Type 0
@@ -48,8 +49,8 @@ pub record Agree (sub₁ : Pattern.Inside) (sub₂ : Grammar.Inside) : Type 0 wh
   pub placeables : (s : List ℕ) → Same nothing (wrap Kind.placeable (sub₁ .braced s)) (sub₂ .inline-placeable s)
   pub arguments : (s : List ℕ) → Same nothing ((Reader._>>_ skipBlank (sub₁ .parenthesised)) s) (sub₂ .CallArguments s)
   pub uses-brace : (s : List ℕ) → Uses (sub₂ .inline-placeable s)
-  pub no-brace : (s : List ℕ) → startsWith 123 s ≡ false → sub₂ .inline-placeable s ≡ fails
-  pub no-parenthesis : (s : List ℕ) → startsWith 40 (drop (blanks s) s) ≡ false → sub₂ .CallArguments s ≡ fails
+  pub no-brace : (s : List ℕ) → startsWith Byte.openBrace s ≡ false → sub₂ .inline-placeable s ≡ fails
+  pub no-parenthesis : (s : List ℕ) → startsWith Byte.openParenthesis (behind s) ≡ false → sub₂ .CallArguments s ≡ fails
 
 -- a pattern with the spaces before it, at a line's end, and the blank lines behind it
 unfoldable pub whole-pattern : Grammar.Inside → Parser (Unit {0})
@@ -127,7 +128,7 @@ reads-assoc {A} p q w s = go (p s)
     go (deep k) = unfold Reader.next in refl
 
 pub reads-skip : {A : Type 0} (ms : List Mark) (k j : ℕ) (o : Out A) → Reader.after ms k (Reader.after [] j o) ≡ Reader.after ms (k + j) o
-reads-skip ms k j o = after-after ms k [] j o ∙ ap (λ ns. Reader.after (ms ++ ns) (k + j) o) (moveUp-nil k) ∙ ap (λ ns. Reader.after ns (k + j) o) (append-nil ms)
+reads-skip ms k j o = after-after ms k [] j o ∙ ap (λ ns. Reader.after (ms ++ ns) (k + j) o) (moveUp-none k) ∙ ap (λ ns. Reader.after ns (k + j) o) (append-nil ms)
 
 -- another value
 pub ok-pure : {A : Type 0} (x : A) (ms : List Mark) (k : ℕ) → Reader.after ms k (ok x [] 0) ≡ ok x ms k
@@ -152,9 +153,9 @@ same-byte b = record { same = λ s. byCase (startsWith b s) (λ e. rw (expects b
 
 -- marks put in a node
 pub same-wrap : {A B : Type 0} (f : A → B) (kind : ℕ) (o : Out A) (p : Parser B) (s : List ℕ) → Same f o (p s) → Same f (wrap kind o) (in-node kind p s)
-unfolding wrap in-node
-same-wrap f kind (ok x ms k) p s h = rw (h, in-node) refl
-same-wrap f kind (bad e k) p s h = rw (h, in-node) refl
+unfolding wrap
+same-wrap f kind (ok x ms k) p s h = node-fits kind p s h
+same-wrap f kind (bad e k) p s h = node-fails kind p s h
 same-wrap f kind (deep k) p s h = tt
 
 -- a node k bytes on
@@ -174,7 +175,7 @@ inside-node {f} {p} {q} kind h = record { same = λ s. same-wrap f kind (p s) q 
 
 -- all that was read, as a text
 pub same-text : {A : Type 0} (f : Unit {0} → A) (kind : ℕ) (o : Out (Unit {0})) (p : Parser A) (s : List ℕ) → Same f o (p s) → Same (λ k. take k s) (asText kind o) (as-text kind p s)
-unfolding asText as-text
+unfolding asText
 same-text f kind (ok u ms k) p s h = text-fits kind p s h
 same-text f kind (bad e k) p s h = text-fails kind p s h
 same-text f kind (deep k) p s h = tt

@@ -21,7 +21,7 @@ use Rattle.syntax.specs.Pattern.{getPattern}
 use Rattle.syntax.specs.Expression as Reading
 use Rattle.syntax.specs.Expression.{keyText, getVariantKey, needsValue, variantKind, endVariants, needsLineEnd, variantWith, afterStar, turnAfter, variantTurn, getVariants}
 use Rattle.laws.specs.Bytes.{byCase, clash}
-use Rattle.laws.specs.Moving.{moveUp-nil, after-after}
+use Rattle.laws.specs.Moving.{after-after}
 use Rattle.standard.specs.Dialect.{rust, all}
 use Rattle.standard.specs.Peg as Peg
 use Rattle.standard.specs.Peg.{Answer, fits, fails, Parser, many, turns, byte, void, ahead, given, shared, share, withFirst, _/_, _>>_, _>>=_}
@@ -29,12 +29,12 @@ use Rattle.standard.specs.Abstract.{Line}
 use Rattle.standard.specs.Lexical.{Identifier, NumberLiteral, VariantKey, blank?, blank-inline?, blank-block, line-end}
 use Rattle.standard.specs.Grammar as Grammar
 use Rattle.standard.specs.Grammar.{Variant, DefaultVariant, variants, bare-variants, variant-list}
-use Rattle.standard.specs.Steps.{byte-fits, byte-fails, then-fits, then-fails, void-fits, void-fails, second, choice-first, shared-first, node-fits, node-fails, after-fails, after-none, after-skip, next-after, turns-more, turns-end, ahead-fits, ahead-fails, starts-other, starts-apart, Uses, uses-first, uses-byte}
-use Rattle.standard.specs.Blank.{blanks, over, drop-over, no-blanks, no-blank-at, blanks-on, spaces-blanks, eol-blanks, lineEnds, line-end-is, no-line-end, blank-inline?-is, reader-skips, parser-skips, Blanked, Lines, block-lines, ends-spaces}
+use Rattle.standard.specs.Steps.{moveUp-none, byte-fits, byte-fails, then-fits, then-fails, void-fits, void-fails, second, choice-first, shared-first, node-fits, node-fails, after-fails, after-none, after-skip, next-after, turns-more, turns-end, ahead-fits, ahead-fails, starts-other, starts-apart, Uses, uses-first, uses-byte}
+use Rattle.standard.specs.Blank.{behind, blanks, over, drop-over, no-blanks, no-blank-at, blanks-on, spaces-blanks, eol-blanks, lineEnds, line-end-is, no-line-end, blank-inline?-is, reader-skips, parser-skips, Blanked, Lines, block-lines, ends-spaces}
 use Rattle.standard.specs.Same.{Same, nothing, Matches, PatternAgrees, SamePattern, whole-pattern, node-up, same-byte, same-blank, then, reads-then, reads-bind, reads-assoc, reads-skip, ok-pure}
 use Rattle.standard.specs.Near.{isOpening, Near, nearly-near, same-near, near-next, near-first, near-second, near-pick, over-after}
 use Rattle.standard.specs.Words.{no-number, no-name, same-name, number-void}
-use Rattle.standard.specs.Inline.{behind, digit-no-letter}
+use Rattle.standard.specs.Inline.{digit-no-letter}
 
 -- VariantKey ----------------------------------------------------------------------------------------------------------------------------------
 
@@ -63,7 +63,7 @@ unfolding keyText starts startsWith
 key-near [] = name-near [] (no-number 17 [] refl refl)
 key-near (b ∷ bs) = near-pick nothing (b ∷ bs) (isDigit b || eqb b 45) _ _ (key (b ∷ bs))
     (λ e. near-first nothing (b ∷ bs) (getNumberLiteral 17 (b ∷ bs)) (void (NumberLiteral 17)) (void (Identifier 18)) (nearly-near nothing (b ∷ bs) (getNumberLiteral 17 (b ∷ bs)) (void (NumberLiteral 17) (b ∷ bs)) (number-void 17 (b ∷ bs)))
-      (void-fails (Identifier 18) (b ∷ bs) (no-name 18 (b ∷ bs) (no-letter b e))))
+    (void-fails (Identifier 18) (b ∷ bs) (no-name 18 (b ∷ bs) (no-letter b e))))
     (λ e. let (d, m) = neither (isDigit b) (eqb b 45) e in name-near (b ∷ bs) (no-number 17 (b ∷ bs) m d))
 
 key-end : Matches nothing (Reader._>>_ keyText (Reader._>>_ skipBlank (expectByte 93))) (key >> (blank? >> byte 93))
@@ -93,7 +93,7 @@ broken-after s ms k fails h = tt
 
 valued-after : (s : List ℕ) (ms : List Mark) (k : ℕ) (o : Out (Unit {0})) (a : Answer (Unit {0})) → Valued (drop k s) o a → Valued s (Reader.after ms k o) (Peg.after ms k a)
 unfolding Reader.after Peg.after
-valued-after s ms k (ok u ns i) a (j , e , l , h) = (k + j, ap (Peg.after ms k) e, subst (λ r. lineEnds r ≡ true) (drop-drop j k s) l, over-after s k j ∙ ap (λ n. k + n) h ∙ sym (over-after s k i))
+valued-after s ms k (ok u ns i) a (j, e, l, h) = (k + j, ap (Peg.after ms k) e, subst (λ r. lineEnds r ≡ true) (drop-drop j k s) l, over-after s k j ∙ ap (λ n. k + n) h ∙ sym (over-after s k i))
 valued-after s ms k (bad e i) a h = broken-after s ms k a h
 valued-after s ms k (deep i) a h = tt
 
@@ -112,7 +112,7 @@ ends-here : (s : List ℕ) → lineEnds s ≡ true → (q : ℕ) × (pattern-end
 ends-here s e = go (blank-block s) refl (block-lines s (rw (ends-spaces s e) e))
   where
     go : (a : Answer (List Line)) → blank-block s ≡ a → Lines s a → (q : ℕ) × (pattern-end s ≡ fits tt [] q) × Blanked s q
-    go (fits ls ms q) h (m , b) = (q, then-fits (ahead line-end) (void blank-block) s (ahead-fits line-end s (line-end-is s e)) ∙ after-none (void blank-block s) ∙ void-fits blank-block s (h ∙ ap (λ l. fits ls l q) m), b)
+    go (fits ls ms q) h (m, b) = (q, then-fits (ahead line-end) (void blank-block) s (ahead-fits line-end s (line-end-is s e)) ∙ after-none (void blank-block s) ∙ void-fits blank-block s (h ∙ ap (λ l. fits ls l q) m), b)
     go fails h b = absurd b
 
 ends-not : (s : List ℕ) → lineEnds s ≡ false → pattern-end s ≡ fails
@@ -146,8 +146,8 @@ unended-after s ms k fails h = tt
 
 pub ended-after : (s : List ℕ) (ms : List Mark) (k : ℕ) (o : Out (Unit {0})) (a : Answer (Unit {0})) → Ended (drop k s) o a → Ended s (Reader.after ms k o) (Peg.after ms k a)
 unfolding Reader.after Peg.after
-ended-after s ms k (ok u ns i) a (inl (j , e , h)) = inl (k + j, ap (Peg.after ms k) e, over-after s k j ∙ ap (λ n. k + n) h ∙ sym (add-assoc k i (spaces (drop i (drop k s)))) ∙ ap (λ r. k + i + spaces r) (drop-drop i k s))
-ended-after s ms k (ok u ns i) a (inr (e , c)) = inr (after-fails ms k e, subst (λ r. closes r ≡ false) (drop-drop i k s) c)
+ended-after s ms k (ok u ns i) a (inl (j, e, h)) = inl (k + j, ap (Peg.after ms k) e, over-after s k j ∙ ap (λ n. k + n) h ∙ sym (add-assoc k i (spaces (drop i (drop k s)))) ∙ ap (λ r. k + i + spaces r) (drop-drop i k s))
+ended-after s ms k (ok u ns i) a (inr (e, c)) = inr (after-fails ms k e, subst (λ r. closes r ≡ false) (drop-drop i k s) c)
 ended-after s ms k (bad e i) a h = unended-after s ms k a h
 ended-after s ms k (deep i) a h = tt
 
@@ -193,9 +193,9 @@ module _ {sub₁ : Pattern.Inside} {sub₂ : Grammar.Inside} (patterns : Pattern
   unfolding Peg.next Peg.after
   some-valued r ms k (fits u ns j) h = byCase (lineEnds (drop j r))
       (λ l. let (q, f, b) = ends-here (drop j r) l in
-        let m : ns ++ moveUp j [] ≡ ms = cc in
-        let n : j + q ≡ k = cc in
-        (j, ap (λ x. fits tt x j) (sym (ap (λ x. ns ++ x) (moveUp-nil j) ∙ append-nil ns) ∙ m), l, sym (over-blanked r j q b) ∙ ap (over r) n))
+      let m : ns ++ moveUp j [] ≡ ms = cc in
+      let n : j + q ≡ k = cc in
+      (j, ap (λ x. fits tt x j) (sym (ap (λ x. ns ++ x) (moveUp-none j) ∙ append-nil ns) ∙ m), l, sym (over-blanked r j q b) ∙ ap (over r) n))
       (λ l. let z : _≡_ {A = ℕ} 0 1 = cc (ap (Peg.after ns j) (ends-not (drop j r) l)) in absurd (omega arith))
   some-valued r ms k fails h = let z : _≡_ {A = ℕ} 0 1 = cc in absurd (omega arith)
 
@@ -334,7 +334,7 @@ module _ {sub₁ : Pattern.Inside} {sub₂ : Grammar.Inside} (patterns : Pattern
   variant-step : (m n : ℕ) (h : Bool) (s : List ℕ) → More m → lineEnds s ≡ true → length s ≤ suc n → startsWith 91 (behind s) ≡ true → (o : Out (Unit {0})) → Reading.variant sub₁ (behind s) ≡ o
       → Valued (behind s) o (body (behind s)) → Ended s (Reader.after [] (blanks s) (turned m (behind s) (turnOf (variantWith sub₁ false h (behind s))))) (listed h (suc n) s)
   unfolding turnOf variantKind
-  variant-step m n h s ih l i b (ok u ms k) e (j , f , g , o) =
+  variant-step m n h s ih l i b (ok u ms k) e (j, f, g, o) =
       let t = behind s in
       let z : 0 < j = subst Uses f (uses-body t) in
       let d : drop j t ≡ drop (blanks s + j) s = drop-drop j (blanks s) s in
@@ -390,7 +390,7 @@ module _ {sub₁ : Pattern.Inside} {sub₂ : Grammar.Inside} (patterns : Pattern
   default-step : (m n : ℕ) (s : List ℕ) → More m → lineEnds s ≡ true → startsWith 42 (behind s) ≡ true → startsWith 91 (drop 1 (behind s)) ≡ true → (o : Out (Unit {0})) → Reading.variant sub₁ (drop 1 (behind s)) ≡ o
       → Valued (drop 1 (behind s)) o (body (drop 1 (behind s))) → Ended s (Reader.after [] (blanks s) (turned m (behind s) (turnAfter 1 (turnOf (variantWith sub₁ true false (drop 1 (behind s))))))) (listed false n s)
   unfolding turnOf turnAfter variantKind
-  default-step m n s ih l b c (ok u ms k) e (j , f , g , o) =
+  default-step m n s ih l b c (ok u ms k) e (j, f, g, o) =
       let r = drop 1 (behind s) in
       let p = blanks s + (1 + j) in
       let d : drop j r ≡ drop p s = drop-drop j 1 (behind s) ∙ drop-drop (1 + j) (blanks s) s in
@@ -416,7 +416,7 @@ module _ {sub₁ : Pattern.Inside} {sub₂ : Grammar.Inside} (patterns : Pattern
       let r = drop 1 (behind s) in
       let d : r ≡ drop (blanks s + 1) s = drop-drop 1 (blanks s) s in
       let e : listed false n s ≡ bare-star s = listed-star n s l b ∙ second default-on bare-star s (then-fails (DefaultVariant rust sub₂) _ s
-            (default-fails s l (then-fits (byte 42) body (behind s) (byte-fits 42 (behind s) b) ∙ after-fails [] 1 (no-body r c)))) in
+      (default-fails s l (then-fits (byte 42) body (behind s) (byte-fits 42 (behind s) b) ∙ after-fails [] 1 (no-body r c)))) in
       byCase (closes r)
       (λ q. inl (blanks s + 1, e ∙ bare-fits s l b q, ap (λ n. blanks s + 1 + n) (closes-blanks (drop (blanks s + 1) s) (subst (λ x. closes x ≡ true) d q))))
       (λ q. inr (e ∙ bare-fails s l b q, subst (λ x. closes x ≡ false) d q))

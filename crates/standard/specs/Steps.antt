@@ -15,6 +15,11 @@ use Rattle.laws.specs.Bytes.{byCase, clash}
 use Rattle.laws.specs.Moving.{marks-after, moveUp-twice, moveUp-zero}
 use Rattle.standard.specs.Peg.{Answer, fits, fails, Parser, many, some, turns, times, one, byte, withFirst, after, next, pure, _>>=_, _>>_, _/_, opt, void, in-node, as-text, only, never, ahead}
 
+-- no marks
+pub moveUp-none : (k : ℕ) → moveUp k [] ≡ []
+unfolding moveUp
+moveUp-none k = refl
+
 module _ {A B : Type 0} where
   -- sequence
   pub bind-fits : (p : Parser A) (q : A → Parser B) (s : List ℕ) {a : A} {ms : List Mark} {k : ℕ} → p s ≡ fits a ms k → (p >>= q) s ≡ after ms k (q a (drop k s))

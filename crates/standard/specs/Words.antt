@@ -71,7 +71,7 @@ same-digits = record { same = go }
     go [] = void-fails (some (one isDigit)) [] (some-fails (one isDigit) [] (one-fails isDigit [] refl))
     go (b ∷ bs) = byCase (isDigit b)
         (λ e. let z : eqb (run isDigit (b ∷ bs)) 0 ≡ false = rw (e, run) (ne-eqb (suc (run isDigit bs)) 0 (λ y. omega arith)) in
-          rw (z, skipDigits) (void-fits (some (one isDigit)) (b ∷ bs) (some-run isDigit (b ∷ bs) e)))
+        rw (z, skipDigits) (void-fits (some (one isDigit)) (b ∷ bs) (some-run isDigit (b ∷ bs) e)))
         (λ e. rw (e, skipDigits, run) (void-fails (some (one isDigit)) (b ∷ bs) (some-fails (one isDigit) (b ∷ bs) (one-fails isDigit (b ∷ bs) e))))
 
 -- the rest of a number that starts with "."
@@ -212,7 +212,7 @@ unclosed-after s k fails h = tt
 quoted-on : (n : ℕ) (s : List ℕ) (k : ℕ) (o : Out (Unit {0})) → quoted-char rust s ≡ fits tt [] k → 0 < k → Quoted (drop k s) o (turns n (quoted-char rust) (drop k s))
     → Quoted s (Reader.after [] k o) (turns (suc n) (quoted-char rust) s)
 unfolding Reader.after moveUp
-quoted-on n s k (ok u ms j) e z (m , (us , f)) = (ap (map (up k)) m, (tt ∷ us, turns-on n (quoted-char rust) s e z f))
+quoted-on n s k (ok u ms j) e z (m, (us, f)) = (ap (map (up k)) m, (tt ∷ us, turns-on n (quoted-char rust) s e z f))
 quoted-on n s k (bad d j) e z h = rw (turns-more n (quoted-char rust) s e z) (unclosed-after s k (turns n (quoted-char rust) (drop k s)) h)
 quoted-on n s k (deep j) e z h = tt
 
@@ -262,8 +262,8 @@ module _ (m n : ℕ) where
     unfolding skipUnicodeEscapeSequence turnOf Reader.after Peg.after moveUp
     unicode-turn len s e l i z = byCase (eqb (min len (run isHex (drop 2 s))) len)
         (λ q. let h : min len (run isHex (drop 2 s)) ≡ len = eqb-true (min len (run isHex (drop 2 s))) len q in
-          rw (q, turnOf, skipUnicodeEscapeSequence) (rw h (quoted-on n s (2 + len) (loop m stringTurn tt (drop (2 + len) s)) (e ∙ ap (Peg.after [] 2) (times-fits len isHex (drop 2 s) (omega arith))) (omega arith)
-          (more (drop (2 + len) s) (omega (arith, length-drop (2 + len) s))))))
+        rw (q, turnOf, skipUnicodeEscapeSequence) (rw h (quoted-on n s (2 + len) (loop m stringTurn tt (drop (2 + len) s)) (e ∙ ap (Peg.after [] 2) (times-fits len isHex (drop 2 s) (omega arith))) (omega arith)
+        (more (drop (2 + len) s) (omega (arith, length-drop (2 + len) s))))))
         (λ q. rw (q, turnOf, skipUnicodeEscapeSequence) (quoted-bad (suc n) s (e ∙ ap (Peg.after [] 2) (times-fails len isHex (drop 2 s) (omega (arith, eqb-false (min len (run isHex (drop 2 s))) len q)))) z))
 
     escape-turn : {s : List ℕ} → Escape s → length s ≤ n → Quoted (92 ∷ s) (onward (escapeTurn (92 ∷ s) s) (92 ∷ s)) (turns (suc n) (quoted-char rust) (92 ∷ s))
@@ -327,11 +327,11 @@ string-literal s = byCase (startsWith 34 s)
     loops r = unfold repeat many in (string-loop (suc (length r)) (length r) r (omega arith))
 
     go : (r : List ℕ) (o : Out (Unit {0})) (a : Answer (List (Unit {0}))) → many (quoted-char rust) r ≡ a → Quoted r o a → Same formOf (asString (Reader.after [] 1 (Reader.next r (λ _. expectByte 34) o))) (Peg.after [] 1 (rest r))
-    go r (ok u ms k) a e (m , (us , h)) =
-      let t : rest r ≡ Peg.after (textNode 19 0 k) k (end (drop k r)) = then-fits (as-text 19 (many (quoted-char rust))) end r (text-fits 19 (many (quoted-char rust)) r (e ∙ h)) in
-      byCase (startsWith 34 (drop k r))
-      (λ q. rw (expects 34 (drop k r) q, t, then-fits (byte 34) (Peg.pure Abstract.string) (drop k r) (byte-fits 34 (drop k r) q)) (ap (λ n. fits Abstract.string (textNode 19 1 n) (1 + (k + 1))) (omega arith)))
-      (λ q. rw (refuses 34 (drop k r) q, t, then-fails (byte 34) (Peg.pure Abstract.string) (drop k r) (byte-fails 34 (drop k r) q)) refl)
+    go r (ok u ms k) a e (m, (us, h)) =
+        let t : rest r ≡ Peg.after (textNode 19 0 k) k (end (drop k r)) = then-fits (as-text 19 (many (quoted-char rust))) end r (text-fits 19 (many (quoted-char rust)) r (e ∙ h)) in
+        byCase (startsWith 34 (drop k r))
+        (λ q. rw (expects 34 (drop k r) q, t, then-fits (byte 34) (Peg.pure Abstract.string) (drop k r) (byte-fits 34 (drop k r) q)) (ap (λ n. fits Abstract.string (textNode 19 1 n) (1 + (k + 1))) (omega arith)))
+        (λ q. rw (refuses 34 (drop k r) q, t, then-fails (byte 34) (Peg.pure Abstract.string) (drop k r) (byte-fails 34 (drop k r) q)) refl)
     go r (bad d k) (fits us ms j) e h = rw (then-fits (as-text 19 (many (quoted-char rust))) end r (text-fits 19 (many (quoted-char rust)) r e), then-fails (byte 34) (Peg.pure Abstract.string) (drop j r) (byte-fails 34 (drop j r) h)) refl
     go r (bad d k) fails e h = rw (then-fails (as-text 19 (many (quoted-char rust))) end r (text-fails 19 (many (quoted-char rust)) r e)) refl
     go r (deep k) a e h = tt
