@@ -1,19 +1,18 @@
 -- Attributes: the reading's against the grammar's. The reading goes on over the blank lines behind a value, and the grammar stays at the line end.
-use Prim.Native.Nat.{ℕ, zero, suc, _+_, _-_, _≤_, _<_}
-use native.Mathlib.Nat.{not-suc-le-zero, add-assoc, zero-add, add-zero}
+use Prim.Native.Nat.{ℕ, zero, suc, _+_, _<_}
+use native.Mathlib.Nat.{not-suc-le-zero, zero-add, add-zero}
 use native.Mathlib.Omega.{arith}
 use mathlib.Core.Path.{_≡_, refl, sym, ap, ap₂, _∙_, subst}
-use mathlib.Core.Logic.{_⊎_, inl, inr}
-use mathlib.Core.Bool.{Bool, true, false, _&&_, _||_}
+use mathlib.Core.Bool.{Bool, true, false}
 use mathlib.Core.List.{List, [], _∷_, _++_, append-nil}
 use lib.ListN.{drop, take, length, length-drop}
 use lib.Seq.{drop-drop, drop-nil}
-use lib.Dec.{eqb, ltb}
+use lib.Dec.{eqb}
 use Rattle.syntax.specs.Bytes.{startsWith, spaces, eol, run}
-use Rattle.syntax.specs.Marks.{Mark, moveUp, node}
+use Rattle.syntax.specs.Marks.{Mark, moveUp}
 use Rattle.syntax.specs.Reader as Reader
-use Rattle.syntax.specs.Reader.{Out, ok, bad, deep, Reader, wrap, inNode, Turn, again, done, repeat}
-use Rattle.syntax.specs.Helper.{skipBlankInline, skipBlankBlock, expectByte, getIdentifier}
+use Rattle.syntax.specs.Reader.{Out, ok, bad, deep, Reader, wrap, inNode, again, done, repeat}
+use Rattle.syntax.specs.Helper.{skipBlankInline, expectByte, getIdentifier}
 use Rattle.syntax.specs.Pattern as Pattern
 use Rattle.syntax.specs.Pattern.{getPattern}
 use Rattle.syntax.specs.Expression.{needsValue}
@@ -23,13 +22,13 @@ use Rattle.laws.specs.Moving.{moveUp-twice, moveUp-append}
 use Rattle.standard.specs.Dialect as Dialect
 use Rattle.standard.specs.Dialect.{rust}
 use Rattle.standard.specs.Peg as Peg
-use Rattle.standard.specs.Peg.{Answer, fits, fails, Parser, many, some, byte, ahead, void, pick, in-node, withFirst, _>>_}
-use Rattle.standard.specs.Steps.{then-fits, then-fails, void-fits, void-fails, ahead-fits, ahead-fails, after-none, after-skip, after-fails, node-fits, node-fails, byte-fits, byte-fails, Uses, uses-node, uses-rest, uses-first, uses-byte}
+use Rattle.standard.specs.Peg.{Answer, fits, fails, Parser, many, byte, ahead, void, pick, in-node, withFirst, _>>_}
+use Rattle.standard.specs.Steps.{then-fits, then-fails, void-fits, ahead-fits, ahead-fails, after-none, after-skip, node-fits, node-fails, byte-fits, byte-fails, Uses, uses-node, uses-rest, uses-first, uses-byte}
 use Rattle.standard.specs.Abstract.{Line}
 use Rattle.standard.specs.Lexical.{line-end, blank-inline?, blank?, blank-block, Identifier}
 use Rattle.standard.specs.Grammar as Grammar
-use Rattle.standard.specs.Grammar.{Attribute, PatternElement}
-use Rattle.standard.specs.Blank.{isBlankAt, blanks, blanks-on, spaces-blanks, eol-blanks, lineEnds, line-end-is, no-line-end, blank-inline?-is, blank?-is, parser-skips, block-lines, ends-spaces, Lines}
+use Rattle.standard.specs.Grammar.{Attribute}
+use Rattle.standard.specs.Blank.{isBlankAt, blanks, blanks-on, spaces-blanks, eol-blanks, lineEnds, line-end-is, no-line-end, blank-inline?-is, parser-skips, block-lines, ends-spaces, Lines}
 use Rattle.standard.specs.Same.{Same, nothing, Agree, whole-pattern, same-byte, same-blank-inline, node-up}
 use Rattle.standard.specs.Words.{same-name}
 use Rattle.standard.specs.Turns.{Shrinks, AtEnd, repeat-again, repeat-done, many-again, many-none}

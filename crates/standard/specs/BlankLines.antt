@@ -1,19 +1,19 @@
 -- Blank lines in a pattern: the reading takes each as a text, and keeps none by itself.
-use Prim.Native.Nat.{ℕ, zero, suc, _+_, _-_, _≤_, _<_, min}
-use native.Mathlib.Nat.{not-suc-le-zero, add-assoc, zero-add, add-zero}
+use Prim.Native.Nat.{ℕ, zero, suc, _+_, _-_}
+use native.Mathlib.Nat.{add-assoc, zero-add, add-zero}
 use native.Mathlib.Omega.{arith}
 use mathlib.Core.Path.{_≡_, refl, sym, ap, ap₂, _∙_, subst, fun-ext}
-use mathlib.Core.Bool.{Bool, true, false, _&&_, _||_, not}
-use mathlib.Core.List.{List, [], _∷_, _++_}
-use mathlib.Core.Option.{Option, some, none}
-use lib.ListN.{drop, length, take, length-drop}
+use mathlib.Core.Bool.{true, false}
+use mathlib.Core.List.{List, [], _∷_}
+use mathlib.Core.Option.{Option}
+use lib.ListN.{drop}
 use lib.Seq.{drop-drop}
-use lib.Dec.{eqb, ltb}
-use borrow.Author.Tests.{eqb-true, eqb-false}
+use lib.Dec.{eqb}
+use borrow.Author.Tests.{eqb-true}
 use Rattle.syntax.specs.Bytes.{startsWith, spaces, eol, run, all}
-use Rattle.syntax.specs.Marks.{Mark, moveUp}
+use Rattle.syntax.specs.Marks.{moveUp}
 use Rattle.syntax.specs.Reader as Reader
-use Rattle.syntax.specs.Reader.{Out, ok, bad, deep, again, repeat}
+use Rattle.syntax.specs.Reader.{Out, ok, bad, deep, repeat}
 use Rattle.syntax.specs.Pattern as Pattern
 use Rattle.syntax.specs.Pattern.{Inside, lineFeed, crlf, Slice, State, isBlank, isTextByte, isLineStart, roleAfter, isLineFeed, isElement, isContinuation, goesOn, patternTurn, getTextSlice}
 use Rattle.laws.specs.Bytes.{byCase, clash}
@@ -22,7 +22,7 @@ use Rattle.syntax.specs.declared.errors.ParserError.{ParserError}
 use Rattle.syntax.specs.Errors.{upFault}
 use Rattle.syntax.specs.Core.{Error, upError}
 use Rattle.laws.specs.Stable.{Takes}
-use Rattle.standard.specs.Abstract.{Line, Element, joined, cut, width}
+use Rattle.standard.specs.Abstract.{Line, Element, joined, cut}
 use Rattle.standard.specs.Turns.{repeat-again}
 use Rattle.standard.specs.Texts.{Sign, end, lf, cr-lf, opens, closes, plain, sign-of, textRun, isTextAt, sliceAt, slice-is, plain-eol}
 use Rattle.standard.specs.Blocks.{Block, stop, step}

@@ -1,23 +1,23 @@
 -- Blank lines: what the reading skips as a blank block, and the grammar's blank-block.
-use Prim.Native.Nat.{ℕ, zero, suc, _+_, _-_, _≤_, _<_}
+use Prim.Native.Nat.{ℕ, zero, suc, _+_, _≤_, _<_}
 use native.Mathlib.Nat.{not-suc-le-zero, add-assoc, zero-add, add-zero}
 use native.Mathlib.Omega.{arith}
-use mathlib.Core.Path.{_≡_, refl, sym, ap, ap₂, _∙_, subst}
-use mathlib.Core.Bool.{Bool, true, false}
-use mathlib.Core.List.{List, [], _∷_, _++_}
+use mathlib.Core.Path.{_≡_, refl, sym, ap, _∙_, subst}
+use mathlib.Core.Bool.{true, false}
+use mathlib.Core.List.{List, [], _∷_}
 use lib.ListN.{drop, length, length-drop}
 use lib.Seq.{drop-drop}
-use lib.Dec.{eqb, ltb}
-use borrow.Author.Tests.{ltb-true, ltb-false, lt-ltb}
+use lib.Dec.{eqb}
+use borrow.Author.Tests.{lt-ltb}
 use Rattle.syntax.specs.Bytes.{run, spaces, eol, startsWith}
-use Rattle.syntax.specs.Marks.{Mark, moveUp}
+use Rattle.syntax.specs.Marks.{moveUp}
 use Rattle.syntax.specs.Reader as Reader
-use Rattle.syntax.specs.Reader.{Out, ok, again, done, repeat}
+use Rattle.syntax.specs.Reader.{ok, again, done, repeat}
 use Rattle.syntax.specs.Helper.{blockTurn, skipBlankBlock}
-use Rattle.laws.specs.Bytes.{byCase, clash}
+use Rattle.laws.specs.Bytes.{byCase}
 use Rattle.standard.specs.Peg as Peg
-use Rattle.standard.specs.Peg.{Answer, fits, fails, Parser, many, some, withFirst, pure, opt, turns, _>>=_}
-use Rattle.standard.specs.Steps.{bind-fits, bind-fails, some-fits, some-fails}
+use Rattle.standard.specs.Peg.{fits, fails, many, withFirst, pure, opt, turns, _>>=_}
+use Rattle.standard.specs.Steps.{bind-fits, bind-fails}
 use Rattle.standard.specs.Abstract.{Line, width}
 use Rattle.standard.specs.Lexical.{line-end, blank-inline, blank-line, blank-block}
 use Rattle.standard.specs.Blank.{lineEnds, line-end-is, no-line-end, opt-inline}

@@ -1,28 +1,28 @@
 -- Comments: a line of the reading against a CommentLine.
-use Prim.Native.Nat.{ℕ, zero, suc, _+_, _-_, _≤_, _<_, min}
-use native.Mathlib.Nat.{not-suc-le-zero, add-assoc, zero-add, add-zero}
+use Prim.Native.Nat.{ℕ, suc, _+_, _<_, min}
+use native.Mathlib.Nat.{add-assoc, add-zero}
 use native.Mathlib.Omega.{arith}
 use mathlib.Core.Path.{_≡_, refl, sym, ap, ap₂, _∙_, subst}
 use mathlib.Core.Logic.{_⊎_, inl, inr}
-use mathlib.Core.Bool.{Bool, true, false, _&&_, _||_, not}
-use mathlib.Core.List.{List, [], _∷_, _++_, append-nil}
-use lib.ListN.{drop, length, take, length-drop}
+use mathlib.Core.Bool.{true, false}
+use mathlib.Core.List.{List, [], _∷_, append-nil}
+use lib.ListN.{drop}
 use lib.Seq.{drop-drop}
 use lib.Dec.{eqb, ltb, eqb·suc-zero}
-use borrow.Author.Tests.{eqb-true, eqb-false, ltb-true, ltb-false, lt-ltb, le-ltb}
+use borrow.Author.Tests.{eqb-true, eqb-false}
 use Rattle.syntax.specs.Bytes.{startsWith, starts, eol, run}
 use Rattle.syntax.specs.Marks.{Mark, placed, moveUp, textNode}
 use Rattle.syntax.specs.Errors.{upFault, faultAt}
 use Rattle.syntax.specs.declared.errors.ErrorKind.the-variants.{ExpectedToken}
 use Rattle.syntax.specs.declared.errors.ParserError.{ParserError}
 use Rattle.syntax.specs.Reader as Reader
-use Rattle.syntax.specs.Reader.{Out, ok, bad, again, done}
+use Rattle.syntax.specs.Reader.{ok, bad, again, done}
 use Rattle.syntax.specs.Comment.{lineLength, levelOf, lineEndUsed, lineRead, lineTurn, commentTurn}
 use Rattle.laws.specs.Bytes.{byCase, clash}
 use Rattle.standard.specs.Dialect as Dialect
 use Rattle.standard.specs.Dialect.{rust}
 use Rattle.standard.specs.Peg as Peg
-use Rattle.standard.specs.Peg.{Answer, fits, fails, Parser, pure, many, one, byte, bar, void, eof, as-text, given, _but_, _>>=_, _>>_, _/_}
+use Rattle.standard.specs.Peg.{fits, fails, Parser, pure, many, one, byte, bar, void, eof, as-text, given, _but_, _>>_, _/_}
 use Rattle.standard.specs.Steps.{bind-fits, bind-fails, then-fits, then-fails, first, second, void-fits, void-fails, text-fits, byte-fits, byte-fails, units}
 use Rattle.standard.specs.Abstract as Abstract
 use Rattle.standard.specs.Abstract.{A1, empty-line}

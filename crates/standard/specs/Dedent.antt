@@ -1,27 +1,25 @@
 -- Dedent, joining and trimming: the reading's elements against those that the rules A4 to A7 make of raw elements.
-use Prim.Native.Nat.{ℕ, zero, suc, _+_, _-_, _≤_, _<_, min}
-use native.Mathlib.Nat.{not-suc-le-zero, add-assoc, zero-add, add-zero}
-use native.Mathlib.Numerals.{add-one}
+use Prim.Native.Nat.{ℕ, zero, suc, _+_, _-_, _≤_, _<_}
+use native.Mathlib.Nat.{add-assoc, add-zero}
 use native.Mathlib.Omega.{arith}
-use mathlib.Core.Path.{_≡_, refl, sym, ap, ap₂, _∙_, subst}
-use mathlib.Core.Bool.{Bool, true, false, _&&_, _||_, not}
+use mathlib.Core.Path.{_≡_, refl, sym, ap, _∙_}
+use mathlib.Core.Bool.{Bool, true, false, _&&_, _||_}
 use mathlib.Core.List.{List, [], _∷_, _++_, append-nil, append-assoc}
 use mathlib.Core.Option.{Option, some, none}
-use lib.ListN.{drop, length, take, length-drop, length-take, length-append}
-use lib.Seq.{drop-drop}
-use lib.Dec.{eqb, ltb, eqb·suc-zero}
+use lib.ListN.{drop, length, take, length-append}
+use lib.Dec.{eqb, eqb·suc-zero}
 use borrow.Author.Tests.{eqb-true, eqb-false, eq-eqb, ne-eqb}
 use Rattle.syntax.specs.Bytes.{all}
 use Rattle.syntax.specs.Marks.{Mark, moveUp, node, textNode}
 use Rattle.syntax.specs.Pattern as Pattern
 use Rattle.syntax.specs.Pattern.{State, placeable, text, textMarks}
 use Rattle.laws.specs.Bytes.{byCase, clash}
-use Rattle.laws.specs.Moving.{moveUp-append, moveUp-twice}
+use Rattle.laws.specs.Moving.{moveUp-append}
 use Rattle.standard.specs.Dialect as Dialect
 use Rattle.standard.specs.Dialect.{rust}
 use Rattle.standard.specs.Abstract as Abstract
 use Rattle.standard.specs.Blocks.{Ended}
-use Rattle.standard.specs.Abstract.{Line, Raw, Span, Piece, span, feed, inner, cut, dedented, Element, joined, nested, A5, A6, A7, onto, touches, isSpace, isTrimmed, bytesOf, trimSpan, trimSpans, onlySpaces, trimText, trimLast, furtherMarks}
+use Rattle.standard.specs.Abstract.{Line, Span, Piece, span, feed, cut, dedented, Element, joined, nested, A5, A6, A7, onto, touches, isSpace, isTrimmed, bytesOf, trimSpan, trimSpans, onlySpaces, trimText, trimLast, furtherMarks}
 
 -- Trimming ------------------------------------------------------------------------------------------------------------------------------------
 
@@ -253,6 +251,3 @@ module _ (src : List ℕ) (k₀ : ℕ) where
     live = λ {st′} {es} h. live-one st st₁ st′ x e es q m h;
     idle = λ h. record { count = 0; added = x ∷ h .added; elements = h .elements ∙ ap (λ z. z ++ h .added) q ∙ append-assoc (st .elements) (x ∷ []) (h .added); kept = h .kept ∙ k ∙ omega arith; shown = λ c. s c (h .added) };
   }
-
-  pub keeps-then : (st st₁ st₂ : State) (f g : Option ℕ → List Element → List Element) (last : Option ℕ → List Element) → Keeps st st₁ f last → Passed st₁ st₂ g → Keeps st st₂ (λ c es. f c (g c es)) last
-  keeps-then st st₁ st₂ f g last p q = record { live = λ h. p .live (q .live h); idle = λ h. p .idle (q .idle h) }

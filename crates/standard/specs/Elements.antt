@@ -1,14 +1,14 @@
 -- The elements of a pattern, by what stands where each starts.
-use Prim.Native.Nat.{ℕ, zero, suc, _+_, _-_, _≤_, _<_}
-use native.Mathlib.Nat.{not-suc-le-zero, add-assoc, zero-add, add-zero}
+use Prim.Native.Nat.{ℕ, zero, suc, _+_, _<_}
+use native.Mathlib.Nat.{add-assoc, add-zero}
 use native.Mathlib.Omega.{arith}
-use mathlib.Core.Path.{_≡_, refl, sym, ap, ap₂, _∙_, subst}
-use mathlib.Core.Bool.{Bool, true, false, _&&_, _||_, not}
-use mathlib.Core.List.{List, [], _∷_, _++_, append-assoc}
-use lib.ListN.{drop, length, take}
+use mathlib.Core.Path.{_≡_, refl, sym, ap, _∙_, subst}
+use mathlib.Core.Bool.{true, false, _&&_}
+use mathlib.Core.List.{List, [], _∷_, _++_}
+use lib.ListN.{drop}
 use lib.Seq.{drop-drop}
-use lib.Dec.{eqb, ltb, eqb·suc-zero}
-use borrow.Author.Tests.{eqb-true, eqb-false}
+use lib.Dec.{eqb, eqb·suc-zero}
+use borrow.Author.Tests.{eqb-true}
 use Rattle.syntax.specs.Bytes.{startsWith, starts, spaces, eol, run}
 use Rattle.syntax.specs.Marks.{Mark, moveUp}
 use Rattle.syntax.specs.Pattern.{goesOn, isContinuation, isTextByte}
@@ -17,10 +17,9 @@ use Rattle.standard.specs.Dialect as Dialect
 use Rattle.standard.specs.Dialect.{rust}
 use Rattle.standard.specs.Peg as Peg
 use Rattle.standard.specs.Peg.{Answer, fits, fails, Parser, many, some, withFirst, pure, opt, _>>=_, _>>_, _/_, ahead, bar, void, given, sized, byte, one, eof, _but_}
-use Rattle.standard.specs.Steps.{bind-fits, bind-fails, then-fits, then-fails, first, second, some-fails, void-fits, byte-fits, byte-fails, opt-fits, opt-fails, after-fails, ahead-fits, ahead-fails}
+use Rattle.standard.specs.Steps.{bind-fits, bind-fails, then-fits, then-fails, first, second, some-fails, void-fits, byte-fits, byte-fails, opt-fits, opt-fails, ahead-fits, ahead-fails}
 use Rattle.standard.specs.Abstract.{Line, Raw, text, lines, indent, brace-indent, placeable}
 use Rattle.standard.specs.Lexical.{line-end, blank-inline, blank-inline?, blank-line, blank-block, any-char, special-text-char, text-char, indented-char, inline-text, indented-text, cr-text, block-brace}
-use Rattle.standard.specs.Grammar as Grammar
 use Rattle.standard.specs.Grammar.{Inside, rawPlaceable, flat, block-text, raw-placeable, block-placeable, PatternElement}
 use Rattle.standard.specs.Blank.{lineEnds, line-end-is, no-line-end, opt-inline, blank-inline?-is}
 use Rattle.standard.specs.Turns.{AtEnd, many-again, many-none, sized-fits, sized-fails, bar-fits, bar-fails}

@@ -1,29 +1,26 @@
 -- What the state of the reading's pattern loop grows by, against the raw elements of the grammar: a placeable, a text with what follows it, blank lines.
-use Prim.Native.Nat.{ℕ, zero, suc, _+_, _-_, _≤_, _<_, min}
-use native.Mathlib.Nat.{not-suc-le-zero, add-assoc, zero-add, add-zero}
-use native.Mathlib.Numerals.{add-one}
+use Prim.Native.Nat.{ℕ, suc, _+_, _-_, _≤_, _<_, min}
 use native.Mathlib.Omega.{arith}
-use mathlib.Core.Path.{_≡_, refl, sym, ap, ap₂, _∙_, subst}
+use mathlib.Core.Path.{_≡_, refl, sym, ap, ap₂, _∙_}
 use mathlib.Core.Logic.{_⊎_, inl, inr}
-use mathlib.Core.Bool.{Bool, true, false, _&&_, _||_, not}
-use mathlib.Core.List.{List, [], _∷_, _++_, append-nil, append-assoc}
+use mathlib.Core.Bool.{Bool, true, false}
+use mathlib.Core.List.{List, [], _∷_, _++_}
 use mathlib.Core.Option.{Option, some, none}
-use lib.ListN.{drop, length, take, length-drop, length-take, length-append}
-use lib.Seq.{drop-drop, take-add, take-take}
-use lib.Dec.{eqb, ltb, eqb·suc-zero}
-use borrow.Author.Tests.{eqb-true, eqb-false, eq-eqb, ne-eqb}
+use lib.ListN.{drop, length, take}
+use lib.Seq.{drop-drop, take-add}
+use borrow.Author.Tests.{eq-eqb, ne-eqb}
 use Rattle.syntax.specs.Bytes.{all}
-use Rattle.syntax.specs.Marks.{Mark, plain, moveUp, node}
+use Rattle.syntax.specs.Marks.{Mark, moveUp, node}
 use Rattle.syntax.specs.Pattern as Pattern
-use Rattle.syntax.specs.Pattern.{State, Slice, isLineStart, isBlank, leastIndent}
-use Rattle.laws.specs.Bytes.{byCase, clash}
-use Rattle.laws.specs.Moving.{moveUp-append, moveUp-twice}
+use Rattle.syntax.specs.Pattern.{State, leastIndent}
+use Rattle.laws.specs.Bytes.{byCase}
+use Rattle.laws.specs.Moving.{moveUp-twice}
 use Rattle.standard.specs.Dialect as Dialect
 use Rattle.standard.specs.Dialect.{rust}
-use Rattle.standard.specs.Abstract as Abstract
-use Rattle.standard.specs.Abstract.{Line, Raw, text, lines, indent, brace-indent, placeable, least, common, cut, dedented, pieces, width, Element, joined, nested, Span, A5, A6, A7, onto, isSpace, bytesOf, trimLast}
+use Rattle.standard.specs.Abstract.{Line, Raw, text, lines, indent, brace-indent, placeable, least, common, cut, dedented, pieces, width, Element, joined, nested, A6, A7, onto, isSpace, bytesOf, trimLast}
+use Rattle.standard.specs.Same.{node-up}
 use Rattle.standard.specs.Blocks.{Ended}
-use Rattle.standard.specs.Dedent.{run-of, onto-touch, onto-apart, A6-span, A6-two, A6-lines, feeds, feedFrom, Shown, Match, shown-text, shown-placeable, trim-blank, Live, Idle, idle-same, Passed, Keeps, passed-none, passed-one, passed-then, keeps-one, live-one, trimmed-feed, cut-within}
+use Rattle.standard.specs.Dedent.{run-of, onto-touch, onto-apart, A6-span, A6-two, A6-lines, feeds, feedFrom, Shown, Match, shown-text, shown-placeable, trim-blank, Live, Idle, Passed, Keeps, passed-one, keeps-one, trimmed-feed, cut-within}
 
 -- The common indent ---------------------------------------------------------------------------------------------------------------------------
 
@@ -150,10 +147,6 @@ unfolding all
 all-append [] y h = h
 all-append (b ∷ x) y h = byCase (isSpace b) (λ q. rw (q, all-append x y h) refl) (λ q. rw q refl)
 
-pub moveUp-node : (n k : ℕ) (ms : List Mark) → moveUp n (node k ms) ≡ node k (moveUp n ms)
-unfolding moveUp node
-moveUp-node n k ms = ap (λ r. plain k ∷ r) (unfold moveUp in moveUp-append n ms (plain (100 + k) ∷ []))
-
 module _ (src : List ℕ) (k₀ : ℕ) where
   -- the bytes of a text that is not blank, with some of its indent
   wider : (a b m : ℕ) → a ≤ b → all isSpace (take m (drop (k₀ + b) src)) ≡ false → all isSpace (bytesOf (drop k₀ src) (run-of a (b + m))) ≡ false
@@ -199,7 +192,7 @@ module _ (src : List ℕ) (k₀ : ℕ) where
   -- Placeables --------------------------------------------------------------------------------------------------------------------------------
 
   place-marks : (used p : ℕ) (ms : List Mark) → used ≡ k₀ + p → node 13 (moveUp used ms) ≡ moveUp k₀ (moveUp p (node 13 ms))
-  place-marks used p ms q = rw q (sym (moveUp-twice k₀ p (node 13 ms) ∙ moveUp-node (k₀ + p) 13 ms))
+  place-marks used p ms q = rw q (sym (moveUp-twice k₀ p (node 13 ms) ∙ node-up (k₀ + p) 13 ms))
 
   pub place-keeps : (st st₁ : State) (p : ℕ) (ms : List Mark) (fs : Option ℕ → List Element) → st .used ≡ k₀ + p → st₁ .elements ≡ st .elements ++ (Pattern.placeable (moveUp (st .used) ms) ∷ []) → st₁ .kept ≡ suc (length (st .elements))
       → ((c : Option ℕ) → A7 rust (drop k₀ src) (fs c) ≡ []) → Keeps src k₀ st st₁ (λ c es. nested (moveUp p (node 13 ms)) ∷ es) (λ c. nested (moveUp p (node 13 ms)) ∷ fs c)

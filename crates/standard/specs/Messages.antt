@@ -1,15 +1,15 @@
 -- Messages and terms: the reading's against the grammar's, with the line end and the blank lines behind them.
-use Prim.Native.Nat.{ℕ, zero, suc, _+_, _-_, _≤_, _<_}
-use native.Mathlib.Nat.{not-suc-le-zero, add-assoc, zero-add, add-zero}
+use Prim.Native.Nat.{ℕ, zero, suc, _+_}
+use native.Mathlib.Nat.{zero-add, add-zero}
 use native.Mathlib.Omega.{arith}
 use mathlib.Core.Path.{_≡_, refl, sym, ap, ap₂, _∙_, subst, fun-ext}
 use mathlib.Core.Bool.{Bool, true, false, _||_, not}
-use mathlib.Core.List.{List, [], _∷_, _++_, append-nil, append-assoc}
-use lib.ListN.{drop, take, length, length-drop}
+use mathlib.Core.List.{List, [], _∷_, _++_, append-nil}
+use lib.ListN.{drop, take, length}
 use lib.Seq.{drop-drop}
-use lib.Dec.{eqb, eqb·suc-zero}
+use lib.Dec.{eqb}
 use borrow.Author.Tests.{eqb-true, eq-eqb, ne-eqb}
-use Rattle.syntax.specs.Bytes.{startsWith, spaces, eol, run}
+use Rattle.syntax.specs.Bytes.{startsWith, spaces, eol}
 use Rattle.syntax.specs.Marks.{Mark, moveUp}
 use Rattle.syntax.specs.Reader as Reader
 use Rattle.syntax.specs.Reader.{Out, ok, bad, deep, Reader}
@@ -19,12 +19,12 @@ use Rattle.syntax.specs.Pattern.{getPattern, goesOn, isContinuation}
 use Rattle.syntax.specs.Core as Core
 use Rattle.syntax.specs.Core.{getAttributes, Fields, fields, termFields, asMessage, asTerm}
 use Rattle.laws.specs.Bytes.{byCase, clash}
-use Rattle.laws.specs.Moving.{moveUp-twice, moveUp-append, moveUp-zero, moveUp-nil}
+use Rattle.laws.specs.Moving.{moveUp-twice, moveUp-append, moveUp-nil}
 use Rattle.standard.specs.Dialect as Dialect
 use Rattle.standard.specs.Dialect.{rust}
 use Rattle.standard.specs.Peg as Peg
 use Rattle.standard.specs.Peg.{Answer, fits, fails, Parser, pure, many, some, byte, opt, withFirst, void, pick, _>>=_, _>>_, _/_}
-use Rattle.standard.specs.Steps.{bind-fits, bind-fails, then-fits, then-fails, first, second, opt-fits, opt-fails, void-fits, void-fails, some-fits, some-fails, after-none, after-skip, next-after, Uses}
+use Rattle.standard.specs.Steps.{bind-fits, bind-fails, then-fits, then-fails, first, second, opt-fits, opt-fails, void-fits, void-fails, some-fits, some-fails, next-after, Uses}
 use Rattle.standard.specs.Abstract as Abstract
 use Rattle.standard.specs.Abstract.{Line}
 use Rattle.standard.specs.Lexical.{line-end, blank-inline?, blank-line, blank-block, Identifier}
@@ -34,9 +34,9 @@ use Rattle.standard.specs.Blank.{isBlankAt, blanks, lineEnds, line-end-i
 use Rattle.standard.specs.Same.{Same, nothing, Agree, whole-pattern, same-byte, same-blank-inline, reads-then, fits-pure}
 use Rattle.standard.specs.Words.{same-name}
 use Rattle.standard.specs.BlankLines.{after-zero}
-use Rattle.standard.specs.Turns.{AtEnd, Plain, many-plain, many-again, many-none, many-still, some-many}
-use Rattle.standard.specs.Blocks.{Block, stop, block-of, block-stops, skip-block, line-fits, line-fails, line-at-end, lf-block, crlf-block}
-use Rattle.standard.specs.Elements.{onward, behind, onLine, lineTail, line-off-tail, goesOn-suc, closing, tail, tail-lf, tail-crlf}
+use Rattle.standard.specs.Turns.{Plain, many-plain, many-again, many-none, many-still, some-many}
+use Rattle.standard.specs.Blocks.{stop, block-of, skip-block, line-fits, line-at-end}
+use Rattle.standard.specs.Elements.{onward, behind, onLine, lineTail, line-off-tail, goesOn-suc, tail, tail-lf, tail-crlf}
 use Rattle.standard.specs.Texts.{Sign, end, lf, cr-lf, opens, closes, plain, sign-of, plain-eol}
 use Rattle.standard.specs.WholePattern.{Whole, whole-agrees, line-plain}
 use Rattle.standard.specs.Attributes.{Gap, gap-of, block-blanks, closing-gap, Value, value-of, fit, broken, missing, Attrs, attributes-agree, attribute-uses, attribute-not, attribute-off, no-attribute}

@@ -1,39 +1,38 @@
 -- Patterns: the reading's loop and the grammar's elements give the same marks and end at the same place.
-use Prim.Native.Nat.{ℕ, zero, suc, _+_, _-_, _≤_, _<_, min}
+use Prim.Native.Nat.{ℕ, zero, suc, _+_, _≤_, _<_}
 use native.Mathlib.Nat.{not-suc-le-zero, add-assoc, zero-add, add-zero}
 use native.Mathlib.Omega.{arith}
-use mathlib.Core.Path.{_≡_, refl, sym, ap, ap₂, _∙_, subst}
+use mathlib.Core.Path.{_≡_, refl, sym, ap, _∙_, subst}
 use mathlib.Core.Logic.{_⊎_, inl, inr}
-use mathlib.Core.Bool.{Bool, true, false, _&&_, _||_, not}
+use mathlib.Core.Bool.{Bool, true, false, _||_, not}
 use mathlib.Core.List.{List, [], _∷_, _++_}
-use mathlib.Core.Option.{Option, some, none}
+use mathlib.Core.Option.{Option, some}
 use lib.ListN.{drop, length, take, length-drop}
 use lib.Seq.{drop-drop}
-use lib.Dec.{eqb, ltb, eqb·suc-zero}
-use borrow.Author.Tests.{eqb-true, eqb-false}
+use lib.Dec.{eqb, eqb·suc-zero}
+use borrow.Author.Tests.{eqb-true}
 use Rattle.syntax.specs.Bytes.{startsWith, spaces, eol, run, all}
 use Rattle.syntax.specs.Marks.{Mark, moveUp, node}
 use Rattle.syntax.specs.Reader as Reader
-use Rattle.syntax.specs.Reader.{Out, ok, bad, deep, wrap, again, done, repeat}
+use Rattle.syntax.specs.Reader.{Out, ok, bad, deep, wrap, again, repeat}
 use Rattle.syntax.specs.Pattern as Pattern
-use Rattle.syntax.specs.Pattern.{State, Slice, continuation, lineFeed, crlf, placeableStart, eof, isLineStart, isBlank, isTextByte, isElement, isLineFeed, roleAfter, leastIndent, withPlaceable, withText, goesOn, isContinuation, patternTurn, getTextSlice}
+use Rattle.syntax.specs.Pattern.{State, Slice, continuation, lineFeed, crlf, placeableStart, eof, isLineStart, isBlank, isTextByte, isElement, roleAfter, withPlaceable, withText, goesOn, isContinuation, patternTurn, getTextSlice}
 use Rattle.laws.specs.Bytes.{byCase, clash}
 use Rattle.laws.specs.Moving.{after-after}
 use Rattle.laws.specs.Stable.{Takes}
 use Rattle.standard.specs.Dialect as Dialect
 use Rattle.standard.specs.Dialect.{rust}
 use Rattle.standard.specs.Peg.{Answer, fits, fails}
-use Rattle.standard.specs.Abstract.{Line, Raw, text, lines, indent, brace-indent, placeable, common, least, width, Element, joined, isSpace, cut, onto}
+use Rattle.standard.specs.Abstract.{Line, Raw, text, lines, indent, brace-indent, placeable, common, width, Element, joined, isSpace, onto}
 use Rattle.standard.specs.Lexical.{blank-block}
 use Rattle.standard.specs.Grammar as Grammar
-use Rattle.standard.specs.Grammar.{PatternElement}
 use Rattle.standard.specs.Blank.{lineEnds}
 use Rattle.standard.specs.Same.{Same, nothing, Agree}
 use Rattle.standard.specs.Turns.{repeat-again, repeat-done}
 use Rattle.standard.specs.Texts.{Sign, end, lf, cr-lf, opens, closes, plain, sign-of, isTextAt, textRun, run-plain, run-over, sliceAt, slice-is}
-use Rattle.standard.specs.Blocks.{Block, step, block-of, block-stops, block-ended, block-width, Ended, lf-block, crlf-block}
-use Rattle.standard.specs.Dedent.{run-of, feeds, feedFrom, Live, Idle, idle-same, Passed, passed-one, passed-none, passed-then}
-use Rattle.standard.specs.Elements.{onward, closing, closed, braceLine, tail, onLine, lineTail, behind, closing-fails, element-text, element-placeable, element-none, tail-again, tail-none, tail-nil, tail-close, tail-lf, tail-crlf, block-fails, line-end-tail, line-on-tail, line-off-tail, goesOn-suc, run-on}
+use Rattle.standard.specs.Blocks.{block-of, block-stops, block-ended, block-width, Ended, lf-block}
+use Rattle.standard.specs.Dedent.{run-of, feeds, Live, Idle, idle-same, Passed, passed-one, passed-none, passed-then}
+use Rattle.standard.specs.Elements.{onward, closed, braceLine, tail, onLine, lineTail, behind, closing-fails, element-text, element-placeable, element-none, tail-again, tail-none, tail-nil, tail-close, tail-lf, tail-crlf, block-fails, line-end-tail, line-on-tail, line-off-tail, goesOn-suc, run-on}
 use Rattle.standard.specs.PatternTurns.{textState, text-again, is-element, text-elements, text-kept, text-common, blank-kept, inline-common, blank-common, turn-brace, turn-nil, turn-text, turn-end, turn-off, turn-on, turn-shrinks}
 use Rattle.standard.specs.Growth.{both, both-none, both-least, both-zero, made, made-brace, onto-lf, onto-later, feeds-lf, feeds-crlf, fromAt, textRaws, Indented, Content, Line-content, Common, live-as, place-grows, Text-step, text-step, text-last, text-brace, text-lines, lines-grow}
 use Rattle.standard.specs.BlankLines.{Blanked, block-passes, no-brace-first, feedSlice, crSlice, slice-lf, slice-crlf}

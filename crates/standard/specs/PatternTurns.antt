@@ -1,23 +1,20 @@
 -- The turns of the reading's pattern loop, by what stands where each starts.
-use Prim.Native.Nat.{ℕ, zero, suc, _+_, _-_, _≤_, _<_, min}
-use native.Mathlib.Nat.{not-suc-le-zero, add-assoc, zero-add, add-zero}
+use Prim.Native.Nat.{ℕ, zero, suc, _+_, _<_}
+use native.Mathlib.Nat.{not-suc-le-zero}
 use native.Mathlib.Omega.{arith}
-use mathlib.Core.Path.{_≡_, refl, sym, ap, ap₂, _∙_, subst}
+use mathlib.Core.Path.{_≡_, refl, ap, _∙_}
 use mathlib.Core.Bool.{Bool, true, false, _&&_, _||_, not}
 use mathlib.Core.List.{List, [], _∷_, _++_}
-use mathlib.Core.Option.{Option, some, none}
 use lib.ListN.{drop, length, take, length-drop}
-use lib.Seq.{drop-drop}
-use lib.Dec.{eqb, ltb, eqb·suc-zero}
-use borrow.Author.Tests.{eqb-true, eqb-false, lt-ltb}
-use Rattle.syntax.specs.Bytes.{startsWith, spaces, eol, run, all}
-use Rattle.syntax.specs.Marks.{Mark, moveUp}
-use Rattle.syntax.specs.Reader.{Out, ok, bad, deep, Turn, again, done}
-use Rattle.syntax.specs.Pattern.{Inside, Ending, lineFeed, crlf, placeableStart, eof, Role, lineStart, continuation, Slice, isBlank, getTextSlice, Element, text, State, isLineStart, roleAfter, isLineFeed, leastIndent, isContinuation, withPlaceable, commonAfter, isElement, withText, goesOn, lineTurn, textTurn, patternTurn}
+use lib.Dec.{eqb, ltb}
+use borrow.Author.Tests.{eqb-false, lt-ltb}
+use Rattle.syntax.specs.Bytes.{startsWith, spaces}
+use Rattle.syntax.specs.Marks.{Mark}
+use Rattle.syntax.specs.Reader.{Out, ok, bad, deep, again, done}
+use Rattle.syntax.specs.Pattern.{Inside, Slice, isBlank, getTextSlice, text, State, isLineStart, roleAfter, isLineFeed, leastIndent, withPlaceable, commonAfter, isElement, withText, goesOn, lineTurn, textTurn, patternTurn}
 use Rattle.laws.specs.Bytes.{byCase, clash}
 use Rattle.laws.specs.Stable.{Holds, Takes}
-use Rattle.standard.specs.Texts.{Sign, end, lf, cr-lf, opens, closes, plain, sign-of, textRun, run-plain, run-over, sliceAt, slice-is, isTextAt}
-use Rattle.syntax.specs.Pattern.{isTextByte}
+use Rattle.standard.specs.Texts.{Sign, end, lf, cr-lf, opens, closes, plain, sign-of, textRun, sliceAt, slice-is}
 use Rattle.standard.specs.Turns.{Shrinks}
 
 -- the state behind a text with its indent i, k bytes used

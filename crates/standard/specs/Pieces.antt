@@ -1,27 +1,24 @@
 -- The pieces of a resource: entries, blank lines and junk, against the reading's entries.
-use Prim.Native.Nat.{ℕ, zero, suc, _+_, _-_, _≤_, _<_}
-use native.Mathlib.Nat.{not-suc-le-zero, add-assoc, zero-add, add-zero}
+use Prim.Native.Nat.{ℕ, zero, suc, _+_, _<_}
 use native.Mathlib.Omega.{arith}
-use mathlib.Core.Path.{_≡_, refl, sym, ap, ap₂, _∙_, subst}
+use mathlib.Core.Path.{_≡_, refl, sym, ap, _∙_}
 use mathlib.Core.Logic.{_⊎_, inl, inr}
-use mathlib.Core.Bool.{Bool, true, false, _&&_, _||_, not}
-use mathlib.Core.List.{List, [], _∷_, _++_, append-nil}
-use lib.ListN.{drop, length, length-drop}
-use lib.Seq.{drop-drop}
-use lib.Dec.{eqb, ltb, eqb·suc-zero}
-use borrow.Author.Tests.{eqb-true, eqb-false, ne-eqb}
+use mathlib.Core.Bool.{Bool, true, false, _&&_}
+use mathlib.Core.List.{List, [], _∷_}
+use lib.ListN.{drop}
+use lib.Dec.{eqb}
+use borrow.Author.Tests.{eqb-true}
 use Rattle.syntax.specs.Bytes.{startsWith, starts, spaces, eol, run, isLetter}
 use Rattle.syntax.specs.Marks.{Mark, moveUp, textNode}
 use Rattle.syntax.specs.declared.errors.ParserError.{ParserError}
 use Rattle.syntax.specs.Reader.{Out, ok, bad, deep}
 use Rattle.syntax.specs.Expression.{level}
 use Rattle.syntax.specs.Core as Core
-use Rattle.syntax.specs.Core.{asMessage, asTerm, fields, termFields, getEntry, junkEnd, toNextEntry, lineStartsAt}
-use Rattle.laws.specs.Bytes.{byCase, clash}
+use Rattle.syntax.specs.Core.{asMessage, asTerm, fields, termFields, getEntry, junkEnd, toNextEntry}
+use Rattle.laws.specs.Bytes.{byCase}
 use Rattle.syntax.specs.declared.errors.ErrorKind.the-variants.{ExpectedCharRange}
 use Rattle.syntax.specs.Reader as Reader
 use Rattle.syntax.specs.Helper.{getIdentifier}
-use Rattle.laws.specs.Progress.{ok-moves, bad-moves}
 use Rattle.standard.specs.Dialect as Dialect
 use Rattle.standard.specs.Dialect.{rust}
 use Rattle.standard.specs.Peg as Peg
@@ -30,7 +27,6 @@ use Rattle.standard.specs.Steps.{then-fits, then-fails, first, second, b
 use Rattle.standard.specs.Abstract as Abstract
 use Rattle.standard.specs.Abstract.{Item, Part, Line, A2, A3}
 use Rattle.standard.specs.Lexical.{blank-inline?, Identifier, junk-lines}
-use Rattle.standard.specs.Grammar as Grammar
 use Rattle.standard.specs.Grammar.{nesting, Message, Term, entry-end, CommentLine, Entry, blank-lines, swallowing-junk, Junk, piece, part, asPart, treeOf, ResourceWithin}
 use Rattle.standard.specs.Blank.{blank-inline?-is}
 use Rattle.standard.specs.Same.{Same, Agree, fits-pure}

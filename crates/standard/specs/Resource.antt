@@ -1,42 +1,42 @@
 -- Resources: the parts of a source against the entries of the reading, given that placeables agree.
-use Prim.Native.Nat.{ℕ, zero, suc, _+_, _-_, _≤_, _<_}
-use native.Mathlib.Nat.{not-suc-le-zero, add-assoc, zero-add, add-zero}
+use Prim.Native.Nat.{ℕ, zero, suc, _+_, _-_, _<_}
+use native.Mathlib.Nat.{not-suc-le-zero, add-zero}
 use native.Mathlib.Omega.{arith}
 use mathlib.Core.Path.{_≡_, refl, sym, ap, ap₂, _∙_, subst}
 use mathlib.Core.Logic.{_⊎_, inl, inr}
 use mathlib.Core.Bool.{Bool, true, false, _&&_, _||_, not}
-use mathlib.Core.List.{List, [], _∷_, _++_, append-nil}
+use mathlib.Core.List.{List, [], _∷_, _++_}
 use lib.ListN.{drop, length, length-drop}
 use lib.Seq.{drop-drop}
 use lib.Dec.{eqb, ltb, eqb·suc-zero}
 use borrow.Author.Tests.{eqb-true, eqb-false, ne-eqb, eq-eqb, le-ltb}
-use Rattle.syntax.specs.Bytes.{startsWith, starts, spaces, eol, run, isLetter}
+use Rattle.syntax.specs.Bytes.{startsWith, spaces, eol, run}
 use Rattle.syntax.specs.Marks.{Mark, moveUp, node, textNode}
 use Rattle.syntax.specs.declared.errors.ParserError.{ParserError}
 use Rattle.syntax.specs.Reader as Reader
 use Rattle.syntax.specs.Reader.{Out, ok, bad, deep, again, done, repeat}
 use Rattle.syntax.specs.Helper.{skipBlankBlock}
-use Rattle.syntax.specs.Comment.{levelOf, lineEndUsed, lineTurn, commentTurn, getComment}
+use Rattle.syntax.specs.Comment.{levelOf, lineEndUsed, commentTurn, getComment}
 use Rattle.syntax.specs.Pattern.{usedBy}
 use Rattle.syntax.specs.Expression.{level}
 use Rattle.syntax.specs.Core as Core
-use Rattle.syntax.specs.Core.{asComment, asMessage, asTerm, fields, termFields, getEntry, junkEnd, Error, Reading, read, refused, following, isNamed, count, kindOfEntry, entries, parse}
+use Rattle.syntax.specs.Core.{asComment, asMessage, asTerm, fields, termFields, getEntry, junkEnd, Error, Reading, read, refused, following, isNamed, kindOfEntry, entries, parse}
 use Rattle.laws.specs.Bytes.{byCase, clash}
-use Rattle.laws.specs.Moving.{moveUp-twice, moveUp-zero, moveUp-append}
-use Rattle.laws.specs.Entries.{following-read, entries-with, not-deep, nil-entry, nil-named, entry-comment}
+use Rattle.laws.specs.Moving.{moveUp-twice, moveUp-zero}
+use Rattle.laws.specs.Entries.{entries-with, not-deep, nil-entry, nil-named, entry-comment}
 use Rattle.laws.specs.Progress.{ok-moves, bad-moves}
 use Rattle.standard.specs.Dialect.{rust}
-use Rattle.standard.specs.Peg.{Answer, fits, fails}
+use Rattle.standard.specs.Peg.{fits, fails}
 use Rattle.standard.specs.Abstract as Abstract
 use Rattle.standard.specs.Abstract.{Item, Part, Line, A2, A3, beside, namedFirst, partMarks}
-use Rattle.standard.specs.Grammar.{nesting, CommentLine, Entry, piece, ResourceWithin}
+use Rattle.standard.specs.Grammar.{nesting, CommentLine, Entry, ResourceWithin}
 use Rattle.standard.specs.Blank.{lineEnds}
 use Rattle.standard.specs.Same.{Same, Agree, ok-pure}
 use Rattle.standard.specs.Turns.{Shrinks, repeat-again, repeat-done}
 use Rattle.standard.specs.Texts.{Sign, end, lf, cr-lf, opens, closes, plain, sign-of, plain-eol}
 use Rattle.standard.specs.Blocks.{Block, stop, step, block-of, block-stops, skip-block, lf-block}
 use Rattle.standard.specs.Messages.{itemOf}
-use Rattle.standard.specs.Comments.{no-comment, no-level, line-comment, Turned, away, broken, ends, line, turned-of}
+use Rattle.standard.specs.Comments.{no-comment, no-level, Turned, away, broken, ends, line, turned-of}
 use Rattle.standard.specs.Pieces.{entry-hash, entry-agrees, piece-entry, piece-blank, piece-junk, parts, parts-again, parts-nil, tree-parts, Head, no-part, a-part, head-of}
 
 turn-nil : (c : ℕ) → commentTurn c [] ≡ done (ok c [] 0)
@@ -69,11 +69,6 @@ head-A2 (p ∷ ps) = head-beside p (A2 ps)
 alone : (p : Part) (ps : List Part) → Abstract.levelOf (p .item) ≡ 0 → A2 (p ∷ ps) ≡ p ∷ A2 ps
 unfolding A2
 alone p ps h = apart p (A2 ps) (rw h refl)
-
-named-A2 : (p : Part) (ps : List Part) → namedFirst (beside p ps) ≡ Abstract.isNamed (p .item)
-unfolding beside namedFirst
-named-A2 p [] = refl
-named-A2 p (q ∷ qs) = byCase (not (eqb (Abstract.levelOf (p .item)) 0) && eqb (Abstract.levelOf (p .item)) (Abstract.levelOf (q .item))) (λ h. rw (beside, h) refl) (λ h. rw (beside, h) refl)
 
 -- Comments ------------------------------------------------------------------------------------------------------------------------------------
 

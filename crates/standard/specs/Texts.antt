@@ -1,28 +1,28 @@
 -- Line ends and texts within a line: the productions by counts, and the reading's slices by what follows a text.
 use Prim.Native.Nat.{ℕ, zero, suc, _+_, _-_, _≤_, _<_}
-use native.Mathlib.Nat.{not-suc-le-zero, zero-add, add-zero}
-use native.Mathlib.Numerals.{add-one, sub-one}
+use native.Mathlib.Nat.{not-suc-le-zero}
+use native.Mathlib.Numerals.{add-one}
 use native.Mathlib.Omega.{arith}
 use mathlib.Core.Path.{_≡_, refl, sym, ap, ap₂, _∙_, subst}
-use mathlib.Core.Bool.{Bool, true, false, _&&_, _||_, not}
-use mathlib.Core.List.{List, [], _∷_, _++_}
+use mathlib.Core.Bool.{Bool, true, false, _&&_, not}
+use mathlib.Core.List.{List, [], _∷_}
 use lib.ListN.{drop, length, take, length-drop, length-take}
 use lib.Seq.{drop-drop, drop-nil, take-take}
-use lib.Dec.{eqb, ltb}
-use borrow.Author.Tests.{eqb-true, eqb-false, ltb-true, ltb-false}
-use Rattle.syntax.specs.Bytes.{starts, startsWith, run, spaces, eol}
-use Rattle.syntax.specs.Marks.{Mark, moveUp}
+use lib.Dec.{eqb}
+use borrow.Author.Tests.{eqb-true, eqb-false}
+use Rattle.syntax.specs.Bytes.{starts, startsWith, run, eol}
+use Rattle.syntax.specs.Marks.{moveUp}
 use Rattle.syntax.specs.Reader.{Out, ok, bad, deep}
 use Rattle.syntax.specs.declared.errors.ErrorKind.the-variants as Errors
 use Rattle.syntax.specs.Errors.{faultAt}
 use Rattle.syntax.specs.Pattern.{Slice, lineFeed, crlf, placeableStart, isTextByte, isBlank, endsInCr, lineSlice, sliceBy, getTextSlice, eof as fileEnd}
 use Rattle.laws.specs.Bytes.{byCase, clash}
 use Rattle.standard.specs.Peg as Peg
-use Rattle.standard.specs.Peg.{Answer, fits, fails, Parser, _>>=_, _>>_, _/_, opt, many, some, bar, _but_, one, byte, eof, sized, void, withFirst, pure, turns}
-use Rattle.standard.specs.Lexical.{line-end, blank-inline, blank-inline?, any-char, special-text-char, text-char, indented-char, inline-text}
-use Rattle.standard.specs.Steps.{units, some-fits, some-fails}
+use Rattle.standard.specs.Peg.{fits, fails, _>>=_, _>>_, _/_, many, some, bar, _but_, one, byte, eof, sized, withFirst, pure, turns}
+use Rattle.standard.specs.Lexical.{line-end, any-char, special-text-char, text-char, inline-text}
+use Rattle.standard.specs.Steps.{units, some-fits}
 use Rattle.standard.specs.Blank.{lineEnds, no-line-end}
-use Rattle.standard.specs.Turns.{AtEnd, many-again, many-none, sized-fits, sized-fails}
+use Rattle.standard.specs.Turns.{many-again, many-none, sized-fits}
 
 -- what a text meets: the end, a line end, a brace, or a byte of its own
 pub data Sign : List ℕ → Type 0 where
@@ -84,10 +84,6 @@ run-plain b s q r u v = rw (textRun, text-at b s q r u v) refl
 pub text-char-plain : (b : ℕ) (s : List ℕ) → eqb b 10 ≡ false → eqb b 123 ≡ false → eqb b 125 ≡ false → (eqb b 13 && startsWith 10 s) ≡ false → text-char (b ∷ s) ≡ fits tt [] 1
 unfolding text-char any-char special-text-char _but_ bar _>>_ Peg.next Peg.after _/_ byte one starts moveUp
 text-char-plain b s q r u v = rw (text-char, _but_, bar, _>>_, line-end-none b s q v, special-text-char, _/_, byte, one, starts, r, u) refl
-
-text-char-fails : AtEnd (text-char [])
-unfolding text-char any-char special-text-char _but_ bar _>>_ Peg.next Peg.after _/_ byte one starts line-end sized eof
-text-char-fails = tt
 
 many-text : (s : List ℕ) → many text-char s ≡ fits (units (textRun s)) [] (textRun s)
 unfolding textRun isTextAt isTextByte units startsWith text-char any-char special-text-char _but_ bar _>>_ Peg.next Peg.after _/_ byte one starts line-end sized eof withFirst moveUp

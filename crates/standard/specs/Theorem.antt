@@ -3,7 +3,6 @@ use Prim.Native.Nat.{ℕ}
 use mathlib.Core.Path.{_≡_}
 use mathlib.Core.List.{List}
 use Rattle.syntax.specs.Marks.{Mark}
-use Rattle.syntax.specs.Core as Core
 use Rattle.syntax.specs.Core.{Error, read, parse}
 use Rattle.standard.specs.Dialect.{rust}
 use Rattle.standard.specs.Grammar.{ResourceWithin}

@@ -1,20 +1,20 @@
 -- Loops of readers and repetitions of parsers, a turn at a time. Where each turn uses a byte, how many turns are allowed does not matter.
-use Prim.Native.Nat.{ℕ, zero, suc, _+_, _≤_, _<_}
+use Prim.Native.Nat.{ℕ, zero, suc, _≤_, _<_}
 use native.Mathlib.Nat.{not-suc-le-zero, add-zero}
 use native.Mathlib.Omega.{arith}
 use mathlib.Core.Path.{_≡_, refl, sym, ap, ap₂, _∙_}
-use mathlib.Core.Bool.{Bool, true, false}
-use mathlib.Core.List.{List, [], _∷_, _++_, append-nil}
+use mathlib.Core.Bool.{true, false}
+use mathlib.Core.List.{List, [], _∷_, append-nil}
 use lib.ListN.{drop, length, length-drop}
 use lib.Dec.{eqb, eqb·suc-zero}
-use borrow.Author.Tests.{eqb-true, eqb-false, ne-eqb}
+use borrow.Author.Tests.{eqb-false}
 use Rattle.syntax.specs.Marks.{Mark, moveUp}
 use Rattle.syntax.specs.Reader as Reader
-use Rattle.syntax.specs.Reader.{Out, ok, bad, deep, Reader, Turn, again, done, loop, repeat}
+use Rattle.syntax.specs.Reader.{Out, Reader, Turn, again, done, loop, repeat}
 use Rattle.laws.specs.Bytes.{byCase}
 use Rattle.standard.specs.Peg as Peg
 use Rattle.standard.specs.Peg.{Answer, fits, fails, Parser, many, some, turns, withFirst, pure, _>>=_, sized, bar}
-use Rattle.standard.specs.Steps.{bind-fits, bind-fails, some-fits}
+use Rattle.standard.specs.Steps.{bind-fits, bind-fails}
 
 -- a turn that goes on leaves less
 abbrev pub Shrinks : {S A : Type 0} → List ℕ → Turn S A → Type 0

@@ -1,31 +1,30 @@
 -- A whole pattern: get_pattern and the production Pattern, with the spaces before it and the blank lines behind it.
-use Prim.Native.Nat.{ℕ, zero, suc, _+_, _-_, _≤_, _<_, min}
+use Prim.Native.Nat.{ℕ, zero, suc, _+_, _<_}
 use native.Mathlib.Nat.{not-suc-le-zero, add-assoc, zero-add, add-zero}
 use native.Mathlib.Omega.{arith}
-use mathlib.Core.Path.{_≡_, refl, sym, ap, ap₂, _∙_, subst}
+use mathlib.Core.Path.{_≡_, refl, sym, ap, ap₂, _∙_}
 use mathlib.Core.Logic.{_⊎_, inl, inr}
-use mathlib.Core.Bool.{Bool, true, false, _&&_, _||_, not}
+use mathlib.Core.Bool.{Bool, true, false}
 use mathlib.Core.List.{List, [], _∷_, _++_, append-nil}
 use mathlib.Core.Option.{Option}
-use lib.ListN.{drop, length, take, length-drop}
+use lib.ListN.{drop, length, take}
 use lib.Seq.{drop-drop}
-use lib.Dec.{eqb, ltb, eqb·suc-zero}
-use borrow.Author.Tests.{eqb-true, eqb-false, lt-ltb}
+use lib.Dec.{eqb·suc-zero}
+use borrow.Author.Tests.{lt-ltb}
 use Rattle.syntax.specs.Bytes.{startsWith, spaces, eol, run, all}
 use Rattle.syntax.specs.Marks.{Mark, moveUp, node}
 use Rattle.syntax.specs.Reader as Reader
 use Rattle.syntax.specs.Reader.{Out, ok, bad, deep, wrap, repeat}
-use Rattle.syntax.specs.Helper.{skipBlankBlock}
 use Rattle.syntax.specs.declared.errors.ParserError.{ParserError}
 use Rattle.syntax.specs.Pattern as Pattern
 use Rattle.syntax.specs.Pattern.{State, lineStart, initialLineStart, isLineStart, isTextByte, patternTurn, finish, stateAt, usedBy, firstState, getPattern}
 use Rattle.laws.specs.Bytes.{byCase, clash}
-use Rattle.laws.specs.Moving.{after-after, moveUp-append}
+use Rattle.laws.specs.Moving.{after-after}
 use Rattle.laws.specs.Stable.{Takes}
 use Rattle.standard.specs.Dialect as Dialect
 use Rattle.standard.specs.Dialect.{rust}
 use Rattle.standard.specs.Peg as Peg
-use Rattle.standard.specs.Peg.{Answer, fits, fails, Parser, many, some, pure, bar, ahead, void, pick, _>>_}
+use Rattle.standard.specs.Peg.{Answer, fits, fails, Parser, some, bar, ahead, void, pick, _>>_}
 use Rattle.standard.specs.Steps.{then-fits, then-fails, some-fails, void-fits, void-fails, ahead-fits, ahead-fails, after-none, Uses}
 use Rattle.standard.specs.Abstract as Abstract
 use Rattle.standard.specs.Abstract.{Line, Raw, text, lines, indent, brace-indent, placeable, common, width, A6, A7, allPieces, piecesFrom, patternNode, isSpace}
@@ -33,15 +32,15 @@ use Rattle.standard.specs.Lexical.{line-end, blank-inline?, blank-line, 
 use Rattle.standard.specs.Grammar as Grammar
 use Rattle.standard.specs.Grammar.{PatternElement, dedented-pattern, inPattern, flat}
 use Rattle.standard.specs.Blank.{lineEnds, blank-inline?-is}
-use Rattle.standard.specs.Same.{Same, nothing, Agree, whole-pattern, SamePattern, PatternAgrees}
+use Rattle.standard.specs.Same.{Same, nothing, Agree, whole-pattern, SamePattern, PatternAgrees, node-up}
 use Rattle.standard.specs.PatternTurns.{turn-nil}
 use Rattle.standard.specs.Turns.{repeat-done, Plain, plain-after, some-plain, some-many, bar-fits, bar-fails}
 use Rattle.standard.specs.Texts.{Sign, end, lf, cr-lf, opens, closes, plain, sign-of, isTextAt, textRun, run-plain, plain-eol}
 use Rattle.standard.specs.Blocks.{Block, block-of, block-stops, block-many, block-width, lines-many, lines-end, line-fits, line-fails, skip-block, lf-block, crlf-block}
-use Rattle.standard.specs.Elements.{onward, closing, closed, ended, tail, onLine, lineTail, behind, Full, line-full, element-text, element-placeable, element-none, element-nil, element-stays, element-line, element-end, tail-again, tail-none, tail-nil, tail-lf, tail-crlf, block-fails}
-use Rattle.standard.specs.Dedent.{Shown, Live, Idle}
-use Rattle.standard.specs.Growth.{both, made, moveUp-node, Content, Line-content, Common}
-use Rattle.standard.specs.PatternAgrees.{Rel, rel-step, behind-spaces, At, Shorter, claims}
+use Rattle.standard.specs.Elements.{onward, closing, closed, ended, tail, onLine, lineTail, behind, element-text, element-placeable, element-none, element-nil, element-stays, element-line, element-end, tail-again, tail-none, tail-nil, tail-lf, tail-crlf, block-fails}
+use Rattle.standard.specs.Dedent.{Shown, Live}
+use Rattle.standard.specs.Growth.{both, made, Content, Line-content, Common}
+use Rattle.standard.specs.PatternAgrees.{Rel, rel-step, behind-spaces, Shorter, claims}
 
 -- the node of a pattern with the source s, from its raw elements
 unfoldable patterned : List ℕ → Answer (List Raw) → Answer (Unit {0})
@@ -214,7 +213,7 @@ module _ (sub₁ : Pattern.Inside) (sub₂ : Grammar.Inside) (agree : Agree sub�
     where
       go : (a : Answer (List Raw)) → tail sub₂ (drop (spaces s) s) ≡ a → Rel (Final s) (ok st ms k) a → Whole sub₂ s (finish s (ok st ([] ++ moveUp (spaces s) ms) (spaces s + k))) (Peg.after [] (spaces s) (patterned (drop (spaces s) s) a))
       go (fits all ns i) e (z, w, inl v) = let (more, q) = tail-first sub₂ (agree .no-brace) (drop (spaces s) s) x rs j y h all ns i e in let y : _≡_ {A = ℕ} 0 1 = cc (v .1) in absurd (omega arith)
-      go (fits all ns i) e (z, w, inr v) = let (n, b, more, q, p, marks) = v in rw (finish-some s st (moveUp (spaces s) ms) (spaces s + k) n q) (ap₂ (λ o j. fits tt o j) (moveUp-node (spaces s) 11 (Abstract.elementMarks (A7 rust (drop (spaces s) s) (A6 rust (allPieces rust all)))) ∙ ap (node 11) (sym marks)) (ap (λ j. spaces s + j) (sym w)))
+      go (fits all ns i) e (z, w, inr v) = let (n, b, more, q, p, marks) = v in rw (finish-some s st (moveUp (spaces s) ms) (spaces s + k) n q) (ap₂ (λ o j. fits tt o j) (node-up (spaces s) 11 (Abstract.elementMarks (A7 rust (drop (spaces s) s) (A6 rust (allPieces rust all)))) ∙ ap (node 11) (sym marks)) (ap (λ j. spaces s + j) (sym w)))
       go fails e v = absurd v
 
   -- a pattern on the line: the state, and the claim
