@@ -91,9 +91,12 @@ gap-of s e = go (sign-of s) e
 -- what may follow a pattern is a line end with blank lines
 pub closing-gap : (s : List ℕ) {u : Unit {0}} {ns : List Mark} {j : ℕ} → closing s ≡ fits u ns j → (g : Gap s) × (g .size ≡ j)
 closing-gap s {u} {ns} {j} e = byCase (lineEnds s)
-    (λ l. let g = gap-of s l in (g, byCase (startsWith 123 (drop (spaces (drop (g .size) s)) (drop (g .size) s)))
-      (λ q. let z : _≡_ {A = ℕ} 0 1 = cc (closing-brace s (g .block) q) in absurd (omega arith))
-      (λ q. cc (closing-fits s l (g .block) q))))
+    (λ l. let g = gap-of s l in (
+      g,
+      byCase (startsWith 123 (drop (spaces (drop (g .size) s)) (drop (g .size) s)))
+          (λ q. let z : _≡_ {A = ℕ} 0 1 = cc (closing-brace s (g .block) q) in absurd (omega arith))
+          (λ q. cc (closing-fits s l (g .block) q)),
+    ))
     (λ l. let z : _≡_ {A = ℕ} 0 1 = cc (closing-fails s l) in absurd (omega arith))
 
 -- Values --------------------------------------------------------------------------------------------------------------------------------------

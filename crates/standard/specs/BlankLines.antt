@@ -181,8 +181,8 @@ module _ (sub : Inside) (takes : (s : List ℕ) → Takes (sub .braced s)) (src 
           let w : 10 ∷ t ≡ drop (spaces s + 1) s = sym (ap (drop 1) d) ∙ drop-drop 1 (spaces s) s in
           let fed : Blanked (a .state) (p + (spaces s + 1)) (10 ∷ t) 1 (λ c es. joined (run-of (p + (spaces s + 1) + cut c 0) (p + (spaces s + 1) + 0 + 1)) [] ∷ es) = unfold spaces run in (one-feed (a .state) (p + (spaces s + 1)) (10 ∷ t) t (a .role) (a .used) refl) in
           let l = blanked-as st p s (spaces s + 1 + 1) (spaces s + 2) _ (λ c es. joined (run-of (p + spaces s + 2 - 1) (p + spaces s + 2)) [] ∷ es) (add-assoc (spaces s) 1 1)
-              (λ c es. ap₂ (λ x y. joined (run-of x y) [] ∷ es) (starts c) (tills (spaces s)))
-              (blanked-then st p s (spaces s + 1) 1 (λ c es. es) (λ c es. joined (run-of (p + (spaces s + 1) + cut c 0) (p + (spaces s + 1) + 0 + 1)) [] ∷ es) a (subst (λ x. Blanked (a .state) (p + (spaces s + 1)) x 1 (λ c es. joined (run-of (p + (spaces s + 1) + cut c 0) (p + (spaces s + 1) + 0 + 1)) [] ∷ es)) w fed)) in
+          (λ c es. ap₂ (λ x y. joined (run-of x y) [] ∷ es) (starts c) (tills (spaces s)))
+          (blanked-then st p s (spaces s + 1) 1 (λ c es. es) (λ c es. joined (run-of (p + (spaces s + 1) + cut c 0) (p + (spaces s + 1) + 0 + 1)) [] ∷ es) a (subst (λ x. Blanked (a .state) (p + (spaces s + 1)) x 1 (λ c es. joined (run-of (p + (spaces s + 1) + cut c 0) (p + (spaces s + 1) + 0 + 1)) [] ∷ es)) w fed)) in
           blanked-as st p s (spaces s + 2 + u) (spaces s + 2 + u) (λ c es. joined (run-of (p + spaces s + 2 - 1) (p + spaces s + 2)) [] ∷ feeds c (p + (spaces s + 2)) ls es) (λ c es. feeds c p (record { spaces = spaces s; ending = 2 } ∷ ls) es) refl
           (λ c es. ap (λ k. joined (run-of (p + spaces s + 2 - 1) (p + spaces s + 2)) [] ∷ feeds c k ls es) (sym (add-assoc p (spaces s) 2)))
           (blanked-then st p s (spaces s + 2) u (λ c es. joined (run-of (p + spaces s + 2 - 1) (p + spaces s + 2)) [] ∷ es) (λ c es. feeds c (p + (spaces s + 2)) ls es) l (f (l .state) (p + (spaces s + 2)) (l .role) (l .used)))

@@ -151,9 +151,11 @@ lines-end {s} (stop q) h = go (spaces s) refl
     go (suc n) e = (record { spaces = spaces s; ending = 0 } ∷ [], many-again blank-line line-at-end s (record { spaces = spaces s; ending = 0 }) [] (spaces s + 0) here (omega arith) ∙ rw (add-zero (spaces s), h, nothing-left) (ap (fits (record { spaces = spaces s; ending = 0 } ∷ []) []) (omega arith)))
 lines-end {s} (step {ls = ls} {u = u} e q k) h =
     let l : Line = record { spaces = spaces s; ending = suc e } in
-    let (ks, f) = lines-end k (subst (λ r. drop (spaces r) r ≡ []) (sym (drop-drop u (spaces s + suc e) s)) h) in
-    (l ∷ ks, many-again blank-line line-at-end s l [] (spaces s + suc e) (line-again s e q) (omega arith)
-    ∙ ap (λ o. withFirst l (Peg.after [] (spaces s + suc e) o)) f ∙ ap (fits (l ∷ ks) []) (sym (add-assoc (spaces s + suc e) u (spaces (drop u (drop (spaces s + suc e) s)))) ∙ ap (λ r. spaces s + suc e + u + spaces r) (drop-drop u (spaces s + suc e) s)))
+    let (ks, f) = lines-end k (subst (λ r. drop (spaces r) r ≡ []) (sym (drop-drop u (spaces s + suc e) s)) h) in (
+      l ∷ ks,
+      many-again blank-line line-at-end s l [] (spaces s + suc e) (line-again s e q) (omega arith)
+          ∙ ap (λ o. withFirst l (Peg.after [] (spaces s + suc e) o)) f ∙ ap (fits (l ∷ ks) []) (sym (add-assoc (spaces s + suc e) u (spaces (drop u (drop (spaces s + suc e) s)))) ∙ ap (λ r. spaces s + suc e + u + spaces r) (drop-drop u (spaces s + suc e) s)),
+    )
 
 -- a blank-block that starts with a line end
 pub block-many : {s : List ℕ} {l : Line} {ls : List Line} {u : ℕ} → Block s (l ∷ ls) u → blank-block s ≡ many blank-line s

@@ -127,7 +127,7 @@ A6-line a b f e ps h q r = byCase (eqb a b)
 pub A6-lines : (c : Option ℕ) (p : ℕ) (ls : List Line) (ps : List Piece) → Ended ls → A6 rust (A5 rust c p ls ps) ≡ feeds c p ls (A6 rust ps)
 unfolding feeds feedFrom A5 dedented rust Dialect.all
 A6-lines c p [] ps h = refl
-A6-lines c p (l ∷ ls) ps h = byCase (eqb (l .ending) 1) 
+A6-lines c p (l ∷ ls) ps h = byCase (eqb (l .ending) 1)
     (λ q. rw (A5, q, feedFrom) (A6-line (p + cut c (l .spaces)) (p + l .spaces) (p + l .spaces + l .ending - 1) (p + l .spaces + l .ending) (A5 rust c (p + l .spaces + l .ending) ls ps) (omega (arith, cut-within c (l .spaces))) (omega (arith, eqb-true (l .ending) 1 q)) (omega (arith, h .0)) ∙ ap (λ es. joined (run-of (p + cut c (l .spaces)) (p + l .spaces + l .ending)) [] ∷ es) (A6-lines c (p + l .spaces + l .ending) ls ps (h .1))))
     (λ q. rw (A5, q, feedFrom) (A6-feed (p + l .spaces + l .ending - 1) (p + l .spaces + l .ending) (A5 rust c (p + l .spaces + l .ending) ls ps) (omega (arith, h .0)) ∙ ap (λ es. joined (run-of (p + l .spaces + l .ending - 1) (p + l .spaces + l .ending)) [] ∷ es) (A6-lines c (p + l .spaces + l .ending) ls ps (h .1))))
 

@@ -214,8 +214,8 @@ module _ (sub₁ : Pattern.Inside) (sub₂ : Grammar.Inside) (agree : Agree sub�
   attribute-missing : (s : List ℕ) → tail sub₂ s ≡ fails → Attribute rust sub₂ s ≡ fails
   attribute-missing s e = byCase (lineEnds s)
       (λ l. let g = gap-of s l in byCase (startsWith 46 (drop (spaces (drop (g .size) s)) (drop (g .size) s)))
-        (λ d. let (rs, ms, k, f) = tail-dot s l (subst (λ r. startsWith 46 r ≡ true) (drop-drop (spaces (drop (g .size) s)) (g .size) s ∙ ap (λ i. drop i s) (g .blank)) d) in let z : _≡_ {A = ℕ} 0 1 = cc in absurd (omega arith))
-        (λ d. attribute-not sub₁ sub₂ agree s g d))
+      (λ d. let (rs, ms, k, f) = tail-dot s l (subst (λ r. startsWith 46 r ≡ true) (drop-drop (spaces (drop (g .size) s)) (g .size) s ∙ ap (λ i. drop i s) (g .blank)) d) in let z : _≡_ {A = ℕ} 0 1 = cc in absurd (omega arith))
+      (λ d. attribute-not sub₁ sub₂ agree s g d))
       (λ l. attribute-off sub₁ sub₂ agree s l)
 
   Both : ℕ → List ℕ → Out Fields → Type 0
@@ -233,9 +233,10 @@ module _ (sub₁ : Pattern.Inside) (sub₂ : Grammar.Inside) (agree : Agree sub�
           → Both m s (Reader.after (moveUp (spaces s) ns) (spaces s + (j + g .size)) (Reader.next (drop (g .size) (drop j (drop (spaces s) s))) (λ count. Reader.pure (record { name = m; value = true; attributes = count })) o))
       valued-rest ns j e g (ok c os k) (us, i, a, dc, h, q) =
           let t = term-fits (drop (spaces s) s) ns j us (moveUp (g .size) os) i e a in
-          let g′ : Gap (drop (j + i) (drop (spaces s) s)) = subst Gap (drop-drop i j (drop (spaces s) s)) h in
-          ((λ v. rest-fits term₂ s (ns ++ moveUp j (moveUp (g .size) os)) (j + i) t g′ ∙ same g os k i (h .size) q, λ v. clash {v = true} refl v),
-          (λ v. rest-fits message₂ s (ns ++ moveUp j (moveUp (g .size) os)) (j + i) (message-term (drop (spaces s) s) t) g′ ∙ same g os k i (h .size) q, λ v. clash {v = true} refl v))
+          let g′ : Gap (drop (j + i) (drop (spaces s) s)) = subst Gap (drop-drop i j (drop (spaces s) s)) h in (
+            (λ v. rest-fits term₂ s (ns ++ moveUp j (moveUp (g .size) os)) (j + i) t g′ ∙ same g os k i (h .size) q, λ v. clash {v = true} refl v),
+            (λ v. rest-fits message₂ s (ns ++ moveUp j (moveUp (g .size) os)) (j + i) (message-term (drop (spaces s) s) t) g′ ∙ same g os k i (h .size) q, λ v. clash {v = true} refl v),
+          )
         where
           same : (g : Gap (drop j (drop (spaces s) s))) (os : List Mark) (k i x : ℕ) → g .size + k ≡ i + x → _≡_ {A = Answer (Unit {0})} (fits tt (moveUp (spaces s) (ns ++ moveUp j (moveUp (g .size) os))) (spaces s + (j + i + x))) (fits tt (moveUp (spaces s) ns ++ moveUp (spaces s + (j + g .size)) (os ++ moveUp k [])) (spaces s + (j + g .size) + (k + 0)))
           same g os k i x q = ap₂ (λ ms z. fits tt ms z) (moved ns j os k (g .size)) (omega arith)

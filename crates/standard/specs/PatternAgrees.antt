@@ -157,8 +157,8 @@ module _ (sub₁ : Pattern.Inside) (sub₂ : Grammar.Inside) (takes : (s : List 
             let a : At (placeState st ms k) (p + k) (drop k (123 ∷ t)) = at-drop st st₁ p k (123 ∷ t) at refl in
             rw (repeat-again (patternTurn sub₁) (turn-shrinks sub₁ takes) st s st₁ [] k q, tail-again sub₂ (agree .no-brace) s (placeable (node 13 ms) k ∷ []) k (element-placeable sub₂ (agree .no-brace) s refl (no-block t) f) z)
             (rel-step (λ st′ rs. Common src k₀ st₁ st′ rs × Content src k₀ (p + k) st₁ st′ rs) G (λ more. placeable (node 13 ms) k ∷ more) k k refl
-              (λ st′ rs x. (x .0, (node 13 ms, k, rs, refl, place-grows src k₀ st st₁ st′ p k ms rs (at .used) refl refl (x .1))))
-              (repeat (patternTurn sub₁) st₁ (drop k s)) (tail sub₂ (drop k s)) (ih .texts st₁ (p + k) (drop k s) (omega (arith, length-drop k s)) a refl))
+            (λ st′ rs x. (x .0, (node 13 ms, k, rs, refl, place-grows src k₀ st st₁ st′ p k ms rs (at .used) refl refl (x .1))))
+            (repeat (patternTurn sub₁) st₁ (drop k s)) (tail sub₂ (drop k s)) (ih .texts st₁ (p + k) (drop k s) (omega (arith, length-drop k s)) a refl))
         go (bad f k) e z h =
             let b : sub₂ .inline-placeable (123 ∷ t) ≡ fails = rw e at h in
             rw (repeat-done (patternTurn sub₁) st (123 ∷ t) (bad f k) (turn-brace sub₁ st t ∙ ap (withPlaceable st) e), tail-none sub₂ (agree .no-brace) (123 ∷ t) (element-none sub₂ (agree .no-brace) (123 ∷ t) refl (no-block t) b), closing-fails (123 ∷ t) refl) tt
@@ -271,8 +271,8 @@ module _ (sub₁ : Pattern.Inside) (sub₂ : Grammar.Inside) (takes : (s : List 
           let a : At st₁ (p + i + m) (123 ∷ t) = subst (λ q. At st₁ q (123 ∷ t)) (sym (add-assoc p i m)) (subst (At st₁ (p + (i + m))) r (at-text m m placeableStart)) in
           rw (text-reads (opens t) d m m placeableStart refl, r)
           (rel-step (λ st′ rs. (st′ .common ≡ both (st₁ .common) (common rust rs)) × Placed (p + i + m) st₁ st′ rs) (Text-grown st p i m l) (textRaws l i m) (i + m) (i + m) refl
-            (λ st′ rs x. followed m m (p + i + m) placeableStart (inl (refl, refl)) st′ rs (x .0, inr (put st′ rs (x .1))))
-            (loop st₁ (123 ∷ t)) (tail sub₂ (123 ∷ t)) (place-claim st₁ (p + i + m) t a (omega (arith, ap length r, length-drop (i + m) s))))
+          (λ st′ rs x. followed m m (p + i + m) placeableStart (inl (refl, refl)) st′ rs (x .0, inr (put st′ rs (x .1))))
+          (loop st₁ (123 ∷ t)) (tail sub₂ (123 ∷ t)) (place-claim st₁ (p + i + m) t a (omega (arith, ap length r, length-drop (i + m) s))))
         where
           put : (st′ : State) (rs : List Raw) → Placed (p + i + m) (textState st i (sliceOf m placeableStart) m) st′ rs → Live src k₀ st st′ (made p (textRaws l i m rs))
           put st′ rs (ms, k, more, q, x) = rw q (text-brace src k₀ (step-of m m (p + i + m) placeableStart (inl (refl, refl))) z h ms k more refl (rw q at x))
@@ -287,9 +287,9 @@ module _ (sub₁ : Pattern.Inside) (sub₂ : Grammar.Inside) (takes : (s : List 
       text-line-ends size k till v w e s₁ r L g d en reads eq pos b stops glue tl num wid =
           rw (reads, b .reads, after-after [] (i + k) [] v (repeat (patternTurn sub₁) (b .state) (drop v s₁)), tl, onward-onward (textRaws l i m) (behind L) (i + m) w (lineTail sub₂ (drop v s₁)))
           (rel-step (λ st′ rs. Common src k₀ (b .state) st′ rs × Line-content src k₀ (p + (i + k) + v) (b .state) st′ rs) (Text-grown st p i m l) (λ rs. textRaws l i m (behind L rs)) (i + k + v) (i + m + w) (omega arith)
-            (λ st′ rs x. go st′ rs (x .0) (x .1))
-            (repeat (patternTurn sub₁) (b .state) (drop v s₁)) (lineTail sub₂ (drop v s₁))
-            (ih .lines (b .state) (p + (i + k) + v) (drop v s₁) (omega (arith, length-drop v s₁)) (record { used = b .used; here = here-drop (textState st i (sliceOf size e) k) (p + (i + k)) v s₁ (subst (At (textState st i (sliceOf size e) k) (p + (i + k))) eq (at-text size k e)) }) (b .role) stops))
+          (λ st′ rs x. go st′ rs (x .0) (x .1))
+          (repeat (patternTurn sub₁) (b .state) (drop v s₁)) (lineTail sub₂ (drop v s₁))
+          (ih .lines (b .state) (p + (i + k) + v) (drop v s₁) (omega (arith, length-drop v s₁)) (record { used = b .used; here = here-drop (textState st i (sliceOf size e) k) (p + (i + k)) v s₁ (subst (At (textState st i (sliceOf size e) k) (p + (i + k))) eq (at-text size k e)) }) (b .role) stops))
         where
           numbers : p + (i + k) + v ≡ p + i + m + width L
           numbers = omega arith
@@ -340,9 +340,9 @@ module _ (sub₁ : Pattern.Inside) (sub₂ : Grammar.Inside) (takes : (s : List 
     ends-claim st st₁ p v w s s₁ L f g en reads short at same ps b stops glue tl num wid =
         rw (reads, b .reads, after-after [] 1 [] v (repeat (patternTurn sub₁) (b .state) (drop v s₁)), tl)
         (rel-step (λ st′ rs. Common src k₀ (b .state) st′ rs × Line-content src k₀ (p + 1 + v) (b .state) st′ rs) (λ st′ rs. Common src k₀ st st′ rs × Content src k₀ p st st′ rs) (behind L) (1 + v) w num
-          (λ st′ rs x. go st′ rs (x .0) (x .1))
-          (repeat (patternTurn sub₁) (b .state) (drop v s₁)) (lineTail sub₂ (drop v s₁))
-          (ih .lines (b .state) (p + 1 + v) (drop v s₁) (omega (arith, length-drop v s₁)) (record { used = b .used; here = here-drop st₁ (p + 1) v s₁ at }) (b .role) stops))
+        (λ st′ rs x. go st′ rs (x .0) (x .1))
+        (repeat (patternTurn sub₁) (b .state) (drop v s₁)) (lineTail sub₂ (drop v s₁))
+        (ih .lines (b .state) (p + 1 + v) (drop v s₁) (omega (arith, length-drop v s₁)) (record { used = b .used; here = here-drop st₁ (p + 1) v s₁ at }) (b .role) stops))
       where
         numbers : p + 1 + v ≡ p + width L
         numbers = omega arith
@@ -402,9 +402,9 @@ module _ (sub₁ : Pattern.Inside) (sub₂ : Grammar.Inside) (takes : (s : List 
             let e : textRun (b ∷ t) ≡ suc (textRun t) = run-plain b t x y w v in
             rw (tail-again sub₂ (agree .no-brace) (b ∷ t) (text m ∷ []) m (element-text sub₂ (agree .no-brace) (b ∷ t) (textRun t) e) (omega arith))
             (rel-map (Text-grown st p 0 m false) (λ st′ rs. Common src k₀ st st′ rs × Content src k₀ p st st′ rs)
-              (λ st′ rs x. (x .0, content m (omega arith) st′ rs (x .2))) (loop st (b ∷ t)) (onward (λ more. text m ∷ more) m (tail sub₂ (drop m (b ∷ t))))
-              (subst (λ k. Rel (Text-grown st p 0 m false) (loop st (b ∷ t)) (onward (λ more. text m ∷ more) k (tail sub₂ (drop m (b ∷ t))))) (zero-add m)
-                (text-follow st p 0 m false (b ∷ t) at r refl (omega arith) (omega arith) e (turn-text sub₁ st b t y r) (λ q. clash {v = false} q refl) (sign-of (drop m (b ∷ t))) refl)))
+            (λ st′ rs x. (x .0, content m (omega arith) st′ rs (x .2))) (loop st (b ∷ t)) (onward (λ more. text m ∷ more) m (tail sub₂ (drop m (b ∷ t))))
+            (subst (λ k. Rel (Text-grown st p 0 m false) (loop st (b ∷ t)) (onward (λ more. text m ∷ more) k (tail sub₂ (drop m (b ∷ t))))) (zero-add m)
+            (text-follow st p 0 m false (b ∷ t) at r refl (omega arith) (omega arith) e (turn-text sub₁ st b t y r) (λ q. clash {v = false} q refl) (sign-of (drop m (b ∷ t))) refl)))
           where
             content : (m : ℕ) → 0 < m → (st′ : State) (rs : List Raw) → (Live src k₀ st st′ (made p rs)) ⊎ ((rs ≡ textRaws false 0 m []) × (all isSpace (take m (drop (k₀ + (p + 0)) src)) ≡ true) × Idle src k₀ st st′) → Content src k₀ p st st′ rs
             content m h st′ rs (inl x) = Content.something x
@@ -417,7 +417,7 @@ module _ (sub₁ : Pattern.Inside) (sub₂ : Grammar.Inside) (takes : (s : List 
         let n = spaces s in
         line-on-tail sub₂ s 123 t (brace-indent n ∷ placeable ms k ∷ []) [] (n + k) d (rw (onLine, e) refl)
         ∙ rw (tail-again sub₂ (agree .no-brace) (123 ∷ t) (placeable ms k ∷ []) k (element-placeable sub₂ (agree .no-brace) (123 ∷ t) refl (no-block t) e) z, onward-onward (λ rs. brace-indent n ∷ rs) (λ rs. placeable ms k ∷ rs) n k (tail sub₂ (drop k (123 ∷ t))))
-          (ap (λ r. onward (λ rs. brace-indent n ∷ placeable ms k ∷ rs) (n + k) (tail sub₂ r)) (sym (drop-drop k n s) ∙ ap (drop k) d))
+        (ap (λ r. onward (λ rs. brace-indent n ∷ placeable ms k ∷ rs) (n + k) (tail sub₂ r)) (sym (drop-drop k n s) ∙ ap (drop k) d))
 
     brace-fails : (s t : List ℕ) → drop (spaces s) s ≡ 123 ∷ t → sub₂ .inline-placeable (123 ∷ t) ≡ fails → lineTail sub₂ s ≡ onward (λ rs. brace-indent (spaces s) ∷ rs) (spaces s) (tail sub₂ (123 ∷ t))
     unfolding onLine braceLine textRun isTextAt isTextByte onward closed lineEnds eol
@@ -439,8 +439,8 @@ module _ (sub₁ : Pattern.Inside) (sub₂ : Grammar.Inside) (takes : (s : List 
     line-brace-0 st p t at short r = brace-line (123 ∷ t) t (λ st′ rs. Common src k₀ st st′ rs × Line-content src k₀ p st st′ rs) (repeat (patternTurn sub₁) st (123 ∷ t)) refl
         (λ k e. (k, repeat-done (patternTurn sub₁) st (123 ∷ t) (deep k) (turn-brace sub₁ st t ∙ ap (withPlaceable st) e)))
         (rel-here (λ st′ rs. (st′ .common ≡ both (placeState st [] 0 .common) (common rust rs)) × Placed p st st′ rs) (λ st′ rs. Common src k₀ st st′ rs × Line-content src k₀ p st st′ rs) (λ rs. brace-indent 0 ∷ rs)
-          (λ st′ rs x. (x .0 ∙ ap (λ d. both d (common rust rs)) (place-start st r) ∙ both-zero (st .common) (common rust rs), Line-content.something (brace-indent 0) rs refl (live-as src k₀ st st′ (made p rs) (made p (brace-indent 0 ∷ rs)) (λ c. sym (made-brace p 0 rs c ∙ ap (λ q. made q rs c) (add-zero p))) (x .1 .4))))
-          (loop st (123 ∷ t)) (tail sub₂ (123 ∷ t)) (place-claim st p t at short))
+        (λ st′ rs x. (x .0 ∙ ap (λ d. both d (common rust rs)) (place-start st r) ∙ both-zero (st .common) (common rust rs), Line-content.something (brace-indent 0) rs refl (live-as src k₀ st st′ (made p rs) (made p (brace-indent 0 ∷ rs)) (λ c. sym (made-brace p 0 rs c ∙ ap (λ q. made q rs c) (add-zero p))) (x .1 .4))))
+        (loop st (123 ∷ t)) (tail sub₂ (123 ∷ t)) (place-claim st p t at short))
 
     brace-indents : (n : ℕ) (rs : List Raw) → common rust (brace-indent (suc n) ∷ rs) ≡ common rust rs
     unfolding common rust Dialect.all
@@ -453,15 +453,15 @@ module _ (sub₁ : Pattern.Inside) (sub₂ : Grammar.Inside) (takes : (s : List 
         let st₁ = textState st k openSlice 0 in
         let e : drop (k + 0) s ≡ 123 ∷ t = ap (λ i. drop i s) (add-zero k) ∙ d in
         let reads : repeat (patternTurn sub₁) st s ≡ Reader.after [] (k + 0) (repeat (patternTurn sub₁) st₁ (123 ∷ t)) =
-            repeat-again (patternTurn sub₁) (turn-shrinks sub₁ takes) st s st₁ [] (k + 0) (turn-on sub₁ st s 123 t d (rw q (goesOn-suc j 123 ∙ (unfold isContinuation in refl))) (spaced-first s j q) r ∙ rw (slice-open t) (text-again st k openSlice [] 0)) ∙ rw e refl in
+        repeat-again (patternTurn sub₁) (turn-shrinks sub₁ takes) st s st₁ [] (k + 0) (turn-on sub₁ st s 123 t d (rw q (goesOn-suc j 123 ∙ (unfold isContinuation in refl))) (spaced-first s j q) r ∙ rw (slice-open t) (text-again st k openSlice [] 0)) ∙ rw e refl in
         let a : At st₁ (p + k) (123 ∷ t) = subst (λ i. At st₁ (p + i) (123 ∷ t)) (add-zero k) (subst (At st₁ (p + (k + 0))) e (at-drop st st₁ p (k + 0) s at refl)) in
         let same : st₁ .common ≡ st .common = blank-common st k 0 openSlice refl in
         let ps = passed-none src k₀ st st₁ refl (blank-kept st k 0 openSlice refl) in
         brace-line s t (λ st′ rs. Common src k₀ st st′ rs × Line-content src k₀ p st st′ rs) (repeat (patternTurn sub₁) st s) d
         (λ i z. (k + 0 + i, reads ∙ ap (Reader.after [] (k + 0)) (repeat-done (patternTurn sub₁) st₁ (123 ∷ t) (deep i) (turn-brace sub₁ st₁ t ∙ ap (withPlaceable st₁) z))))
         (rw reads (rel-step (λ st′ rs. (st′ .common ≡ both (placeState st₁ [] 0 .common) (common rust rs)) × Placed (p + k) st₁ st′ rs) (λ st′ rs. Common src k₀ st st′ rs × Line-content src k₀ p st st′ rs) (λ rs. brace-indent k ∷ rs) (k + 0) k (add-zero k)
-          (λ st′ rs x. (x .0 ∙ ap (λ z. both z (common rust rs)) same ∙ ap (both (st .common)) (sym (ap (λ z. common rust (brace-indent z ∷ rs)) q ∙ brace-indents j rs)), Line-content.something (brace-indent k) rs refl (live-as src k₀ st st′ (made (p + k) rs) (made p (brace-indent k ∷ rs)) (λ c. sym (made-brace p k rs c)) (ps .live (x .1 .4)))))
-          (loop st₁ (123 ∷ t)) (tail sub₂ (123 ∷ t)) (place-claim st₁ (p + k) t a (omega (arith, ap length d, length-drop k s)))))
+        (λ st′ rs x. (x .0 ∙ ap (λ z. both z (common rust rs)) same ∙ ap (both (st .common)) (sym (ap (λ z. common rust (brace-indent z ∷ rs)) q ∙ brace-indents j rs)), Line-content.something (brace-indent k) rs refl (live-as src k₀ st st′ (made (p + k) rs) (made p (brace-indent k ∷ rs)) (λ c. sym (made-brace p k rs c)) (ps .live (x .1 .4)))))
+        (loop st₁ (123 ∷ t)) (tail sub₂ (123 ∷ t)) (place-claim st₁ (p + k) t a (omega (arith, ap length d, length-drop k s)))))
 
     -- a line that does not go on, or the end
     line-stops : (st : State) (p : ℕ) (s : List ℕ) (k : ℕ) → repeat (patternTurn sub₁) st s ≡ ok st [] k → lineTail sub₂ s ≡ fits [] [] k → Line-claim st p s
@@ -490,9 +490,9 @@ module _ (sub₁ : Pattern.Inside) (sub₂ : Grammar.Inside) (takes : (s : List 
         let vis : isBlank (take m (drop k s)) ≡ false = rw d (unfold isBlank all in (rw (behind-spaces s c cs d) refl)) in
         rw (line-on-tail sub₂ s c cs (indent k ∷ text m ∷ []) [] (k + m) d (rw (onLine, q, g, run-is) refl))
         (rel-map (Text-grown st p k m true) (λ st′ rs. Common src k₀ st st′ rs × Line-content src k₀ p st st′ rs)
-          (λ st′ rs x. (x .0, content m st′ rs (rw (here-drop st p k s at) vis) (x .1) (x .2))) (loop st s) (onward (λ more. indent k ∷ text m ∷ more) (k + m) (tail sub₂ (drop (k + m) s)))
-          (subst (λ z. Rel (Text-grown st p k m true) (loop st s) (onward (λ more. indent k ∷ text m ∷ more) (k + m) (tail sub₂ z))) (drop-drop m k s)
-            (text-follow st p k m true s at r tt (omega arith) (omega arith) (ap textRun d ∙ run-is) (turn-on sub₁ st s c cs d g (no-brace-first s c cs d q) r ∙ rw d refl) (λ z. vis) (sign-of (drop m (drop k s))) refl)))
+        (λ st′ rs x. (x .0, content m st′ rs (rw (here-drop st p k s at) vis) (x .1) (x .2))) (loop st s) (onward (λ more. indent k ∷ text m ∷ more) (k + m) (tail sub₂ (drop (k + m) s)))
+        (subst (λ z. Rel (Text-grown st p k m true) (loop st s) (onward (λ more. indent k ∷ text m ∷ more) (k + m) (tail sub₂ z))) (drop-drop m k s)
+        (text-follow st p k m true s at r tt (omega arith) (omega arith) (ap textRun d ∙ run-is) (turn-on sub₁ st s c cs d g (no-brace-first s c cs d q) r ∙ rw d refl) (λ z. vis) (sign-of (drop m (drop k s))) refl)))
       where
         content : (m : ℕ) (st′ : State) (rs : List Raw) → all isSpace (take m (drop (k₀ + (p + spaces s)) src)) ≡ false → ((more : List Raw) × (rs ≡ textRaws true (spaces s) m more))
             → (Live src k₀ st st′ (made p rs)) ⊎ ((rs ≡ textRaws true (spaces s) m []) × (all isSpace (take m (drop (k₀ + (p + spaces s)) src)) ≡ true) × Idle src k₀ st st′) → Line-content src k₀ p st st′ rs
@@ -508,7 +508,7 @@ module _ (sub₁ : Pattern.Inside) (sub₂ : Grammar.Inside) (takes : (s : List 
         go (c ∷ cs) d z = byCase (eqb c 123)
             (λ w. brace (spaces s) refl (d ∙ ap (λ x. x ∷ cs) (eqb-true c 123 w)))
             (λ w. byCase (goesOn (spaces s) c) (λ g. line-on st p s c cs at short r d z w g)
-              (λ g. line-stops st p s 0 (repeat-done (patternTurn sub₁) st s (ok st [] 0) (turn-off sub₁ st s c cs d g (no-brace-first s c cs d w) r)) (line-off-tail sub₂ s c cs d (rw (onLine, w, g) refl) ∙ rw w refl)))
+            (λ g. line-stops st p s 0 (repeat-done (patternTurn sub₁) st s (ok st [] 0) (turn-off sub₁ st s c cs d g (no-brace-first s c cs d w) r)) (line-off-tail sub₂ s c cs d (rw (onLine, w, g) refl) ∙ rw w refl)))
           where
             brace : (j : ℕ) → spaces s ≡ j → drop (spaces s) s ≡ 123 ∷ cs → Line-claim st p s
             brace zero q f = let v : s ≡ 123 ∷ cs = rw q at f in subst (Line-claim st p) (sym v) (line-brace-0 st p cs (subst (At st p) v at) (omega (arith, ap length v)) r)

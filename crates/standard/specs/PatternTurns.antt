@@ -110,7 +110,6 @@ module _ (sub : Inside) (st : State) where
   unfolding lineTurn
   turn-on s c cs d g q r = turn-line s q (longer s c cs d) r ∙ rw (d, lineTurn, g) refl
 
-
 -- Each turn uses a byte -----------------------------------------------------------------------------------------------------------------------
 
 slice-moves : (b : ℕ) (bs : List ℕ) → eqb b 123 ≡ false → Holds (λ t ms k. 0 < k) (getTextSlice (b ∷ bs))
@@ -154,8 +153,8 @@ module _ (sub : Inside) (takes : (s : List ℕ) → Takes (sub .braced s)) where
   turn-shrinks st [] = tt
   turn-shrinks st (b ∷ bs) = byCase (eqb b 123) (λ q. rw (q, patternTurn) (brace-shrinks st b bs (sub .braced (b ∷ bs)) (takes (b ∷ bs))))
       (λ q. byCase (isLineStart (st .role))
-        (λ r. rw (q, patternTurn, textTurn, r) (line q (spaces (b ∷ bs)) (drop (spaces (b ∷ bs)) (b ∷ bs)) refl))
-        (λ r. rw (q, patternTurn, textTurn, r) (text-shrinks st 0 (b ∷ bs) (getTextSlice (b ∷ bs)) (omega arith) (more-moves 0 (getTextSlice (b ∷ bs)) (slice-moves b bs q)))))
+      (λ r. rw (q, patternTurn, textTurn, r) (line q (spaces (b ∷ bs)) (drop (spaces (b ∷ bs)) (b ∷ bs)) refl))
+      (λ r. rw (q, patternTurn, textTurn, r) (text-shrinks st 0 (b ∷ bs) (getTextSlice (b ∷ bs)) (omega arith) (more-moves 0 (getTextSlice (b ∷ bs)) (slice-moves b bs q)))))
     where
       line : eqb b 123 ≡ false → (n : ℕ) (r : List ℕ) → drop n (b ∷ bs) ≡ r → Shrinks (b ∷ bs) (lineTurn st n r)
       line q n [] e = tt

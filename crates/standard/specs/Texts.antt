@@ -45,8 +45,8 @@ sign-of (b ∷ bs) = byCase (eqb b 10) (λ q. subst (λ x. Sign (x ∷ bs)) (sym
     cr [] v = byCase (eqb b 13) (λ w. clash {v = false} (rw w at v) refl) (λ w. clash {v = false} (rw w at v) refl)
     cr (c ∷ cs) v = byCase (eqb b 13)
         (λ w. byCase (eqb c 10)
-          (λ x. subst (λ y. Sign (y ∷ c ∷ cs)) (sym (eqb-true b 13 w)) (subst (λ y. Sign (13 ∷ y ∷ cs)) (sym (eqb-true c 10 x)) (cr-lf cs)))
-          (λ x. clash {v = false} (rw x at (rw w at v)) refl))
+        (λ x. subst (λ y. Sign (y ∷ c ∷ cs)) (sym (eqb-true b 13 w)) (subst (λ y. Sign (13 ∷ y ∷ cs)) (sym (eqb-true c 10 x)) (cr-lf cs)))
+        (λ x. clash {v = false} (rw x at (rw w at v)) refl))
         (λ w. clash {v = false} (rw w at v) refl)
 
 pub plain-eol : (b : ℕ) (s : List ℕ) → eqb b 10 ≡ false → (eqb b 13 && startsWith 10 s) ≡ false → eol (b ∷ s) ≡ 0

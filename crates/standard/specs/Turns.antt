@@ -74,7 +74,7 @@ module _ {A : Type 0} (p : Parser A) (e : AtEnd (p [])) where
     where
       go : (o : Answer A) → ((r : List ℕ) → length r ≤ n → length r ≤ m → turns n p r ≡ turns m p r)
           → _≡_ {A = Answer (List A)} (elim o [ fits a ms k ↦ elim (eqb k 0) [ true ↦ fits [] [] 0 | false ↦ withFirst a (Peg.after ms k (turns n p (drop k s))) ] | fails ↦ fits [] [] 0 ])
-              (elim o [ fits a ms k ↦ elim (eqb k 0) [ true ↦ fits [] [] 0 | false ↦ withFirst a (Peg.after ms k (turns m p (drop k s))) ] | fails ↦ fits [] [] 0 ])
+          (elim o [ fits a ms k ↦ elim (eqb k 0) [ true ↦ fits [] [] 0 | false ↦ withFirst a (Peg.after ms k (turns m p (drop k s))) ] | fails ↦ fits [] [] 0 ])
       go (fits a ms j) f = byCase (eqb j 0) (λ q. rw q refl) (λ q. rw q (ap (λ z. withFirst a (Peg.after ms j z)) (f (drop j s) (shorter j s n q l) (shorter j s m q k))))
       go fails f = refl
 

@@ -254,8 +254,8 @@ module _ (sub₁ : Pattern.Inside) (sub₂ : Grammar.Inside) (agree : Agree sub�
     unfolding stateAt isLineStart
     inline-pattern b t d q f i = rw (pattern-from (stateAt (spaces s) initialLineStart) (first-inline q)) (conclude s (repeat (patternTurn sub₁) (stateAt (spaces s) initialLineStart) (drop (spaces s) s)) f
         (rel-with (λ st′ rs. Common s (spaces s) st st′ rs × Content s (spaces s) 0 st st′ rs) (Final s) (repeat (patternTurn sub₁) st (drop (spaces s) s)) (tail sub₂ (drop (spaces s) s))
-          (λ st′ rs ms j e x. inline-final st st′ b t rs refl refl refl d (i rs ms j e) (x .0) (x .1))
-          (all-claims (suc (length (drop (spaces s) s))) .texts st 0 (drop (spaces s) s) (omega arith) (record { used = sym (add-zero (spaces s)); here = ap (λ k. drop k s) (add-zero (spaces s)) }) refl)))
+        (λ st′ rs ms j e x. inline-final st st′ b t rs refl refl refl d (i rs ms j e) (x .0) (x .1))
+        (all-claims (suc (length (drop (spaces s) s))) .texts st 0 (drop (spaces s) s) (omega arith) (record { used = sym (add-zero (spaces s)); here = ap (λ k. drop k s) (add-zero (spaces s)) }) refl)))
       where
         st : State
         st = stateAt (spaces s) initialLineStart
@@ -279,9 +279,9 @@ module _ (sub₁ : Pattern.Inside) (sub₂ : Grammar.Inside) (agree : Agree sub�
     block-pattern p r L e tl d stops w f =
         let st = stateAt (spaces s + p) lineStart in
         rw (pattern-from st e, d, ← after-after [] (spaces s) [] p (repeat (patternTurn sub₁) st r)) (conclude s (Reader.after [] p (repeat (patternTurn sub₁) st r)) f
-          (rw tl (rel-step (λ st′ rs. Common s (spaces s) st st′ rs × Line-content s (spaces s) p st st′ rs) (Final s) (behind L) p p refl
-            (λ st′ rs x. line-final st st′ p L rs refl refl refl w (x .0) (x .1)) (repeat (patternTurn sub₁) st r) (lineTail sub₂ r)
-            (all-claims (suc (length r)) .lines st p r (omega arith) (record { used = refl; here = d }) refl stops))))
+        (rw tl (rel-step (λ st′ rs. Common s (spaces s) st st′ rs × Line-content s (spaces s) p st st′ rs) (Final s) (behind L) p p refl
+        (λ st′ rs x. line-final st st′ p L rs refl refl refl w (x .0) (x .1)) (repeat (patternTurn sub₁) st r) (lineTail sub₂ r)
+        (all-claims (suc (length r)) .lines st p r (omega arith) (record { used = refl; here = d }) refl stops))))
 
     -- the state on the line behind blank lines
     first-line : (e : ℕ) (t : List ℕ) {ls : List Line} {u : ℕ} → eol (drop (spaces s) s) ≡ suc e → drop (spaces s + suc e) s ≡ t → Block t ls u → firstState s ≡ stateAt (spaces s + (suc e + u)) lineStart
