@@ -32,7 +32,7 @@ use Rattle.standard.specs.Abstract.{Item, Part, Line, A2, A3, beside, na
 use Rattle.standard.specs.Grammar.{nesting, CommentLine, Entry, ResourceWithin}
 use Rattle.standard.specs.Blank.{lineEnds}
 use Rattle.standard.specs.Same.{Same, Agree, ok-pure}
-use Rattle.standard.specs.Turns.{Shrinks, repeat-again, repeat-done}
+use Rattle.standard.specs.Turns.{Fitting, Shrinks, repeat-again, repeat-done}
 use Rattle.standard.specs.Texts.{Sign, end, lf, cr-lf, opens, closes, plain, sign-of, plain-eol}
 use Rattle.standard.specs.Blocks.{Block, stop, step, block-of, block-stops, skip-block, lf-block}
 use Rattle.standard.specs.Messages.{itemOf}
@@ -378,6 +378,26 @@ module _ (n : ℕ) (agree : Agree (level n) (nesting rust n)) where
           let z : K + u ≡ k + (1 + u) = omega arith in
           entered (Core.Entry.comment (suc l)) ns k K (Abstract.comment (suc l)) h a (1 + u) (subst (λ r. Block r (record { spaces = 0; ending = 1 } ∷ ls) (1 + u)) (sym (x .1)) (lf-block t bt)) u c z ih
           (λ ns′ fs r. comment-marks (suc l) _ _ ns (near-line c (drop (k + (1 + u)) (b ∷ bs)) (drop-drop u K (b ∷ bs) ∙ ap (λ i. drop i (b ∷ bs)) z) (read-on m (drop (k + (1 + u)) (b ∷ bs)) ns′ fs r)))
+
+  -- The production Entry fits where the reading reads an entry, and nowhere else
+  pub unread-fails : (b : ℕ) (bs : List ℕ) (f : ParserError) (k : ℕ) → getEntry (level n) (b ∷ bs) ≡ bad f k → Entry rust n (b ∷ bs) ≡ fails
+  unfolding startsWith asComment getComment
+  unread-fails b bs f k e = byCase (eqb b 35) (λ h. hashed h (comment-went (suc (length (b ∷ bs))) 0 (b ∷ bs) (omega arith) (λ z. h))) (λ h. rw e at (entry-agrees n agree (b ∷ bs) h))
+    where
+      hashed : eqb b 35 ≡ true → Went 0 (b ∷ bs) (repeat commentTurn 0 (b ∷ bs)) → Entry rust n (b ∷ bs) ≡ fails
+      hashed h (stopped y x) = let a = entry-comment (level n) b bs h ∙ ap asComment y in let z : _≡_ {A = ℕ} 0 1 = cc in absurd (omega arith)
+      hashed h (went l ms j K y w v a cut) = let c = entry-comment (level n) b bs h ∙ ap asComment y in let z : _≡_ {A = ℕ} 0 1 = cc in absurd (omega arith)
+      hashed h (failed g j z y x) = entry-hash n agree (b ∷ bs) h ∙ x
+
+  pub read-fits : (b : ℕ) (bs : List ℕ) (en : Core.Entry) (ms : List Mark) (k : ℕ) → getEntry (level n) (b ∷ bs) ≡ ok en ms k → Fitting (Entry rust n (b ∷ bs))
+  unfolding startsWith asComment getComment
+  read-fits b bs en ms k e = byCase (eqb b 35) (λ h. hashed h (turned-of 0 (b ∷ bs))) (λ h. let a : Entry rust n (b ∷ bs) ≡ fits (itemOf en) ms k = rw e at (entry-agrees n agree (b ∷ bs) h) in rw a tt)
+    where
+      hashed : eqb b 35 ≡ true → Turned 0 (b ∷ bs) → Fitting (Entry rust n (b ∷ bs))
+      hashed h (away x y f) = clash h (x refl)
+      hashed h (broken f j x y c) = let a = entry-comment (level n) b bs h ∙ ap asComment (repeat-done commentTurn 0 (b ∷ bs) (bad f j) y) in let z : _≡_ {A = ℕ} 0 1 = cc in absurd (omega arith)
+      hashed h (ends l y f d x) = rw (entry-hash n agree (b ∷ bs) h ∙ f) tt
+      hashed h (line l ns j y f g z x) = rw (entry-hash n agree (b ∷ bs) h ∙ f) tt
 
   -- for every source that is read, the tree of the standard with all departures is the tree of the reading
   pub tree-is-standard : (s : List ℕ) (ms : List Mark) (es : List Error) → parse n s ≡ read ms es → ResourceWithin rust n s ≡ ms

@@ -1,11 +1,17 @@
 -- The theorem: for every source that is read, the tree of the standard with all departures is the tree of the reading.
 use Prim.Native.Nat.{ℕ}
 use mathlib.Core.Path.{_≡_}
-use mathlib.Core.List.{List}
+use mathlib.Core.List.{List, _∷_}
 use Rattle.syntax.specs.Marks.{Mark}
-use Rattle.syntax.specs.Core.{Error, read, parse}
+use Rattle.syntax.specs.declared.errors.ParserError.{ParserError}
+use Rattle.syntax.specs.Reader.{ok, bad}
+use Rattle.syntax.specs.Expression.{level}
+use Rattle.syntax.specs.Core as Core
+use Rattle.syntax.specs.Core.{Error, read, parse, getEntry}
+use Rattle.standard.specs.Peg.{fails}
+use Rattle.standard.specs.Turns.{Fitting}
 use Rattle.standard.specs.Dialect.{rust}
-use Rattle.standard.specs.Grammar.{ResourceWithin}
+use Rattle.standard.specs.Grammar.{Entry, ResourceWithin}
 use Rattle.standard.specs.WholePattern.{pattern-agrees}
 use Rattle.standard.specs.Placeable.{levels-agree}
 use Rattle.standard.specs.Resource as Resource
@@ -13,3 +19,10 @@ use Rattle.standard.specs.Resource as Resource
 -- with at most n "{" and "(" open at a time
 pub tree-is-standard : (n : ℕ) (s : List ℕ) (ms : List Mark) (es : List Error) → parse n s ≡ read ms es → ResourceWithin rust n s ≡ ms
 tree-is-standard n = Resource.tree-is-standard n (levels-agree pattern-agrees n)
+
+-- There is junk exactly where no entry can be read: the production Entry fails where the reading finds an error, and fits where it reads an entry
+pub unread-fails : (n b : ℕ) (bs : List ℕ) (f : ParserError) (k : ℕ) → getEntry (level n) (b ∷ bs) ≡ bad f k → Entry rust n (b ∷ bs) ≡ fails
+unread-fails n = Resource.unread-fails n (levels-agree pattern-agrees n)
+
+pub read-fits : (n b : ℕ) (bs : List ℕ) (e : Core.Entry) (ms : List Mark) (k : ℕ) → getEntry (level n) (b ∷ bs) ≡ ok e ms k → Fitting (Entry rust n (b ∷ bs))
+read-fits n = Resource.read-fits n (levels-agree pattern-agrees n)
