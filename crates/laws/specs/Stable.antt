@@ -9,22 +9,19 @@ pub mod Argument
 pub mod Expression
 pub mod Entry
 pub mod Comment
-use Prim.Native.Nat.{ℕ, zero, suc, _+_, _-_, _≤_, _<_, suc-le-suc}
+use Prim.Native.Nat.{ℕ, zero, suc, _+_, _-_, _≤_, _<_}
 use native.Mathlib.Nat.{le-of-suc-le-suc, not-suc-le-zero}
 use native.Mathlib.Omega.{arith}
 use mathlib.Core.Path.{_≡_, refl, sym, ap, _∙_, subst}
-use mathlib.Core.Bool.{Bool, true, false, _&&_, _||_, not}
 use mathlib.Core.List.{List, [], _∷_, _++_, append-nil}
-use lib.ListN.{drop, length, take, length-drop, length-append}
-use lib.Dec.{eqb, ltb}
-use borrow.Author.Tests.{eqb-true, eqb-false, ltb-true, ltb-false}
-use Rattle.syntax.specs.Bytes.{startsWith}
-use Rattle.syntax.specs.Marks.{Mark, moveUp, node}
+use lib.ListN.{drop, length, length-drop, length-append}
+use Rattle.syntax.specs.Marks.{Mark, node}
 use Rattle.syntax.specs.declared.errors.ErrorKind.{ErrorKind}
 use Rattle.syntax.specs.declared.errors.ParserError.{ParserError}
-use Rattle.syntax.specs.Errors.{upFault}
 use Rattle.syntax.specs.Reader.{Out, ok, bad, deep, Reader, after, next, _>>=_, _>>_, pure, fail, wrap, inNode, Turn, again, done, turnOf, loop, repeat}
-use Rattle.laws.specs.Bytes.{Whole, whole-drop, Fresh, Stop, byCase, clash, drop-app}
+pub use Rattle.laws.specs.Answers.{Holds, Takes, plain-next}
+use Rattle.laws.specs.Answers.{holds-map, holds-after, takes-next}
+use Rattle.laws.specs.Bytes.{Whole, whole-drop, Fresh, Stop, drop-app}
 
 pub data Mode : Type 0 where
   loose fresh any none : Mode
@@ -54,24 +51,13 @@ upto-rest fresh y x k j u = (rw length-drop (omega arith), u .1)
 upto-rest any y x k j u = rw length-drop (omega arith)
 upto-rest none y x k j u = u
 
-pub any-upto : (m : Mode) (y : List ℕ) (n k : ℕ) → Upto m y n k → Upto any y n k
-any-upto m y n k u = upto-le m y n k u
-
 abbrev pub Within : {A : Type 0} → ℕ → Out A → Type 0
-Within n (ok a ms k) = k ≤ n
-Within n (bad f k) = Unit {0}
-Within n (deep k) = Unit {0}
+Within n o = Holds (λ a ms k. k ≤ n) o
 
 abbrev pub Carries : {A : Type 0} → (ℕ → Type 0) → Out A → Out A → Type 0
 Carries N (ok a ms k) o = N k → o ≡ ok a ms k
 Carries N (bad f k) o = Unit {0}
 Carries N (deep k) o = Unit {0}
-
--- an answer that used some bytes
-abbrev pub Takes : {A : Type 0} → Out A → Type 0
-Takes (ok a ms k) = 0 < k
-Takes (bad f k) = Unit {0}
-Takes (deep k) = Unit {0}
 
 abbrev pub KeepsAt : {A : Type 0} → Mode → Reader A → List ℕ → List ℕ → Type 0
 KeepsAt m p x y = Carries (Upto m y (length x)) (p x) (p (x ++ y))
@@ -99,22 +85,7 @@ pub from-any : {A : Type 0} (m : Mode) {p : Reader A} → Reads any p → Reads 
 from-any m {p} r = record { stops = r .stops; keeps = λ x y w. weaker (Upto any y (length x)) (Upto m y (length x)) (λ k u. upto-le m y (length x) k u) (p x) (p (x ++ y)) (r .keeps x y w) }
 
 pub after-within : {A : Type 0} (n k : ℕ) (ms : List Mark) (o : Out A) → k ≤ n → Within (n - k) o → Within n (after ms k o)
-unfolding after
-after-within n k ms (ok a ns j) h w = omega arith
-after-within n k ms (bad f j) h w = tt
-after-within n k ms (deep j) h w = tt
-
-pub after-carries : {A : Type 0} (N : ℕ → Type 0) (k : ℕ) (ms : List Mark) (o o′ : Out A) → Carries (λ j. N (k + j)) o o′ → Carries N (after ms k o) (after ms k o′)
-unfolding after
-after-carries N k ms (ok a ns j) o′ c = λ u. ap (after ms k) (c u)
-after-carries N k ms (bad f j) o′ c = tt
-after-carries N k ms (deep j) o′ c = tt
-
-pub takes-after : {B : Type 0} (k : ℕ) (ms : List Mark) (o : Out B) → Takes o → Takes (after ms k o)
-unfolding after
-takes-after k ms (ok a ns j) t = omega arith
-takes-after k ms (bad f j) t = tt
-takes-after k ms (deep j) t = tt
+after-within n k ms o h w = holds-after (λ a ns j. j ≤ n - k) (λ a ns j. j ≤ n) ms k (λ a ns j g. omega arith) o w
 
 takes-upto : {B : Type 0} (y : List ℕ) (n k j : ℕ) (b : B) (ns : List Mark) (o : Out B) → Takes o → o ≡ ok b ns j → k + j ≤ n → k < n
 takes-upto y n k j b ns (ok a ms i) t e u = let h : i ≡ j = cc in omega arith
@@ -130,7 +101,8 @@ module _ {A B : Type 0} where
   next-within x y q (deep k) h g = tt
 
   pub next-ok : (N : ℕ → Type 0) (x y : List ℕ) (q : A → Reader B) (a : A) (ms : List Mark) (k : ℕ) (o′ : Out A) (w : Out B)
-      → ((j : ℕ) → N (k + j) → k ≤ length x) → Carries (λ j. N (k + j)) w (q a (drop k x ++ y)) → ((b : B) (ns : List Mark) (j : ℕ) → w ≡ ok b ns j → N (k + j) → o′ ≡ ok a ms k)
+      → ((j : ℕ) → N (k + j) → k ≤ length x) → Carries (λ j. N (k + j)) w (q a (drop k x ++ y))
+      → ((b : B) (ns : List Mark) (j : ℕ) → w ≡ ok b ns j → N (k + j) → o′ ≡ ok a ms k)
       → Carries N (after ms k w) (next (x ++ y) q o′)
   unfolding next after
   next-ok N x y q a ms k o′ (ok b ns j) le c e =
@@ -161,12 +133,6 @@ module _ {A B : Type 0} where
   pub then : {m : Mode} {p : Reader A} {q : Reader B} → Reads m p → Reads m q → Reads m (p >> q)
   unfolding _>>=_ _>>_
   then {m} {p} {q} r f = bind {q = λ _. q} r (λ _. f)
-
-  pub takes-next : (s : List ℕ) (q : A → Reader B) (o : Out A) → ((a : A) (r : List ℕ) → Takes (q a r)) → Takes (next s q o)
-  unfolding next
-  takes-next s q (ok a ms k) t = takes-after k ms (q a (drop k s)) (t a (drop k s))
-  takes-next s q (bad f k) t = tt
-  takes-next s q (deep k) t = tt
 
   pub bind-closes : {p : Reader A} {q : A → Reader B} → Reads loose p → ((a : A) → Closes (q a)) → Closes (p >>= q)
   unfolding _>>=_
@@ -240,16 +206,6 @@ pub node-closes : {A : Type 0} {p : Reader A} (kind : ℕ) → Closes p → Clos
 unfolding inNode
 node-closes kind r = relabel-closes {f = wrap kind} (wrap-relabels kind) r
 
--- a choice by a test
-pub pick-within : {A : Type 0} (n : ℕ) (v : Bool) (o u : Out A) → (v ≡ true → Within n o) → (v ≡ false → Within n u) → Within {A = A} n (elim v [ true ↦ o | false ↦ u ])
-pick-within n true o u f g = f refl
-pick-within n false o u f g = g refl
-
-pub pick-carries : {A : Type 0} (N : ℕ → Type 0) (v : Bool) (o u o′ u′ : Out A) → (v ≡ true → Carries N o o′) → (v ≡ false → Carries N u u′)
-    → Carries {A = A} N (elim v [ true ↦ o | false ↦ u ]) (elim v [ true ↦ o′ | false ↦ u′ ])
-pick-carries N true o u o′ u′ f g = f refl
-pick-carries N false o u o′ u′ f g = g refl
-
 -- turns of a loop, with what holds of the state and the rest of x before each
 abbrev pub TurnWithin : {S A : Type 0} → (S → ℕ → Type 0) → ℕ → Turn S A → Type 0
 TurnWithin H n (again st ms k) = (k ≤ n) × H st k
@@ -288,15 +244,6 @@ unfolding turnOf
 turnOf-within A n (ok a ms k) c = (c, tt)
 turnOf-within A n (bad f k) c = tt
 turnOf-within A n (deep k) c = tt
-
-pub pick-turn-within : {S A : Type 0} (H : S → ℕ → Type 0) (n : ℕ) (v : Bool) (o u : Turn S A) → (v ≡ true → TurnWithin H n o) → (v ≡ false → TurnWithin H n u) → TurnWithin {S = S} {A = A} H n (elim v [ true ↦ o | false ↦ u ])
-pick-turn-within H n true o u f g = f refl
-pick-turn-within H n false o u f g = g refl
-
-pub pick-turn-carries : {S A : Type 0} (H : S → ℕ → Type 0) (N : ℕ → Type 0) (v : Bool) (o u o′ u′ : Turn S A) → (v ≡ true → TurnCarries H N o o′) → (v ≡ false → TurnCarries H N u u′)
-    → TurnCarries {S = S} {A = A} H N (elim v [ true ↦ o | false ↦ u ]) (elim v [ true ↦ o′ | false ↦ u′ ])
-pick-turn-carries H N true o u o′ u′ f g = f refl
-pick-turn-carries H N false o u o′ u′ f g = g refl
 
 module _ {S A : Type 0} (t : S → List ℕ → Turn S A) where
   step-within : (H : S → ℕ → Type 0) (n : ℕ) (x y : List ℕ) (w : Turn S A) → TurnWithin H (length x) w
@@ -351,9 +298,7 @@ module _ {S A : Type 0} (t : S → List ℕ → Turn S A) where
 
 -- readers that leave a byte of x
 abbrev pub Short : {A : Type 0} → ℕ → Out A → Type 0
-Short n (ok a ms k) = k < n
-Short n (bad f k) = Unit {0}
-Short n (deep k) = Unit {0}
+Short n o = Holds (λ a ms k. k < n) o
 
 pub record Strict {A : Type 0} (p : Reader A) : Type 0 where
   pub short : (x y : List ℕ) → Whole x → Stop y → Short (length x) (p (x ++ y))
@@ -363,19 +308,8 @@ pub record Inner {A : Type 0} (m : Mode) (p : Reader A) : Type 0 where
   pub stops : (b : ℕ) (bs y : List ℕ) → Whole (b ∷ bs) → Stop y → Within (suc (length bs)) (p ((b ∷ bs) ++ y))
   pub keeps : (b : ℕ) (bs y : List ℕ) → Whole (b ∷ bs) → KeepsAt m p (b ∷ bs) y
 
-pub reads-inner : {A : Type 0} {m : Mode} {p : Reader A} → Reads m p → Inner m p
-reads-inner r = record { stops = λ b bs y w s. r .stops (b ∷ bs) y w s; keeps = λ b bs y w. r .keeps (b ∷ bs) y w }
-
-short-within : {A : Type 0} (n : ℕ) (o : Out A) → Short n o → Within n o
-short-within n (ok a ms k) h = omega arith
-short-within n (bad f k) h = tt
-short-within n (deep k) h = tt
-
 short-after : {A : Type 0} (n k : ℕ) (ms : List Mark) (o : Out A) → k ≤ n → Short (n - k) o → Short n (after ms k o)
-unfolding after
-short-after n k ms (ok a ns j) h w = omega arith
-short-after n k ms (bad f j) h w = tt
-short-after n k ms (deep j) h w = tt
+short-after n k ms o h w = holds-after (λ a ns j. j < n - k) (λ a ns j. j < n) ms k (λ a ns j g. omega arith) o w
 
 pub inner-within : {B : Type 0} {m : Mode} {p : Reader B} → Inner m p → (x y : List ℕ) → 0 < length x → Whole x → Stop y → Within (length x) (p (x ++ y))
 inner-within i [] y h w s = absurd (not-suc-le-zero h)
@@ -417,7 +351,8 @@ module _ {A B : Type 0} {m : Mode} {p : Reader A} {q : A → Reader B} where
       go x y w s (bad e k) h = tt
       go x y w s (deep k) h = tt
 
-      keep : (x y : List ℕ) → Whole x → (o o′ : Out A) → Short (length x) o → Carries (Upto m y (length x)) o o′ → Carries (Upto m y (length x)) (next x q o) (next (x ++ y) q o′)
+      keep : (x y : List ℕ) → Whole x → (o o′ : Out A) → Short (length x) o → Carries (Upto m y (length x)) o o′
+          → Carries (Upto m y (length x)) (next x q o) (next (x ++ y) q o′)
       keep x y w (ok a ms k) o′ h c =
           next-ok (Upto m y (length x)) x y q a ms k o′ (q a (drop k x)) (λ j u. upto-le m y (length x) k (upto-down m y (length x) k j u))
           (weaker (Upto m y (length (drop k x))) (λ j. Upto m y (length x) (k + j)) (λ j u. upto-rest m y x k j u) (q a (drop k x)) (q a (drop k x ++ y)) (inner-keeps (f a) (drop k x) y (rw length-drop (omega arith)) (whole-drop k x w)))
@@ -437,69 +372,6 @@ module _ {A B : Type 0} {m : Mode} {p : Reader A} {q : Reader B} where
   pub inner-then : Inner m p → Reads m q → Inner m (p >> q)
   unfolding _>>=_ _>>_
   inner-then r f = inner-bind {q = λ _. q} r (λ _. f)
-
--- what holds of a loop's answers, by its turns
-abbrev pub Holds : {A : Type 0} → (A → List Mark → ℕ → Type 0) → Out A → Type 0
-Holds P (ok a ms k) = P a ms k
-Holds P (bad f k) = Unit {0}
-Holds P (deep k) = Unit {0}
-
-module _ {S A : Type 0} (t : S → List ℕ → Turn S A) (G : S → List ℕ → A → List Mark → ℕ → Type 0) where
-  abbrev pub TurnHolds : S → List ℕ → Turn S A → Type 0
-  TurnHolds st s (again st′ ms k) = (a : A) (ns : List Mark) (j : ℕ) → G st′ (drop k s) a ns j → G st s a (ms ++ moveUp k ns) (k + j)
-  TurnHolds st s (done o) = Holds (G st s) o
-
-  step-holds : (st : S) (s : List ℕ) (n : ℕ) (w : Turn S A) → TurnHolds st s w → ((st′ : S) (r : List ℕ) → Holds (G st′ r) (loop n t st′ r))
-      → Holds {A = A} (G st s) (elim w [ again st′ ms k ↦ after ms k (loop n t st′ (drop k s)) | done o ↦ o ])
-  unfolding after
-  step-holds st s n (again st′ ms k) h f = go (loop n t st′ (drop k s)) (f st′ (drop k s))
-    where
-      go : (o : Out A) → Holds (G st′ (drop k s)) o → Holds (G st s) (after ms k o)
-      go (ok a ns j) g = h a ns j g
-      go (bad e j) g = tt
-      go (deep j) g = tt
-  step-holds st s n (done o) h f = h
-
-  pub loop-holds : ((st : S) (s : List ℕ) → TurnHolds st s (t st s)) → (n : ℕ) (st : S) (s : List ℕ) → Holds (G st s) (loop n t st s)
-  unfolding loop
-  loop-holds h zero st s = tt
-  loop-holds h (suc n) st s = step-holds st s n (t st s) (h st s) (λ st′ r. loop-holds h n st′ r)
-
--- loops that end
-abbrev pub Sure : {A : Type 0} → Out A → Type 0
-Sure (ok a ms k) = Unit {0}
-Sure (bad f k) = ⊥
-Sure (deep k) = ⊥
-
-abbrev pub TurnSure : {S A : Type 0} → List ℕ → Turn S A → Type 0
-TurnSure s (again st ms k) = length (drop k s) < length s
-TurnSure s (done o) = Sure o
-
-pub sure-after : {A : Type 0} (ms : List Mark) (k : ℕ) (o : Out A) → Sure o → Sure (after ms k o)
-unfolding after
-sure-after ms k (ok a ns j) h = tt
-sure-after ms k (bad f j) h = absurd h
-sure-after ms k (deep j) h = absurd h
-
-module _ {S A : Type 0} (t : S → List ℕ → Turn S A) (h : (st : S) (s : List ℕ) → TurnSure s (t st s)) where
-  step-sure : (n : ℕ) (s : List ℕ) (w : Turn S A) → TurnSure s w → length s ≤ n → ((st : S) (r : List ℕ) → length r < n → Sure (loop n t st r))
-      → Sure {A = A} (elim w [ again st′ ms k ↦ after ms k (loop n t st′ (drop k s)) | done o ↦ o ])
-  step-sure n s (again st ms k) g l f = sure-after ms k (loop n t st (drop k s)) (f st (drop k s) (omega arith))
-  step-sure n s (done o) g l f = g
-
-  pub loop-sure : (n : ℕ) (st : S) (s : List ℕ) → length s < n → Sure (loop n t st s)
-  unfolding loop
-  loop-sure zero st s l = absurd (not-suc-le-zero l)
-  loop-sure (suc n) st s l = step-sure n s (t st s) (h st s) (omega arith) (λ st′ r k. loop-sure n st′ r k)
-
-  pub repeat-sure : (st : S) (s : List ℕ) → Sure (repeat t st s)
-  unfolding repeat
-  repeat-sure st s = loop-sure (suc (length s)) st s (omega arith)
-
-pub sure-ok : {A : Type 0} (o : Out A) → Sure o → (a : A) × (ms : List Mark) × (k : ℕ) × (o ≡ ok a ms k)
-sure-ok (ok a ms k) h = (a, ms, k, refl)
-sure-ok (bad f k) h = absurd h
-sure-ok (deep k) h = absurd h
 
 -- what follows k bytes and some marks
 module _ {A : Type 0} (p : Reader A) (r : Reads loose p) (x y : List ℕ) (w : Whole x) (ms : List Mark) (k : ℕ) where
@@ -524,11 +396,6 @@ after-least ms k (ok a ns j) = omega arith
 after-least ms k (bad f j) = tt
 after-least ms k (deep j) = tt
 
-pub holds-map : {A : Type 0} (P Q : A → List Mark → ℕ → Type 0) → ((a : A) (ms : List Mark) (k : ℕ) → P a ms k → Q a ms k) → (o : Out A) → Holds P o → Holds Q o
-holds-map P Q f (ok a ms k) h = f a ms k h
-holds-map P Q f (bad e k) h = tt
-holds-map P Q f (deep k) h = tt
-
 pub least-next : {A B : Type 0} (k : ℕ) (s : List ℕ) (q : A → Reader B) (o : Out A) → Holds (λ b ns j. k ≤ j) o → Holds (λ b ns j. k ≤ j) (next s q o)
 unfolding next
 least-next k s q (ok a ms j) h = holds-map (λ b ns i. j ≤ i) (λ b ns i. k ≤ i) (λ b ns i l. omega arith) (after ms j (q a (drop j s))) (after-least ms j (q a (drop j s)))
@@ -545,35 +412,3 @@ pub beyond : {A : Type 0} (y : List ℕ) (n k : ℕ) (o o′ : Out A) → n ≤ 
 beyond y n k (ok a ms j) o′ l h = λ u. absurd (omega arith)
 beyond y n k (bad f j) o′ l h = tt
 beyond y n k (deep j) o′ l h = tt
-
--- what holds of every answer, whatever the marks and the bytes
-pub plain-after : {A : Type 0} (P : A → Type 0) (ms : List Mark) (k : ℕ) (o : Out A) → Holds (λ a ns j. P a) o → Holds (λ a ns j. P a) (after ms k o)
-unfolding after
-plain-after P ms k (ok a ns j) h = h
-plain-after P ms k (bad f j) h = tt
-plain-after P ms k (deep j) h = tt
-
-pub plain-next : {A B : Type 0} (P : B → Type 0) (s : List ℕ) (q : A → Reader B) (o : Out A) → ((a : A) (r : List ℕ) → Holds (λ b ns j. P b) (q a r)) → Holds (λ b ns j. P b) (next s q o)
-unfolding next
-plain-next P s q (ok a ms k) h = plain-after P ms k (q a (drop k s)) (h a (drop k s))
-plain-next P s q (bad f k) h = tt
-plain-next P s q (deep k) h = tt
-
--- more turns change no answer
-module _ {S A : Type 0} (t : S → List ℕ → Turn S A) where
-  pub loop-more : (n n′ : ℕ) (st : S) (s : List ℕ) (a : A) (ms : List Mark) (k : ℕ) → n ≤ n′ → loop n t st s ≡ ok a ms k → loop n′ t st s ≡ ok a ms k
-  unfolding loop after
-  loop-more zero n′ st s a ms k le e = let z : _≡_ {A = ℕ} 0 1 = cc in absurd (omega arith)
-  loop-more (suc n) zero st s a ms k le e = absurd (not-suc-le-zero le)
-  loop-more (suc n) (suc n′) st s a ms k le e = go (t st s) (λ st′ j b ns i f. loop-more n n′ st′ (drop j s) b ns i (le-of-suc-le-suc le) f) e
-    where
-      inner : (o o′ : Out A) (ns : List Mark) (j : ℕ) → ((b : A) (os : List Mark) (i : ℕ) → o ≡ ok b os i → o′ ≡ ok b os i) → after ns j o ≡ ok a ms k → after ns j o′ ≡ ok a ms k
-      inner (ok b os i) o′ ns j f g = ap (after ns j) (f b os i refl) ∙ g
-      inner (bad d i) o′ ns j f g = let z : _≡_ {A = ℕ} 0 1 = cc in absurd (omega arith)
-      inner (deep i) o′ ns j f g = let z : _≡_ {A = ℕ} 0 1 = cc in absurd (omega arith)
-
-      go : (w : Turn S A) → ((st′ : S) (j : ℕ) (b : A) (ns : List Mark) (i : ℕ) → loop n t st′ (drop j s) ≡ ok b ns i → loop n′ t st′ (drop j s) ≡ ok b ns i)
-          → _≡_ {A = Out A} (elim w [ again st′ ms k ↦ after ms k (loop n t st′ (drop k s)) | done o ↦ o ]) (ok a ms k)
-          → _≡_ {A = Out A} (elim w [ again st′ ms k ↦ after ms k (loop n′ t st′ (drop k s)) | done o ↦ o ]) (ok a ms k)
-      go (again st′ ns j) f g = inner (loop n t st′ (drop j s)) (loop n′ t st′ (drop j s)) ns j (f st′ j) g
-      go (done o) f g = g

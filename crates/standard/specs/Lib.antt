@@ -30,3 +30,4 @@ pub mod Comments
 pub mod Pieces
 pub mod Resource
 pub mod Theorem
+pub mod Table

@@ -1,10 +1,17 @@
 -- Tests on bytes, and on what the rest of a source starts with.
 use Prim.Native.Nat.{ℕ, suc, _+_, _-_}
+use Prim.Native.Char.{code}
+use Prim.Native.String.{String, [] as end, _∷_ as cons}
 use mathlib.Core.Path.{_≡_}
 use mathlib.Core.Bool.{Bool, true, false, _&&_, _||_, not}
 use mathlib.Core.List.{List, [], _∷_}
 use lib.Dec.{eqb, leb}
 use Rattle.syntax.specs.Byte as Byte
+
+-- the bytes of a text in ASCII
+abbrev pub ascii : String → List ℕ
+ascii end = []
+ascii (cons c s) = code c ∷ ascii s
 
 unfoldable pub startsWith : ℕ → List ℕ → Bool
 startsWith b [] = false

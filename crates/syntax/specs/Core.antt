@@ -6,7 +6,7 @@ use lib.ListN.{drop, length}
 use lib.Dec.{eqb, ltb}
 use Rattle.syntax.specs.Byte as Byte
 use Rattle.syntax.specs.Kind as Kind
-use Rattle.syntax.specs.Bytes.{startsWith, isLetter, spaces}
+use Rattle.syntax.specs.Bytes.{startsWith, spaces, isFresh}
 use Rattle.syntax.specs.Errors as Errors
 use Rattle.syntax.specs.Marks.{Mark, moveUp, textNode, node}
 use Rattle.syntax.specs.Errors.{ParserError, upFault}
@@ -91,7 +91,7 @@ getEntry sub s =
 -- skip_to_next_entry_start: how far; `fresh` says that a line starts here
 unfoldable pub toNextEntry : Bool → List ℕ → ℕ
 toNextEntry fresh [] = 0
-toNextEntry fresh (b ∷ bs) = elim (fresh && (isLetter b || (eqb b Byte.minus || eqb b Byte.hash))) [ true ↦ 0 | false ↦ suc (toNextEntry (eqb b Byte.lineFeed) bs) ]
+toNextEntry fresh (b ∷ bs) = elim (fresh && (isFresh b)) [ true ↦ 0 | false ↦ suc (toNextEntry (eqb b Byte.lineFeed) bs) ]
 
 -- whether a line starts n bytes on, where one starts here
 unfoldable pub lineStartsAt : ℕ → List ℕ → Bool

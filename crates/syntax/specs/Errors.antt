@@ -1,9 +1,9 @@
 -- errors.rs: document 01's number and arguments of each error, and moving errors up.
 use Prim.Native.Nat.{ℕ, _+_}
-use mathlib.Core.List.{List, [], _∷_}
 pub use Rattle.syntax.specs.declared.errors.ErrorKind.{ErrorKind}
 pub use Rattle.syntax.specs.declared.errors.ErrorKind.the-variants.{ExpectedToken, ExpectedCharRange, ExpectedMessageField, ExpectedTermField, ForbiddenCallee, MissingDefaultVariant, MissingValue, MultipleDefaultVariants, MessageReferenceAsSelector, TermReferenceAsSelector, MessageAttributeAsSelector, TermAttributeAsPlaceable, UnterminatedStringLiteral, PositionalArgumentFollowsNamed, DuplicatedNamedArgument, UnknownEscapeSequence, InvalidUnicodeEscapeSequence, UnbalancedClosingBrace, ExpectedInlineExpression, ExpectedSimpleExpressionAsSelector, ExpectedLiteral}
 pub use Rattle.syntax.specs.declared.errors.ParserError.{ParserError}
+use Rattle.syntax.specs.declared.errors.KindWords.{KindWords}
 
 -- the codes of ExpectedCharRange: "a-zA-Z", a line end, "0-9"
 abbrev pub letterRange : ℕ
@@ -15,53 +15,29 @@ lineEndRange = 2
 abbrev pub digitRange : ℕ
 digitRange = 3
 
--- the number of a kind, in the order of `ErrorKind`
-unfoldable pub number : ErrorKind → ℕ
-number (ExpectedToken b) = 1
-number (ExpectedCharRange c) = 2
-number (ExpectedMessageField a e) = 3
-number (ExpectedTermField a e) = 4
-number ForbiddenCallee = 5
-number MissingDefaultVariant = 6
-number MissingValue = 7
-number MultipleDefaultVariants = 8
-number MessageReferenceAsSelector = 9
-number TermReferenceAsSelector = 10
-number MessageAttributeAsSelector = 11
-number TermAttributeAsPlaceable = 12
-number UnterminatedStringLiteral = 13
-number PositionalArgumentFollowsNamed = 14
-number (DuplicatedNamedArgument a e) = 15
-number (UnknownEscapeSequence b) = 16
-number (InvalidUnicodeEscapeSequence a e) = 17
-number UnbalancedClosingBrace = 18
-number ExpectedInlineExpression = 19
-number ExpectedSimpleExpressionAsSelector = 20
-number ExpectedLiteral = 21
-
--- its two argument words
-unfoldable pub arguments : ErrorKind → List ℕ
-arguments (ExpectedToken b) = b ∷ 0 ∷ []
-arguments (ExpectedCharRange c) = c ∷ 0 ∷ []
-arguments (ExpectedMessageField a e) = a ∷ e ∷ []
-arguments (ExpectedTermField a e) = a ∷ e ∷ []
-arguments ForbiddenCallee = 0 ∷ 0 ∷ []
-arguments MissingDefaultVariant = 0 ∷ 0 ∷ []
-arguments MissingValue = 0 ∷ 0 ∷ []
-arguments MultipleDefaultVariants = 0 ∷ 0 ∷ []
-arguments MessageReferenceAsSelector = 0 ∷ 0 ∷ []
-arguments TermReferenceAsSelector = 0 ∷ 0 ∷ []
-arguments MessageAttributeAsSelector = 0 ∷ 0 ∷ []
-arguments TermAttributeAsPlaceable = 0 ∷ 0 ∷ []
-arguments UnterminatedStringLiteral = 0 ∷ 0 ∷ []
-arguments PositionalArgumentFollowsNamed = 0 ∷ 0 ∷ []
-arguments (DuplicatedNamedArgument a e) = a ∷ e ∷ []
-arguments (UnknownEscapeSequence b) = b ∷ 0 ∷ []
-arguments (InvalidUnicodeEscapeSequence a e) = a ∷ e ∷ []
-arguments UnbalancedClosingBrace = 0 ∷ 0 ∷ []
-arguments ExpectedInlineExpression = 0 ∷ 0 ∷ []
-arguments ExpectedSimpleExpressionAsSelector = 0 ∷ 0 ∷ []
-arguments ExpectedLiteral = 0 ∷ 0 ∷ []
+-- the number of a kind, in the order of `ErrorKind`, and its two arguments
+abbrev pub wordsOf : ErrorKind → KindWords
+wordsOf (ExpectedToken b) = record { number = 1; first = b; second = 0 }
+wordsOf (ExpectedCharRange b) = record { number = 2; first = b; second = 0 }
+wordsOf (ExpectedMessageField a e) = record { number = 3; first = a; second = e }
+wordsOf (ExpectedTermField a e) = record { number = 4; first = a; second = e }
+wordsOf ForbiddenCallee = record { number = 5; first = 0; second = 0 }
+wordsOf MissingDefaultVariant = record { number = 6; first = 0; second = 0 }
+wordsOf MissingValue = record { number = 7; first = 0; second = 0 }
+wordsOf MultipleDefaultVariants = record { number = 8; first = 0; second = 0 }
+wordsOf MessageReferenceAsSelector = record { number = 9; first = 0; second = 0 }
+wordsOf TermReferenceAsSelector = record { number = 10; first = 0; second = 0 }
+wordsOf MessageAttributeAsSelector = record { number = 11; first = 0; second = 0 }
+wordsOf TermAttributeAsPlaceable = record { number = 12; first = 0; second = 0 }
+wordsOf UnterminatedStringLiteral = record { number = 13; first = 0; second = 0 }
+wordsOf PositionalArgumentFollowsNamed = record { number = 14; first = 0; second = 0 }
+wordsOf (DuplicatedNamedArgument a e) = record { number = 15; first = a; second = e }
+wordsOf (UnknownEscapeSequence b) = record { number = 16; first = b; second = 0 }
+wordsOf (InvalidUnicodeEscapeSequence a e) = record { number = 17; first = a; second = e }
+wordsOf UnbalancedClosingBrace = record { number = 18; first = 0; second = 0 }
+wordsOf ExpectedInlineExpression = record { number = 19; first = 0; second = 0 }
+wordsOf ExpectedSimpleExpressionAsSelector = record { number = 20; first = 0; second = 0 }
+wordsOf ExpectedLiteral = record { number = 21; first = 0; second = 0 }
 
 -- a kind n bytes further on: spans move, bytes and codes do not
 abbrev pub upKind : ℕ → ErrorKind → ErrorKind

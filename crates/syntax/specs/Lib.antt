@@ -1,7 +1,9 @@
 -- The definitions that the contracts cite, a module for each file of the Rust.
+pub mod Limits
 pub mod Byte
 pub mod Kind
 pub mod Errors
+pub mod Answer
 pub mod Marks
 pub mod Bytes
 pub mod Reader
@@ -11,4 +13,10 @@ pub mod Pattern
 pub mod Expression
 pub mod Core
 pub mod Serializer
-pub mod Cut
+pub mod Layout
+pub mod Reading
+pub mod Shape
+pub mod ShapeTable
+pub mod Writing
+pub mod Listing
+pub mod Table

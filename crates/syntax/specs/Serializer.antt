@@ -6,7 +6,7 @@ use lib.ListN.{drop, length, take, replicate}
 use lib.Dec.{eqb, leb, ltb}
 use Rattle.syntax.specs.Byte as Byte
 use Rattle.syntax.specs.Kind as Kind
-use Rattle.syntax.specs.Bytes.{startsWith, starts, run, all}
+use Rattle.syntax.specs.Bytes.{ascii, startsWith, starts, run, all}
 use Rattle.syntax.specs.Marks.{Mark, plain, placed, kindOf, placeOf}
 
 -- a node: its kind, the marks that open and close it, and the marks inside it
@@ -63,19 +63,21 @@ empty level last = []
 abbrev pub indentWidth : ℕ
 indentWidth = 4
 
--- write_literal
+-- TextWriter::write_literal: at the start of a line the indent comes first
 unfoldable pub literal : List ℕ → Piece
 literal t level last = elim (eqb last Byte.lineFeed) [ true ↦ replicate (indentWidth * level) Byte.space ++ t | false ↦ t ]
 
+-- TextWriter::newline: a '\r' before it is doubled, or it would be taken for a part of the line end
 unfoldable pub newline : Piece
 newline level last = elim (eqb last Byte.carriageReturn) [ true ↦ Byte.carriageReturn ∷ Byte.lineFeed ∷ [] | false ↦ Byte.lineFeed ∷ [] ]
 
+-- between TextWriter::indent and dedent
 unfoldable pub indented : Piece → Piece
 indented p level last = p (suc level) last
 
 -- write_char_into_indent, which follows a line end at a level of at least 1, so that what it replaces is a space of the indent
 unfoldable pub star : Piece
-star level last = replicate (indentWidth * level - 1) Byte.space ++ (Byte.star ∷ [])
+star level last = replicate (indentWidth * level - 1) Byte.space ++ (ascii "*")
 
 unfoldable pub each : {A : Type 0} → (A → Piece) → List A → Piece
 each f [] = empty
@@ -116,13 +118,16 @@ module _ (source : List ℕ) where
   unfolding textOf
   name n = literal (textOf n)
 
+  -- matches_fluent_ws, of every byte
   unfoldable pub blankLine : List ℕ → Bool
   blankLine t = all (λ b. eqb b Byte.space || (eqb b Byte.carriageReturn || eqb b Byte.lineFeed)) t
 
+  -- a line of serialize_comment
   unfoldable pub commentLine : List ℕ → Node → Piece
   unfolding if textOf blankLine
-  commentLine prefix n = literal prefix ⊕ if (not (blankLine (textOf n))) (literal (Byte.space ∷ []) ⊕ literal (textOf n)) ⊕ newline
+  commentLine prefix n = literal prefix ⊕ if (not (blankLine (textOf n))) (literal (ascii " ") ⊕ literal (textOf n)) ⊕ newline
 
+  -- serialize_comment
   unfoldable pub comment : List ℕ → List Mark → Piece
   unfolding commentLine
   comment prefix ms = each (commentLine prefix) (nodes ms)
@@ -140,60 +145,69 @@ module _ (source : List ℕ) where
   unfolding hasNewline textOf isSelect
   multilineElement e = elim (eqb (e .kind) Kind.text) [ true ↦ hasNewline (textOf e) | false ↦ isSelect (suc (length (e .inner))) (nodes (e .inner)) ]
 
+  -- Pattern::is_multiline
   unfoldable pub isMultiline : List Node → Bool
   unfolding multilineElement
   isMultiline [] = false
   isMultiline (e ∷ es) = multilineElement e || isMultiline es
 
+  -- Pattern::has_leading_text_dot
   unfoldable pub leadingDot : List Node → Bool
   unfolding textOf
   leadingDot [] = false
   leadingDot (e ∷ es) = eqb (e .kind) Kind.text && startsWith Byte.dot (textOf e)
 
+  -- an identifier, and its attribute if there is one
   unfoldable pub reference : List Node → Piece
   unfolding name
   reference [] = empty
-  reference (i ∷ rest) = name i ⊕ each (λ a. literal (Byte.dot ∷ []) ⊕ name a) rest
+  reference (i ∷ rest) = name i ⊕ each (λ a. literal (ascii ".") ⊕ name a) rest
 
   -- what can stand in braces, by how many nodes may still be gone into
   unfoldable mutual
+    -- serialize_pattern
     pub pattern : ℕ → List Mark → Piece
     pattern zero ms = empty
     pattern (suc n) ms =
         let es = nodes ms in
         let body = each (λ z. element n z) es in
-        elim (not (leadingDot es) && isMultiline es) [ true ↦ newline ⊕ indented body | false ↦ literal (Byte.space ∷ []) ⊕ body ]
+        elim (not (leadingDot es) && isMultiline es) [ true ↦ newline ⊕ indented body | false ↦ literal (ascii " ") ⊕ body ]
 
+    -- serialize_element
     pub element : ℕ → Node → Piece
     element zero e = empty
     element (suc n) e = elim (eqb (e .kind) Kind.text) [ true ↦ name e | false ↦ first (λ z. inBraces n z) (nodes (e .inner)) ]
 
-    -- the expression of a pattern's placeable
+    -- the expression of a pattern's placeable, with its braces
     pub inBraces : ℕ → Node → Piece
     inBraces zero x = empty
     inBraces (suc n) x =
         elim (eqb (x .kind) Kind.placeable) [
-          | true ↦ literal (Byte.openBrace ∷ Byte.openBrace ∷ Byte.space ∷ []) ⊕ first (λ z. expression n z) (nodes (x .inner)) ⊕ literal (Byte.space ∷ Byte.closeBrace ∷ Byte.closeBrace ∷ [])
+          | true ↦ literal (ascii "{{ ") ⊕ first (λ z. expression n z) (nodes (x .inner)) ⊕ literal (ascii " }}")
           | false ↦ elim (eqb (x .kind) Kind.select) [
-            | true ↦ literal (Byte.openBrace ∷ Byte.space ∷ []) ⊕ expression n x ⊕ literal (Byte.closeBrace ∷ [])
-            | false ↦ literal (Byte.openBrace ∷ Byte.space ∷ []) ⊕ expression n x ⊕ literal (Byte.space ∷ Byte.closeBrace ∷ [])
+            | true ↦ literal (ascii "{ ") ⊕ expression n x ⊕ literal (ascii "}")
+            | false ↦ literal (ascii "{ ") ⊕ expression n x ⊕ literal (ascii " }")
           ]
         ]
 
+    -- serialize_expression
     pub expression : ℕ → Node → Piece
     expression zero x = empty
     expression (suc n) x = elim (eqb (x .kind) Kind.select) [ true ↦ select n (nodes (x .inner)) | false ↦ inline n x ]
 
+    -- serialize_select_expression
     pub select : ℕ → List Node → Piece
     select zero xs = empty
-    select (suc n) xs = elim xs [ [] ↦ empty | x ∷ vs ↦ inline n x ⊕ literal (Byte.space ∷ Byte.minus ∷ Byte.greater ∷ []) ⊕ newline ⊕ indented (each (λ v. variant n v ⊕ newline) vs) ]
+    select (suc n) xs = elim xs [ [] ↦ empty | x ∷ vs ↦ inline n x ⊕ literal (ascii " ->") ⊕ newline ⊕ indented (each (λ v. variant n v ⊕ newline) vs) ]
 
+    -- serialize_variant
     pub variant : ℕ → Node → Piece
     variant zero v = empty
     variant (suc n) v =
-        if (eqb (v .kind) Kind.defaultVariant) star ⊕ literal (Byte.openBracket ∷ []) ⊕ first name (nodes (v .inner)) ⊕ literal (Byte.closeBracket ∷ [])
+        if (eqb (v .kind) Kind.defaultVariant) star ⊕ literal (ascii "[") ⊕ first name (nodes (v .inner)) ⊕ literal (ascii "]")
         ⊕ first (λ p. pattern n (p .inner)) (ofKind (λ k. eqb k Kind.pattern) (nodes (v .inner)))
 
+    -- serialize_inline_expression
     pub inline : ℕ → Node → Piece
     inline zero x = empty
     inline (suc n) x =
@@ -201,24 +215,25 @@ module _ (source : List ℕ) where
         let ids = ofKind (λ j. eqb j Kind.identifier) (nodes (x .inner)) in
         let args = ofKind (λ j. eqb j Kind.arguments) (nodes (x .inner)) in
         elim (eqb k Kind.string) [
-          | true ↦ literal (Byte.quote ∷ []) ⊕ name x ⊕ literal (Byte.quote ∷ [])
+          | true ↦ literal (ascii "\"") ⊕ name x ⊕ literal (ascii "\"")
           | false ↦ elim (eqb k Kind.number) [
             | true ↦ name x
-            | false ↦ elim (eqb k Byte.carriageReturn) [
-              | true ↦ literal (Byte.openBrace ∷ []) ⊕ first (λ z. expression n z) (nodes (x .inner)) ⊕ literal (Byte.closeBrace ∷ [])
-              | false ↦ (if (eqb k Kind.variable) (literal (Byte.dollar ∷ [])) ⊕ if (eqb k Kind.termReference) (literal (Byte.minus ∷ [])) ⊕ reference ids ⊕ each (λ a. arguments n (nodes (a .inner))) args)
+            | false ↦ elim (eqb k Kind.placeable) [
+              | true ↦ literal (ascii "{") ⊕ first (λ z. expression n z) (nodes (x .inner)) ⊕ literal (ascii "}")
+              | false ↦ (if (eqb k Kind.variable) (literal (ascii "$")) ⊕ if (eqb k Kind.termReference) (literal (ascii "-")) ⊕ reference ids ⊕ each (λ a. arguments n (nodes (a .inner))) args)
             ]
           ]
         ]
 
+    -- serialize_call_arguments
     pub arguments : ℕ → List Node → Piece
     arguments zero rest = empty
-    arguments (suc n) rest = literal (Byte.openParenthesis ∷ []) ⊕ separated n false rest ⊕ literal (Byte.closeParenthesis ∷ [])
+    arguments (suc n) rest = literal (ascii "(") ⊕ separated n false rest ⊕ literal (ascii ")")
 
     -- the arguments, with a comma before each but the first
     pub separated : ℕ → Bool → List Node → Piece
     separated zero written rest = empty
-    separated (suc n) written xs = elim xs [ [] ↦ empty | a ∷ rest ↦ if written (literal (Byte.comma ∷ Byte.space ∷ [])) ⊕ argument n a ⊕ separated n true rest ]
+    separated (suc n) written xs = elim xs [ [] ↦ empty | a ∷ rest ↦ if written (literal (ascii ", ")) ⊕ argument n a ⊕ separated n true rest ]
 
     pub argument : ℕ → Node → Piece
     argument zero a = empty
@@ -226,14 +241,16 @@ module _ (source : List ℕ) where
 
     pub namedArgument : ℕ → List Node → Piece
     namedArgument zero ns = empty
-    namedArgument (suc n) ns = elim ns [ [] ↦ empty | i ∷ xs ↦ name i ⊕ literal (Byte.colon ∷ Byte.space ∷ []) ⊕ first (λ z. inline n z) xs ]
+    namedArgument (suc n) ns = elim ns [ [] ↦ empty | i ∷ xs ↦ name i ⊕ literal (ascii ": ") ⊕ first (λ z. inline n z) xs ]
 
+  -- serialize_attribute, on a line of its own
   unfoldable pub attribute : Node → Piece
   unfolding first reference ofKind pattern
   attribute a =
       let ns = nodes (a .inner) in
-      newline ⊕ literal (Byte.dot ∷ []) ⊕ first name ns ⊕ literal (Byte.space ∷ Byte.equals ∷ []) ⊕ first (λ p. pattern (length (a .inner)) (p .inner)) (ofKind (λ k. eqb k Kind.pattern) ns)
+      newline ⊕ literal (ascii ".") ⊕ first name ns ⊕ literal (ascii " =") ⊕ first (λ p. pattern (length (a .inner)) (p .inner)) (ofKind (λ k. eqb k Kind.pattern) ns)
 
+  -- serialize_attributes
   unfoldable pub attributes : List Node → Piece
   unfolding isEmpty attribute
   attributes ns = elim (isEmpty ns) [ true ↦ empty | false ↦ indented (each attribute ns) ]
@@ -243,9 +260,10 @@ module _ (source : List ℕ) where
   unfolding first ofKind pattern attributes
   message ms =
       let ns = nodes ms in
-      first name ns ⊕ literal (Byte.space ∷ Byte.equals ∷ []) ⊕ each (λ p. pattern (length ms) (p .inner)) (ofKind (λ k. eqb k Kind.pattern) ns)
+      first name ns ⊕ literal (ascii " =") ⊕ each (λ p. pattern (length ms) (p .inner)) (ofKind (λ k. eqb k Kind.pattern) ns)
       ⊕ attributes (ofKind (λ k. eqb k Kind.attribute) ns) ⊕ newline
 
+  -- serialize_free_comment
   unfoldable pub freeComment : Bool → List ℕ → List Mark → Piece
   unfolding if comment
   freeComment wrote prefix ms = if wrote newline ⊕ comment prefix ms ⊕ newline
@@ -257,21 +275,21 @@ module _ (source : List ℕ) where
       elim (eqb (e .kind) Kind.junk) [
         | true ↦ if junk (literal (textOf e))
         | false ↦ elim (eqb (e .kind) Kind.attachedComment) [
-          | true ↦ comment (Byte.hash ∷ []) (e .inner)
+          | true ↦ comment (ascii "#") (e .inner)
           | false ↦ elim (eqb (e .kind) Kind.comment) [
-            | true ↦ freeComment wrote (Byte.hash ∷ []) (e .inner)
+            | true ↦ freeComment wrote (ascii "#") (e .inner)
             | false ↦ elim (eqb (e .kind) Kind.groupComment) [
-              | true ↦ freeComment wrote (Byte.hash ∷ Byte.hash ∷ []) (e .inner)
+              | true ↦ freeComment wrote (ascii "##") (e .inner)
               | false ↦ elim (eqb (e .kind) Kind.resourceComment) [
-                | true ↦ freeComment wrote (Byte.hash ∷ Byte.hash ∷ Byte.hash ∷ []) (e .inner)
-                | false ↦ if (eqb (e .kind) Kind.term) (literal (Byte.minus ∷ [])) ⊕ message (e .inner)
+                | true ↦ freeComment wrote (ascii "###") (e .inner)
+                | false ↦ if (eqb (e .kind) Kind.term) (literal (ascii "-")) ⊕ message (e .inner)
               ]
             ]
           ]
         ]
       ]
 
-  -- an attached comment leaves it to the entry before
+  -- wrote_non_junk_entry after an entry; an attached comment is a part of its message or term, and leaves it
   unfoldable pub wroteBy : Bool → ℕ → Bool
   wroteBy wrote k = elim (eqb k Kind.junk) [ true ↦ false | false ↦ elim (eqb k Kind.attachedComment) [ true ↦ wrote | false ↦ true ] ]
 

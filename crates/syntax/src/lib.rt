@@ -1,2 +1,3 @@
-// The definitions of the format stand in specs/; here are the types of errors.rs.
+// The types that the calls of the parser and the serializer answer with. What is right is defined in specs/.
+pub mod answer;
 pub mod errors;

@@ -1,0 +1,68 @@
+-- A reading call that is accepted: what was read, and that it stands in the slices.
+use Prim.Native.Nat.{ℕ}
+use native.Mathlib.Omega.{arith}
+use mathlib.Core.Path.{_≡_, refl, sym, ap, _∙_}
+use mathlib.Core.Bool.{Bool, true, false}
+use mathlib.Core.List.{List, [], _∷_, _++_}
+use mathlib.Core.Option.{Option, some, none}
+use lib.ListN.{length, drop}
+use lib.Dec.{ltb}
+use Rattle.utf8.specs.Utf8.{firstIllFormed}
+use Rattle.syntax.specs.declared.answer.Answer.{Answer}
+use Rattle.syntax.specs.declared.answer.Answer.the-variants.{Accepted, TooLong, NotUtf8, TreeTooShort, ErrorsTooShort, TooDeep}
+use Rattle.syntax.specs.Limits.{maxLength, maxOpen}
+use Rattle.syntax.specs.Marks.{Mark}
+use Rattle.syntax.specs.Core.{Error, Reading, read, refused, parse}
+use Rattle.syntax.specs.Layout.{treeCapacity, treeLayout, errorLayout, treeWords, errorWords}
+use Rattle.syntax.specs.Reading.{answerOf, readAnswer, sliceAfter, marksOf, errorsOf, treeAfter, errorsAfter}
+use Rattle.laws.specs.Bytes.{byCase}
+
+pub record Read (s t e : List ℕ) : Type 0 where
+  pub marks : List Mark
+  pub errors : List Error
+  pub reads : parse maxOpen s ≡ read marks errors
+  pub wellFormed : firstIllFormed s ≡ none
+  pub tree : treeAfter s t e ≡ treeWords (treeCapacity (length s)) marks ++ drop (treeLayout (length s)) t
+  pub list : errorsAfter s t e ≡ errorWords (length s) errors ++ drop (errorLayout (length s)) e
+
+module _ (s t e : List ℕ) (h : readAnswer s (length t) (length e) ≡ Accepted 0) where
+  -- no test refuses
+  short : ltb maxLength (length s) ≡ false
+  unfolding readAnswer
+  short = byCase (ltb maxLength (length s)) (λ q. let g = rw (q, readAnswer) at h in let z : _≡_ {A = ℕ} 0 1 = cc in absurd (omega arith)) (λ q. q)
+
+  formed : firstIllFormed s ≡ none
+  unfolding readAnswer
+  formed = go (firstIllFormed s) refl
+    where
+      go : (o : Option ℕ) → firstIllFormed s ≡ o → firstIllFormed s ≡ none
+      go none q = q
+      go (some k) q = let g = rw (short, readAnswer, q) at h in let z : _≡_ {A = ℕ} 0 1 = cc in absurd (omega arith)
+
+  trees : ltb (length t) (treeLayout (length s)) ≡ false
+  unfolding readAnswer
+  trees = byCase (ltb (length t) (treeLayout (length s))) (λ q. let g = rw (short, readAnswer, formed, q) at h in let z : _≡_ {A = ℕ} 0 1 = cc in absurd (omega arith)) (λ q. q)
+
+  lists : ltb (length e) (errorLayout (length s)) ≡ false
+  unfolding readAnswer
+  lists = byCase (ltb (length e) (errorLayout (length s))) (λ q. let g = rw (short, readAnswer, formed, trees, q) at h in let z : _≡_ {A = ℕ} 0 1 = cc in absurd (omega arith)) (λ q. q)
+
+  shallow : answerOf (parse maxOpen s) ≡ Accepted 0
+  unfolding readAnswer
+  shallow = rw (short, readAnswer, formed, trees, lists) at h
+
+  -- what was read
+  pub read-of : Read s t e
+  unfolding answerOf treeAfter errorsAfter sliceAfter marksOf errorsOf
+  read-of = go (parse maxOpen s) refl shallow
+    where
+      go : (r : Reading) → parse maxOpen s ≡ r → answerOf r ≡ Accepted 0 → Read s t e
+      go (read ms es) q a = record {
+        marks = ms;
+        errors = es;
+        reads = q;
+        wellFormed = formed;
+        tree = rw (h, q);
+        list = rw (h, q);
+      }
+      go (refused k) q a = let z : _≡_ {A = ℕ} 0 1 = cc in absurd (omega arith)
