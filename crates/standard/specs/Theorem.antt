@@ -1,7 +1,11 @@
 -- The theorem: for every source that is read, the tree of the standard with all departures is the tree of the reading.
 use Prim.Native.Nat.{ℕ}
-use mathlib.Core.Path.{_≡_}
+use mathlib.Core.Path.{_≡_, _∙_}
 use mathlib.Core.List.{List, _∷_}
+use native.Mathlib.Omega.{arith}
+use lib.ListN.{length}
+use lib.Dec.{leb}
+use borrow.Author.Tests.{leb-true, leb-false}
 use Rattle.syntax.specs.Marks.{Mark}
 use Rattle.syntax.specs.declared.errors.ParserError.{ParserError}
 use Rattle.syntax.specs.Reader.{ok, bad}
@@ -10,7 +14,11 @@ use Rattle.syntax.specs.Core as Core
 use Rattle.syntax.specs.Core.{Error, read, parse, getEntry}
 use Rattle.standard.specs.Peg.{fails}
 use Rattle.standard.specs.Turns.{Fitting}
+use Rattle.laws.specs.Bytes.{byCase}
+use Rattle.laws.specs.File.{parse-reads}
+use Rattle.laws.specs.Limit.Readings.{parse-kept}
 use Rattle.standard.specs.Dialect.{rust}
+use Rattle.standard.specs.Grammar as Grammar
 use Rattle.standard.specs.Grammar.{Entry, ResourceWithin}
 use Rattle.standard.specs.WholePattern.{pattern-agrees}
 use Rattle.standard.specs.Placeable.{levels-agree}
@@ -19,6 +27,12 @@ use Rattle.standard.specs.Resource as Resource
 -- with at most n "{" and "(" open at a time
 pub tree-is-standard : (n : ℕ) (s : List ℕ) (ms : List Mark) (es : List Error) → parse n s ≡ read ms es → ResourceWithin rust n s ≡ ms
 tree-is-standard n = Resource.tree-is-standard n (levels-agree pattern-agrees n)
+
+-- with as many as there are bytes, so that none is one too many: a reading that is not refused is the same with more allowed
+pub resource-is-standard : (n : ℕ) (s : List ℕ) (ms : List Mark) (es : List Error) → parse n s ≡ read ms es → Grammar.Resource rust s ≡ ms
+unfolding Grammar.Resource
+resource-is-standard n s ms es e = byCase (leb n (length s)) (λ q. tree-is-standard (length s) s ms es (parse-kept n (length s) s (leb-true n (length s) q) e))
+    (λ q. let (ns, fs, r) = parse-reads (length s) s (omega arith) in let f : parse n s ≡ read ns fs = parse-kept (length s) n s (omega (arith, leb-false n (length s) q)) r in let z : ns ≡ ms = cc in tree-is-standard (length s) s ns fs r ∙ z)
 
 -- There is junk exactly where no entry can be read: the production Entry fails where the reading finds an error, and fits where it reads an entry
 pub unread-fails : (n b : ℕ) (bs : List ℕ) (f : ParserError) (k : ℕ) → getEntry (level n) (b ∷ bs) ≡ bad f k → Entry rust n (b ∷ bs) ≡ fails
