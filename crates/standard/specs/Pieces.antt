@@ -23,14 +23,14 @@ use Rattle.standard.specs.Dialect as Dialect
 use Rattle.standard.specs.Dialect.{rust}
 use Rattle.standard.specs.Peg as Peg
 use Rattle.standard.specs.Peg.{Answer, fits, fails, Parser, pure, many, some, byte, one, given, pick, withFirst, _>>_, _/_}
-use Rattle.standard.specs.Steps.{then-fits, then-fails, first, second, byte-fits, byte-fails, some-fails}
+use Rattle.standard.specs.Steps.{then-fits, then-fails, first, second, byte-fits, byte-fails, some-fails, Uses, uses-choice, uses-first, uses-byte}
 use Rattle.standard.specs.Abstract as Abstract
 use Rattle.standard.specs.Abstract.{Item, Part, Line, A2, A3}
 use Rattle.standard.specs.Lexical.{blank-inline?, Identifier, junk-lines}
 use Rattle.standard.specs.Grammar.{nesting, Message, Term, entry-end, CommentLine, Entry, blank-lines, swallowing-junk, Junk, piece, part, asPart, treeOf, ResourceWithin}
 use Rattle.standard.specs.Blank.{blank-inline?-is}
 use Rattle.standard.specs.Same.{Same, Agree, fits-pure}
-use Rattle.standard.specs.Words.{no-name}
+use Rattle.standard.specs.Words.{no-name, uses-name}
 use Rattle.standard.specs.Turns.{AtEnd, many-again, many-none, many-still, some-many, Fitting, many-fit}
 use Rattle.standard.specs.Texts.{Sign, end, lf, cr-lf, opens, closes, plain, sign-of, plain-eol}
 use Rattle.standard.specs.Blocks.{Block, stop, step}
@@ -165,6 +165,16 @@ module _ (n : ℕ) (agree : Agree (level n) (nesting rust n)) where
       or-message (ok x ms k) h d = first message-branch (term-branch / CommentLine rust) s h
       or-message (bad f k) h d = second message-branch (term-branch / CommentLine rust) s h ∙ second term-branch (CommentLine rust) s (no-term s d) ∙ no-comment s e
       or-message (deep k) h d = tt
+
+  -- an entry uses a byte
+  pub entry-uses : (s : List ℕ) → Uses (Entry rust n s)
+  unfolding Entry message-branch term-branch Message Term _>>_
+  entry-uses s = uses-choice message-branch (term-branch / CommentLine rust) s (uses-first s _ ((Message rust (nesting rust n) >> entry-end rust n) s) (uses-first s _ (Message rust (nesting rust n) s) (uses-first s _ (Identifier 9 s) (uses-name 9 s))))
+      (uses-choice term-branch (CommentLine rust) s (uses-first s _ ((Term rust (nesting rust n) >> entry-end rust n) s) (uses-first s _ (Term rust (nesting rust n) s) (uses-first s _ (byte 45 s) (uses-byte 45 s)))) (line-uses (CommentLine rust s) refl))
+    where
+      line-uses : (o : Answer Item) → CommentLine rust s ≡ o → Uses o
+      line-uses (fits i ms k) f = let (l, e, z) = line-comment s i ms k f in z
+      line-uses fails f = tt
 
   -- no entry at a blank line
   first-blank : (s : List ℕ) (e : ℕ) → eol (drop (spaces s) s) ≡ suc e → (p : ℕ → Bool) → p 32 ≡ false → p 10 ≡ false → p 13 ≡ false → starts p s ≡ false

@@ -25,7 +25,6 @@ use Rattle.laws.specs.Bytes.{byCase, clash}
 use Rattle.laws.specs.Moving.{moveUp-twice, moveUp-zero}
 use Rattle.laws.specs.Entries.{entries-with, not-deep, nil-entry, nil-named, entry-comment}
 use Rattle.laws.specs.Progress.{junk-moves}
-use Rattle.laws.specs.File.{entry-moves}
 use Rattle.standard.specs.Dialect.{rust}
 use Rattle.standard.specs.Peg.{fits, fails}
 use Rattle.standard.specs.Abstract as Abstract
@@ -33,12 +32,12 @@ use Rattle.standard.specs.Abstract.{Item, Part, Line, A2, A3, beside, na
 use Rattle.standard.specs.Grammar.{nesting, CommentLine, Entry, ResourceWithin}
 use Rattle.standard.specs.Blank.{lineEnds}
 use Rattle.standard.specs.Same.{Same, Agree, ok-pure}
-use Rattle.standard.specs.Turns.{Shrinks, repeat-again, repeat-done}
+use Rattle.standard.specs.Turns.{Fitting, Shrinks, repeat-again, repeat-done}
 use Rattle.standard.specs.Texts.{Sign, end, lf, cr-lf, opens, closes, plain, sign-of, plain-eol}
 use Rattle.standard.specs.Blocks.{Block, stop, step, block-of, block-stops, skip-block, lf-block}
 use Rattle.standard.specs.Messages.{itemOf}
 use Rattle.standard.specs.Comments.{no-comment, no-level, Turned, away, broken, ends, line, turned-of}
-use Rattle.standard.specs.Pieces.{entry-hash, entry-agrees, piece-entry, piece-blank, piece-junk, parts, parts-again, parts-nil, tree-parts, Head, no-part, a-part, head-of}
+use Rattle.standard.specs.Pieces.{entry-uses, entry-hash, entry-agrees, piece-entry, piece-blank, piece-junk, parts, parts-again, parts-nil, tree-parts, Head, no-part, a-part, head-of}
 
 turn-nil : (c : ℕ) → commentTurn c [] ≡ done (ok c [] 0)
 unfolding commentTurn levelOf run
@@ -95,7 +94,7 @@ module _ (n : ℕ) (agree : Agree (level n) (nesting rust n)) where
   Cut s k K = ((K ≡ k) × ((drop k s ≡ []) ⊎ (startsWith 35 (drop k s) ≡ true))) ⊎ ((K ≡ k + 1) × ((t : List ℕ) × (drop k s ≡ 10 ∷ t)))
 
   data Went (c : ℕ) (s : List ℕ) (o : Out ℕ) : Type 0 where
-    stopped : o ≡ ok c [] 0 → eqb c (headLevel (ps s)) ≡ false → Went c s o
+    stopped : (c ≡ 0 → ⊥) → o ≡ ok c [] 0 → eqb c (headLevel (ps s)) ≡ false → Went c s o
     went : (l : ℕ) (ms : List Mark) (k K : ℕ) → o ≡ ok (suc l) ms k → 0 < k → (c ≡ 0) ⊎ (c ≡ suc l) → A2 (ps s) ≡ comment-part (suc l) ms K ∷ A2 (ps (drop K s)) → Cut s k K → Went c s o
     failed : (f : ParserError) (k : ℕ) → c ≡ 0 → o ≡ bad f k → CommentLine rust s ≡ fails → Went c s o
 
@@ -181,7 +180,7 @@ module _ (n : ℕ) (agree : Agree (level n) (nesting rust n)) where
   comment-went (suc m) c s short hash = go (turned-of c s) (λ d t q x. comment-went m d t q x)
     where
       go : Turned c s → ((d : ℕ) (t : List ℕ) → length t < m → (d ≡ 0 → startsWith 35 t ≡ true) → Went d t (repeat commentTurn d t)) → Went c s (repeat commentTurn c s)
-      go (away x e f) ih = stopped (repeat-done commentTurn c s (ok c [] 0) e) (elsewhere s c hash x f)
+      go (away x e f) ih = stopped (λ z. clash (hash z) (x z)) (repeat-done commentTurn c s (ok c [] 0) e) (elsewhere s c hash x f)
       go (broken f k x e h) ih = failed f k x (repeat-done commentTurn c s (bad f k) e) h
       go (ends l e f d x) ih = went l [] (suc l) (suc l) (repeat-done commentTurn c s (ok (suc l) [] (suc l)) e) (omega arith) x (line-part s (suc l) [] (suc l) f (omega arith) ∙ not-joined s l [] (suc l) (rw (d, parts-nil n agree) (eqb·suc-zero l))) (inl (refl, inl d))
       go (line l ms k e f h z x) ih = by (drop (eol (drop k s)) (drop k s)) refl
@@ -204,7 +203,7 @@ module _ (n : ℕ) (agree : Agree (level n) (nesting rust n)) where
               reads = repeat-again commentTurn comment-shrinks c s (suc l) ms (k + eol (drop k s)) (e ∙ ap (λ u. again (suc l) ms (k + u)) U)
 
               on : (o : Out ℕ) → repeat commentTurn (suc l) (drop (k + eol (drop k s)) s) ≡ o → Went (suc l) (drop (k + eol (drop k s)) s) (repeat commentTurn (suc l) (drop (k + eol (drop k s)) s)) → Went c s (repeat commentTurn c s)
-              on o q (stopped y v) = went l ms (k + eol (drop k s)) (k + eol (drop k s)) (reads ∙ ap (Reader.after ms (k + eol (drop k s))) y ∙ ok-same) (omega arith) x (line-part s (suc l) ms (k + eol (drop k s)) f (omega arith) ∙ not-joined s l ms (k + eol (drop k s)) v) (inl (refl, place))
+              on o q (stopped i y v) = went l ms (k + eol (drop k s)) (k + eol (drop k s)) (reads ∙ ap (Reader.after ms (k + eol (drop k s))) y ∙ ok-same) (omega arith) x (line-part s (suc l) ms (k + eol (drop k s)) f (omega arith) ∙ not-joined s l ms (k + eol (drop k s)) v) (inl (refl, place))
                 where
                   ok-same : Reader.after ms (k + eol (drop k s)) (ok (suc l) [] 0) ≡ ok (suc l) ms (k + eol (drop k s))
                   ok-same = ok-pure (suc l) ms (k + eol (drop k s))
@@ -272,14 +271,17 @@ module _ (n : ℕ) (agree : Agree (level n) (nesting rust n)) where
       a-junk f k e x = junked f k e (ap A2 (parts-again n agree (b ∷ bs) _ (junkEnd k (b ∷ bs)) (piece-junk n agree (b ∷ bs) f k x q e) (junk-moves (level n) b bs e)) ∙ alone _ (ps (drop (junkEnd k (b ∷ bs)) (b ∷ bs))) refl)
 
       hashed : eqb b 35 ≡ true → Went 0 (b ∷ bs) (repeat commentTurn 0 (b ∷ bs)) → First (b ∷ bs)
-      hashed h (stopped e x) = absurd (not-suc-le-zero (entry-moves n (b ∷ bs) (entry-comment (level n) b bs h ∙ ap asComment e)))
+      hashed h (stopped i e x) = absurd (i refl)
       hashed h (went l ms k K e z w a cut) = commented l ms k K (entry-comment (level n) b bs h ∙ ap asComment e) a cut
       hashed h (failed f k z e x) = a-junk f k (entry-comment (level n) b bs h ∙ ap asComment e) (entry-hash n agree (b ∷ bs) h ∙ x)
 
+      uses-of : {x : Core.Entry} {ms : List Mark} {k : ℕ} → getEntry (level n) (b ∷ bs) ≡ ok x ms k → Same itemOf (getEntry (level n) (b ∷ bs)) (Entry rust n (b ∷ bs)) → 0 < k
+      uses-of {x} {ms} {k} e a = let f : Entry rust n (b ∷ bs) ≡ fits (itemOf x) ms k = rw e at a in rw f at (entry-uses n agree (b ∷ bs))
+
       other : eqb b 35 ≡ false → (o : Out Core.Entry) → getEntry (level n) (b ∷ bs) ≡ o → Same itemOf (getEntry (level n) (b ∷ bs)) (Entry rust n (b ∷ bs)) → First (b ∷ bs)
       other h (ok (Core.Entry.comment l) ms k) e a = absurd (not-comment (b ∷ bs) h l ms k e)
-      other h (ok Core.Entry.message ms k) e a = named Core.Entry.message ms k e refl (ap A2 (parts-again n agree (b ∷ bs) _ k (piece-entry n agree (b ∷ bs) (rw e at a)) (entry-moves n (b ∷ bs) e)) ∙ alone _ (ps (drop k (b ∷ bs))) refl)
-      other h (ok Core.Entry.term ms k) e a = named Core.Entry.term ms k e refl (ap A2 (parts-again n agree (b ∷ bs) _ k (piece-entry n agree (b ∷ bs) (rw e at a)) (entry-moves n (b ∷ bs) e)) ∙ alone _ (ps (drop k (b ∷ bs))) refl)
+      other h (ok Core.Entry.message ms k) e a = named Core.Entry.message ms k e refl (ap A2 (parts-again n agree (b ∷ bs) _ k (piece-entry n agree (b ∷ bs) (rw e at a)) (uses-of e a)) ∙ alone _ (ps (drop k (b ∷ bs))) refl)
+      other h (ok Core.Entry.term ms k) e a = named Core.Entry.term ms k e refl (ap A2 (parts-again n agree (b ∷ bs) _ k (piece-entry n agree (b ∷ bs) (rw e at a)) (uses-of e a)) ∙ alone _ (ps (drop k (b ∷ bs))) refl)
       other h (bad f k) e a = a-junk f k e (rw e at a)
       other h (deep k) e a = absurd (nd k e)
 
@@ -379,6 +381,26 @@ module _ (n : ℕ) (agree : Agree (level n) (nesting rust n)) where
           let z : K + u ≡ k + (1 + u) = omega arith in
           entered (Core.Entry.comment (suc l)) ns k K (Abstract.comment (suc l)) h a (1 + u) (subst (λ r. Block r (record { spaces = 0; ending = 1 } ∷ ls) (1 + u)) (sym (x .1)) (lf-block t bt)) u c z ih
           (λ ns′ fs r. comment-marks (suc l) _ _ ns (near-line c (drop (k + (1 + u)) (b ∷ bs)) (drop-drop u K (b ∷ bs) ∙ ap (λ i. drop i (b ∷ bs)) z) (read-on m (drop (k + (1 + u)) (b ∷ bs)) ns′ fs r)))
+
+  -- The production Entry fits where the reading reads an entry, and nowhere else
+  pub unread-fails : (b : ℕ) (bs : List ℕ) (f : ParserError) (k : ℕ) → getEntry (level n) (b ∷ bs) ≡ bad f k → Entry rust n (b ∷ bs) ≡ fails
+  unfolding startsWith asComment getComment
+  unread-fails b bs f k e = byCase (eqb b 35) (λ h. hashed h (comment-went (suc (length (b ∷ bs))) 0 (b ∷ bs) (omega arith) (λ z. h))) (λ h. rw e at (entry-agrees n agree (b ∷ bs) h))
+    where
+      hashed : eqb b 35 ≡ true → Went 0 (b ∷ bs) (repeat commentTurn 0 (b ∷ bs)) → Entry rust n (b ∷ bs) ≡ fails
+      hashed h (stopped i y x) = absurd (i refl)
+      hashed h (went l ms j K y w v a cut) = let c = entry-comment (level n) b bs h ∙ ap asComment y in let z : _≡_ {A = ℕ} 0 1 = cc in absurd (omega arith)
+      hashed h (failed g j z y x) = entry-hash n agree (b ∷ bs) h ∙ x
+
+  pub read-fits : (b : ℕ) (bs : List ℕ) (en : Core.Entry) (ms : List Mark) (k : ℕ) → getEntry (level n) (b ∷ bs) ≡ ok en ms k → Fitting (Entry rust n (b ∷ bs))
+  unfolding startsWith asComment getComment
+  read-fits b bs en ms k e = byCase (eqb b 35) (λ h. hashed h (turned-of 0 (b ∷ bs))) (λ h. let a : Entry rust n (b ∷ bs) ≡ fits (itemOf en) ms k = rw e at (entry-agrees n agree (b ∷ bs) h) in rw a tt)
+    where
+      hashed : eqb b 35 ≡ true → Turned 0 (b ∷ bs) → Fitting (Entry rust n (b ∷ bs))
+      hashed h (away x y f) = clash h (x refl)
+      hashed h (broken f j x y c) = let a = entry-comment (level n) b bs h ∙ ap asComment (repeat-done commentTurn 0 (b ∷ bs) (bad f j) y) in let z : _≡_ {A = ℕ} 0 1 = cc in absurd (omega arith)
+      hashed h (ends l y f d x) = rw (entry-hash n agree (b ∷ bs) h ∙ f) tt
+      hashed h (line l ns j y f g z x) = rw (entry-hash n agree (b ∷ bs) h ∙ f) tt
 
   -- for every source that is read, the tree of the standard with all departures is the tree of the reading
   pub tree-is-standard : (s : List ℕ) (ms : List Mark) (es : List Error) → parse n s ≡ read ms es → ResourceWithin rust n s ≡ ms
