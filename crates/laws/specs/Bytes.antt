@@ -29,6 +29,16 @@ pub byCase {ℓ} : {G : Type ℓ} → (v : Bool) → (v ≡ true → G) → (v �
 byCase true f g = f refl
 byCase false f g = g refl
 
+-- a choice by a test
+pub pick : {B : Type 0} (P : B → Type 0) (v : Bool) (o u : B) → (v ≡ true → P o) → (v ≡ false → P u) → P (elim v [ true ↦ o | false ↦ u ])
+pick P true o u f g = f refl
+pick P false o u f g = g refl
+
+-- the same choice on both sides
+pub pick₂ : {B : Type 0} (R : B → B → Type 0) (v : Bool) (o u o′ u′ : B) → (v ≡ true → R o o′) → (v ≡ false → R u u′) → R (elim v [ true ↦ o | false ↦ u ]) (elim v [ true ↦ o′ | false ↦ u′ ])
+pick₂ R true o u o′ u′ f g = f refl
+pick₂ R false o u o′ u′ f g = g refl
+
 -- the rest of a line that does not end here
 pub nonempty : (b : ℕ) (bs : List ℕ) → Whole (b ∷ bs) → (b ≡ 10 → ⊥) → 0 < length bs
 nonempty b [] w h = absurd (h w)
@@ -36,6 +46,27 @@ nonempty b (c ∷ cs) w h = omega arith
 
 pub clash {ℓ} : {G : Type ℓ} {v : Bool} → v ≡ true → v ≡ false → G
 clash p q = let z : _≡_ {A = ℕ} 0 1 = cc in absurd (omega arith)
+
+-- what is counted at the start of a rest is within it
+pub run-le : (t : ℕ → Bool) (s : List ℕ) → run t s ≤ length s
+unfolding run
+run-le t [] = omega arith
+run-le t (b ∷ bs) = byCase (t b) (λ q. rw (q, run) (suc-le-suc (run-le t bs))) (λ q. rw (q, run) (omega arith))
+
+pub spaces-le : (s : List ℕ) → spaces s ≤ length s
+unfolding spaces
+spaces-le s = run-le (λ b. eqb b 32) s
+
+pub eol-le : (s : List ℕ) → eol s ≤ length s
+unfolding eol startsWith
+eol-le [] = omega arith
+eol-le (b ∷ []) = byCase (eqb b 10) (λ q. rw (q, eol) (omega arith)) (λ q. byCase (eqb b 13) (λ r. rw (q, eol) (rw r (omega arith))) (λ r. rw (q, eol) (rw r (omega arith))))
+eol-le (b ∷ c ∷ cs) = byCase (eqb b 10) (λ q. rw (q, eol) (omega arith)) (λ q. rw (q, eol) (pick (λ e. e ≤ suc (suc (length cs))) (eqb b 13 && eqb c 10) 2 0 (λ r. omega arith) (λ r. omega arith)))
+
+pub startsWith-some : (b : ℕ) (s : List ℕ) → startsWith b s ≡ true → 0 < length s
+unfolding startsWith
+startsWith-some b [] h = clash h refl
+startsWith-some b (c ∷ cs) h = omega arith
 
 -- a test that a newline fails does not see past the end of a line
 pub run-whole : (t : ℕ → Bool) → t 10 ≡ false → (b : ℕ) (bs y : List ℕ) → Whole (b ∷ bs) → (run t ((b ∷ bs) ++ y) ≡ run t (b ∷ bs)) × (run t (b ∷ bs) < suc (length bs))

@@ -25,7 +25,6 @@ use Rattle.laws.specs.Stable.Helper.{block-sure}
 use Rattle.laws.specs.Stable.Pattern.{InsideLaw, block-within, block-same}
 use Rattle.laws.specs.Stable.Entry.{dotted, Cut, entry-ends, entry-stops}
 use Rattle.laws.specs.Stable.Comment.{after-ok, lineRun, lineRun-whole, lineRun-here, lineRun-on, OneLine, starts-add, starts-later}
-use Rattle.laws.specs.Lines.Lands.{block-lands, entry-lands}
 use Rattle.syntax.specs.Cut.{oneLine, lastLine, hashes, Joins}
 
 -- ---- the last line

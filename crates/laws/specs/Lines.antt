@@ -1,3 +1,4 @@
 -- Lines of a source.
 pub mod Join
 pub mod Lands
+pub mod Starts

@@ -1,16 +1,17 @@
--- Moving up twice, and answers that follow answers.
+-- Moving up composes and distributes over marks, errors, answers and readings; sequencing of readers associates.
 use Prim.Native.Nat.{ℕ, zero, suc, _+_}
 use native.Mathlib.Omega.{arith}
 use native.Mathlib.Nat.{add-assoc, zero-add, add-zero}
 use mathlib.Core.Path.{_≡_, refl, sym, ap, ap₂, _∙_, subst}
 use mathlib.Core.List.{List, [], _∷_, _++_, map, append-nil, append-assoc}
 use lib.ListN.{drop, length, length-map}
+use lib.Seq.{drop-drop}
 use Rattle.syntax.specs.declared.errors.ErrorKind.the-variants as Errors
 use Rattle.syntax.specs.Marks.{Mark, plain, placed, up, moveUp}
 use Rattle.syntax.specs.declared.errors.ErrorKind.{ErrorKind}
 use Rattle.syntax.specs.declared.errors.ParserError.{ParserError}
 use Rattle.syntax.specs.Errors.{upKind, upFault}
-use Rattle.syntax.specs.Reader.{Out, ok, bad, deep, after}
+use Rattle.syntax.specs.Reader.{Out, ok, bad, deep, Reader, after, next, _>>=_, _>>_, pure}
 use Rattle.syntax.specs.Core.{Error, upError, Reading, read, refused, following}
 
 pub map-append : {A B : Type 0} (f : A → B) (xs ys : List A) → map f (xs ++ ys) ≡ map f xs ++ map f ys
@@ -45,9 +46,9 @@ pub moveUp-zero : (ms : List Mark) → moveUp 0 ms ≡ ms
 unfolding moveUp
 moveUp-zero ms = map-same (up 0) up-zero ms
 
-pub moveUp-nil : (k : ℕ) → moveUp k [] ≡ []
+pub moveUp-length : (k : ℕ) (ms : List Mark) → length (moveUp k ms) ≡ length ms
 unfolding moveUp
-moveUp-nil k = refl
+moveUp-length k ms = length-map ms (up k)
 
 upKind-twice : (k j : ℕ) (w : ErrorKind) → upKind k (upKind j w) ≡ upKind (k + j) w
 upKind-twice k j (Errors.ExpectedToken b) = refl
@@ -91,11 +92,6 @@ after-after ms k ns j (ok a os i) = ap₂ (λ r n. ok a r n) (marks-after ms k n
 after-after ms k ns j (bad f i) = ap₂ (λ g n. bad g n) (upFault-twice k j f) (sym (add-assoc k j i))
 after-after ms k ns j (deep i) = ap deep (sym (add-assoc k j i))
 
-pub following-twice : (ms : List Mark) (k : ℕ) (ns : List Mark) (j : ℕ) (r : Reading) → following ms [] k (following ns [] j r) ≡ following (ms ++ moveUp k ns) [] (k + j) r
-unfolding following
-following-twice ms k ns j (read os es) = ap₂ (λ a b. read a b) (marks-after ms k ns j os) (upErrors-twice k j es)
-following-twice ms k ns j (refused i) = ap refused (sym (add-assoc k j i))
-
 upKind-zero : (w : ErrorKind) → upKind 0 w ≡ w
 upKind-zero (Errors.ExpectedToken b) = refl
 upKind-zero (Errors.ExpectedCharRange b) = refl
@@ -119,9 +115,48 @@ upKind-zero Errors.ExpectedInlineExpression = refl
 upKind-zero Errors.ExpectedSimpleExpressionAsSelector = refl
 upKind-zero Errors.ExpectedLiteral = refl
 
+pub upFault-zero : (f : ParserError) → upFault 0 f ≡ f
+upFault-zero f i = record { start = zero-add (f .start) i; end = zero-add (f .end) i; kind = upKind-zero (f .kind) i }
+
 upError-zero : (e : Error) → upError 0 e ≡ e
 unfolding upError
-upError-zero e i = record { fault = record { start = zero-add (e .fault .start) i; end = zero-add (e .fault .end) i; kind = upKind-zero (e .fault .kind) i }; junkFrom = zero-add (e .junkFrom) i; junkTill = zero-add (e .junkTill) i }
+upError-zero e i = record { fault = upFault-zero (e .fault) i; junkFrom = zero-add (e .junkFrom) i; junkTill = zero-add (e .junkTill) i }
 
 pub upErrors-zero : (es : List Error) → map (upError 0) es ≡ es
 upErrors-zero es = map-same (upError 0) upError-zero es
+
+pub after-none : {A : Type 0} (o : Out A) → after [] 0 o ≡ o
+unfolding after
+after-none (ok a ms k) = ap₂ (ok a) (moveUp-zero ms) (zero-add k)
+after-none (bad f k) = ap₂ bad (upFault-zero f) (zero-add k)
+after-none (deep k) = ap deep (zero-add k)
+
+errors-after : (es : List Error) (k : ℕ) (fs : List Error) (j : ℕ) (gs : List Error) → es ++ map (upError k) (fs ++ map (upError j) gs) ≡ (es ++ map (upError k) fs) ++ map (upError (k + j)) gs
+errors-after es k fs j gs = ap (λ r. es ++ r) (map-append (upError k) fs (map (upError j) gs) ∙ ap (λ r. map (upError k) fs ++ r) (upErrors-twice k j gs)) ∙ sym (append-assoc es (map (upError k) fs) (map (upError (k + j)) gs))
+
+pub following-twice : (ms : List Mark) (es : List Error) (k : ℕ) (ns : List Mark) (fs : List Error) (j : ℕ) (r : Reading)
+    → following ms es k (following ns fs j r) ≡ following (ms ++ moveUp k ns) (es ++ map (upError k) fs) (k + j) r
+unfolding following
+following-twice ms es k ns fs j (read os gs) = ap₂ (λ a b. read a b) (marks-after ms k ns j os) (errors-after es k fs j gs)
+following-twice ms es k ns fs j (refused i) = ap refused (sym (add-assoc k j i))
+
+-- ---- readers
+
+next-after : {A B : Type 0} (s : List ℕ) (ms : List Mark) (k : ℕ) (q : A → Reader B) (o : Out A) → next s q (after ms k o) ≡ after ms k (next (drop k s) q o)
+unfolding next after
+next-after s ms k q (ok a ns j) = ap (λ r. after (ms ++ moveUp k ns) (k + j) (q a r)) (sym (drop-drop j k s)) ∙ sym (after-after ms k ns j (q a (drop j (drop k s))))
+next-after s ms k q (bad f j) = refl
+next-after s ms k q (deep j) = refl
+
+pub bind-bind : {A B C : Type 0} (p : Reader A) (q : A → Reader B) (r : B → Reader C) (s : List ℕ) → ((p >>= q) >>= r) s ≡ (p >>= λ a. q a >>= r) s
+unfolding _>>=_ next
+bind-bind {A} {B} {C} p q r s = go (p s)
+  where
+    go : (o : Out A) → next s r (next s q o) ≡ next s (λ a. q a >>= r) o
+    go (ok a ms k) = next-after s ms k r (q a (drop k s))
+    go (bad f k) = refl
+    go (deep k) = refl
+
+pub then-then : {A B C : Type 0} (p : Reader A) (q : Reader B) (r : Reader C) (s : List ℕ) → ((p >> q) >> r) s ≡ (p >> (q >> r)) s
+unfolding _>>_ _>>=_
+then-then p q r s = bind-bind p (λ _. q) (λ _. r) s

@@ -1,4 +1,4 @@
--- Every entry uses a byte, so that as many turns as there are bytes are enough: `parse` is what it is with any more.
+-- Reading that fails where an entry may start stops past the first byte, so that junk uses a byte.
 use Prim.Native.Nat.{ℕ, zero, suc, _+_, _-_, _≤_, _<_, min}
 use native.Mathlib.Nat.{not-suc-le-zero, le-of-suc-le-suc}
 use native.Mathlib.Omega.{arith}
@@ -91,88 +91,11 @@ module _ (sub : Inside) where
       (λ t. rw (q, getEntry) (rw r (message-moved (fields sub (b ∷ bs)) (moved-next (b ∷ bs) _ (getIdentifier 9 (b ∷ bs)) (identifier-moved b bs t)))))
       (λ t. clash f (rw t (rw r (rw q refl))))))
 
-  -- an entry's bytes, or its junk's
-  ok-moves : (b : ℕ) (bs : List ℕ) (e : Entry) (ms : List Mark) (k : ℕ) → getEntry sub (b ∷ bs) ≡ ok e ms k → 0 < k
-  ok-moves b bs e ms k h = byCase (isFresh b) (λ q. subst Moved h (fresh-moved b bs q)) (λ q. absurd (other q))
-    where
-      other : isFresh b ≡ false → ⊥
-      other q =
-          let l : isLetter b ≡ false = byCase (isLetter b) (λ z. clash (rw z refl) q) (λ z. z) in
-          let d : eqb b 45 ≡ false = byCase (eqb b 45) (λ z. clash (rw l (rw z refl)) q) (λ z. z) in
-          let c : eqb b 35 ≡ false = byCase (eqb b 35) (λ z. clash (rw l (rw d (rw z refl))) q) (λ z. z) in
-          let (f, j, p) = no-entry sub b bs c d l in let z : _≡_ {A = ℕ} 0 1 = cc in omega arith
-
-  bad-moves : (b : ℕ) (bs : List ℕ) (f : ParserError) (k : ℕ) → getEntry sub (b ∷ bs) ≡ bad f k → 0 < junkEnd k (b ∷ bs)
+  -- junk uses a byte
+  pub junk-moves : (b : ℕ) (bs : List ℕ) {f : ParserError} {k : ℕ} → getEntry sub (b ∷ bs) ≡ bad f k → 0 < junkEnd k (b ∷ bs)
   unfolding junkEnd toNextEntry lineStartsAt
-  bad-moves b bs f zero h = byCase (isFresh b) (λ q. absurd (not-suc-le-zero (subst Moved h (fresh-moved b bs q)))) (λ q. rw (q, toNextEntry) (omega arith))
-  bad-moves b bs f (suc k) h = omega arith
-
-  shorter : (b : ℕ) (bs : List ℕ) (j : ℕ) (n : ℕ) → 0 < j → length (b ∷ bs) ≤ suc n → length (drop j (b ∷ bs)) ≤ n
-  shorter b bs j n h l = omega (arith, length-drop j (b ∷ bs))
-
--- the entries, where nothing is read when the turns run out
-unfoldable pub entries₀ : ℕ → Inside → List ℕ → Reading
-entries₀ zero sub s = read [] []
-entries₀ (suc n) sub [] = read [] []
-entries₀ (suc n) sub (b ∷ bs) =
-    elim (getEntry sub (b ∷ bs)) [
-      | ok e ms k ↦
-          let gap = skipBlankBlock (drop k (b ∷ bs)) in
-          let rest = drop (k + usedBy gap) (b ∷ bs) in
-          following (node (kindOfEntry e (ltb (count gap) 2 && isNamed (getEntry sub rest))) ms) [] (k + usedBy gap) (entries₀ n sub rest)
-      | bad f k ↦
-          let j = junkEnd k (b ∷ bs) in
-          let gap = skipBlankBlock (drop j (b ∷ bs)) in
-          following (textNode 7 0 j) (record { fault = f; junkFrom = 0; junkTill = j } ∷ []) (j + usedBy gap) (entries₀ n sub (drop (j + usedBy gap) (b ∷ bs)))
-      | deep k ↦ refused k
-    ]
-
-pub enough : (sub : Inside) (n : ℕ) (s : List ℕ) → length s ≤ n → entries (suc n) sub s ≡ entries₀ n sub s
-unfolding entries entries₀
-enough sub zero [] l = refl
-enough sub zero (b ∷ bs) l = absurd (not-suc-le-zero l)
-enough sub (suc n) [] l = refl
-enough sub (suc n) (b ∷ bs) l = go (getEntry sub (b ∷ bs)) refl (λ r h. enough sub n r h)
-  where
-    new : Out Entry → Reading
-    new o = elim o [
-      | ok e ms k ↦
-          let gap = skipBlankBlock (drop k (b ∷ bs)) in
-          let rest = drop (k + usedBy gap) (b ∷ bs) in
-          following (node (kindOfEntry e (ltb (count gap) 2 && isNamed (getEntry sub rest))) ms) [] (k + usedBy gap) (entries (suc n) sub rest)
-      | bad f k ↦
-          let j = junkEnd k (b ∷ bs) in
-          let gap = skipBlankBlock (drop j (b ∷ bs)) in
-          following (textNode 7 0 j) (record { fault = f; junkFrom = 0; junkTill = j } ∷ []) (j + usedBy gap) (entries (suc n) sub (drop (j + usedBy gap) (b ∷ bs)))
-      | deep k ↦ refused k
-    ]
-
-    old : Out Entry → Reading
-    old o = elim o [
-      | ok e ms k ↦
-          let gap = skipBlankBlock (drop k (b ∷ bs)) in
-          let rest = drop (k + usedBy gap) (b ∷ bs) in
-          following (node (kindOfEntry e (ltb (count gap) 2 && isNamed (getEntry sub rest))) ms) [] (k + usedBy gap) (entries₀ n sub rest)
-      | bad f k ↦
-          let j = junkEnd k (b ∷ bs) in
-          let gap = skipBlankBlock (drop j (b ∷ bs)) in
-          following (textNode 7 0 j) (record { fault = f; junkFrom = 0; junkTill = j } ∷ []) (j + usedBy gap) (entries₀ n sub (drop (j + usedBy gap) (b ∷ bs)))
-      | deep k ↦ refused k
-    ]
-
-    go : (o : Out Entry) → getEntry sub (b ∷ bs) ≡ o → ((r : List ℕ) → length r ≤ n → entries (suc n) sub r ≡ entries₀ n sub r) → new o ≡ old o
-    go (ok e ms k) p f =
-        let gap = skipBlankBlock (drop k (b ∷ bs)) in
-        let r = drop (k + usedBy gap) (b ∷ bs) in
-        ap (following (node (kindOfEntry e (ltb (count gap) 2 && isNamed (getEntry sub r))) ms) [] (k + usedBy gap)) (f r (shorter sub b bs (k + usedBy gap) n (omega (arith, ok-moves sub b bs e ms k p)) l))
-    go (bad x k) p f =
-        let j = junkEnd k (b ∷ bs) in
-        let gap = skipBlankBlock (drop j (b ∷ bs)) in
-        let r = drop (j + usedBy gap) (b ∷ bs) in
-        ap (following (textNode 7 0 j) (record { fault = x; junkFrom = 0; junkTill = j } ∷ []) (j + usedBy gap)) (f r (shorter sub b bs (j + usedBy gap) n (omega (arith, bad-moves sub b bs x k p)) l))
-    go (deep k) p f = refl
-
--- `parse` as it was written first
-pub parse-same : (n : ℕ) (s : List ℕ) → parse n s ≡ (let k = usedBy (skipBlankBlock s) in following [] [] k (entries₀ (length s) (level n) (drop k s)))
-unfolding parse
-parse-same n s = let k = usedBy (skipBlankBlock s) in ap (following [] [] k) (enough (level n) (length s) (drop k s) (omega (arith, length-drop k s)))
+  junk-moves b bs {f} {k} h = go k h
+    where
+      go : (k : ℕ) → getEntry sub (b ∷ bs) ≡ bad f k → 0 < junkEnd k (b ∷ bs)
+      go zero h = byCase (isFresh b) (λ q. absurd (not-suc-le-zero (subst Moved h (fresh-moved b bs q)))) (λ q. rw (q, toNextEntry) (omega arith))
+      go (suc k) h = omega arith

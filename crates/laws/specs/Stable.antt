@@ -54,9 +54,6 @@ upto-rest fresh y x k j u = (rw length-drop (omega arith), u .1)
 upto-rest any y x k j u = rw length-drop (omega arith)
 upto-rest none y x k j u = u
 
-pub any-upto : (m : Mode) (y : List ℕ) (n k : ℕ) → Upto m y n k → Upto any y n k
-any-upto m y n k u = upto-le m y n k u
-
 abbrev pub Within : {A : Type 0} → ℕ → Out A → Type 0
 Within n (ok a ms k) = k ≤ n
 Within n (bad f k) = Unit {0}
@@ -103,12 +100,6 @@ unfolding after
 after-within n k ms (ok a ns j) h w = omega arith
 after-within n k ms (bad f j) h w = tt
 after-within n k ms (deep j) h w = tt
-
-pub after-carries : {A : Type 0} (N : ℕ → Type 0) (k : ℕ) (ms : List Mark) (o o′ : Out A) → Carries (λ j. N (k + j)) o o′ → Carries N (after ms k o) (after ms k o′)
-unfolding after
-after-carries N k ms (ok a ns j) o′ c = λ u. ap (after ms k) (c u)
-after-carries N k ms (bad f j) o′ c = tt
-after-carries N k ms (deep j) o′ c = tt
 
 pub takes-after : {B : Type 0} (k : ℕ) (ms : List Mark) (o : Out B) → Takes o → Takes (after ms k o)
 unfolding after
@@ -362,14 +353,6 @@ pub record Strict {A : Type 0} (p : Reader A) : Type 0 where
 pub record Inner {A : Type 0} (m : Mode) (p : Reader A) : Type 0 where
   pub stops : (b : ℕ) (bs y : List ℕ) → Whole (b ∷ bs) → Stop y → Within (suc (length bs)) (p ((b ∷ bs) ++ y))
   pub keeps : (b : ℕ) (bs y : List ℕ) → Whole (b ∷ bs) → KeepsAt m p (b ∷ bs) y
-
-pub reads-inner : {A : Type 0} {m : Mode} {p : Reader A} → Reads m p → Inner m p
-reads-inner r = record { stops = λ b bs y w s. r .stops (b ∷ bs) y w s; keeps = λ b bs y w. r .keeps (b ∷ bs) y w }
-
-short-within : {A : Type 0} (n : ℕ) (o : Out A) → Short n o → Within n o
-short-within n (ok a ms k) h = omega arith
-short-within n (bad f k) h = tt
-short-within n (deep k) h = tt
 
 short-after : {A : Type 0} (n k : ℕ) (ms : List Mark) (o : Out A) → k ≤ n → Short (n - k) o → Short n (after ms k o)
 unfolding after

@@ -20,27 +20,16 @@ use Rattle.syntax.specs.Serializer.{Node, nodes, nodesFrom}
 use Rattle.laws.specs.Bytes.{Whole, whole-drop, Fresh, byCase, clash}
 use Rattle.laws.specs.Stable.{Holds, sure-ok}
 use Rattle.laws.specs.Stable.Helper.{block-sure}
-use Rattle.laws.specs.Stable.Pattern.{InsideLaw}
-use Rattle.laws.specs.Lines.Join.{Levelled, levelled, levels}
-use Rattle.laws.specs.Entries.{following-read, entries-with, not-deep, Step, step-of, entry-comment, nil-named}
-use Rattle.cut.specs.Tree.Join.{asComment-ok, named-entry, and-false, gap-within, Way, kept, ended, way}
-use Rattle.laws.specs.Balanced.{Levels, Good, good-nil, good-more, good-append, good-node, Marked}
-use Rattle.laws.specs.Balanced.Readers.{InsideMarked, entry-marked}
+use Rattle.laws.specs.Entries.{following-read, entries-with, not-deep, Step, step-of, nil-named}
+use Rattle.cut.specs.Tree.Join.{and-false}
+use Rattle.laws.specs.Balanced.{Levels, Forest, forest-levels}
+use Rattle.laws.specs.Bounds.{ok-uses}
+use Rattle.laws.specs.Bounds.Pattern.{InsideBounds}
+use Rattle.laws.specs.Bounds.Entry.{entry-bounds}
+use Rattle.laws.specs.File.{Small, small-of, kind-le}
 use Rattle.laws.specs.Balanced.Nodes.{nodeOf, nodes-node, nodes-text, upNode, nodes-up}
 use Rattle.cut.specs.Text.Piece.{Ends, Opening, opensNodes, isFree}
 use Rattle.syntax.specs.Cut.{opensFree}
-
--- the level of a comment is one to three
-abbrev Small : Entry → Type 0
-Small (comment l) = (0 < l) × (l ≤ 3)
-Small message = Unit {0}
-Small term = Unit {0}
-
-kind-le : (e : Entry) (v : Bool) → Small e → kindOfEntry e v ≤ 6
-unfolding kindOfEntry
-kind-le message v s = omega arith
-kind-le term v s = omega arith
-kind-le (comment l) v s = byCase (eqb l 1 && v) (λ q. rw (q, kindOfEntry) (omega arith)) (λ q. rw (q, kindOfEntry) (omega (arith, s .1)))
 
 kind-low : (e : Entry) (v : Bool) → Small e → v ≡ false → kindOfEntry e v ≤ 5
 unfolding kindOfEntry
@@ -52,35 +41,9 @@ not-six : (k : ℕ) → k ≤ 5 → eqb k 6 ≡ false
 not-six k h = ne-eqb k 6 (λ e. omega arith)
 
 module _ (sub : Inside) where
-  small-of : (b : ℕ) (bs : List ℕ) (e : Entry) (ms : List Mark) (k : ℕ) → getEntry sub (b ∷ bs) ≡ ok e ms k → Small e
-  small-of b bs e ms k h = byCase (eqb b 35) (λ q. commented q (asComment-ok (getComment (b ∷ bs)) e ms k (sym (entry-comment sub b bs q) ∙ h))) (λ q. named (named-entry sub b bs e ms k q h))
-    where
-      named : (e ≡ message) ⊎ (e ≡ term) → Small e
-      named (inl z) = subst Small (sym z) tt
-      named (inr z) = subst Small (sym z) tt
-
-      level : (l : ℕ) → getComment (b ∷ bs) ≡ ok l ms k → eqb b 35 ≡ true → l ≡ levelOf (b ∷ bs)
-      level l o q = unfold getComment repeat in (subst (Holds (Levelled 0 (b ∷ bs))) o (levelled (suc (length (b ∷ bs))) 0 (b ∷ bs)) .1 refl (levels b bs q))
-
-      three : levelOf (b ∷ bs) ≤ 3
-      three = unfold levelOf in (omega arith)
-
-      commented : eqb b 35 ≡ true → (l : ℕ) × (e ≡ comment l) × (getComment (b ∷ bs) ≡ ok l ms k) → Small e
-      commented q (l, z, o) = subst Small (sym z) (omega (arith, level l o q, levels b bs q), omega (arith, level l o q, three))
-
-  module _ (law : InsideLaw sub) (mk : InsideMarked sub) where
-    step-le : (n b : ℕ) (bs : List ℕ) (ma : List Mark) (t : Step sub n (b ∷ bs) ma) → Whole (b ∷ bs) → t .k + t .u ≤ suc (length bs)
-    step-le n b bs ma t w = go (way sub law [] tt n b bs ma t w)
-      where
-        rest : t .k ≤ suc (length bs) → t .k + t .u ≤ suc (length bs)
-        rest le = omega (arith, length-drop (t .k) (b ∷ bs), gap-within sub law [] tt (drop (t .k) (b ∷ bs)) [] (whole-drop (t .k) (b ∷ bs) w) tt (t .c) (t .gs) (t .u) (ap skipBlankBlock (append-nil (drop (t .k) (b ∷ bs))) ∙ t .gap))
-
-        go : Way sub law [] tt n (b ∷ bs) ma t → t .k + t .u ≤ suc (length bs)
-        go (kept e le ls z) = rest le
-        go (ended l el ek h v g) = rest (omega arith)
-
-    entry-good : (n : ℕ) (s : List ℕ) (ma : List Mark) (t : Step sub n s ma) → Good (t .k) (t .ms)
-    entry-good n s ma t = subst Marked (t .entry) (entry-marked sub mk s)
+  module _ {depth : ℕ} (mk : InsideBounds depth sub) where
+    entry-levels : (n : ℕ) (s : List ℕ) (ma : List Mark) (t : Step sub n s ma) → Levels 0 (t .ms)
+    entry-levels n s ma t = forest-levels (ok-uses (entry-bounds mk) s (t .entry) .forest)
 
     abbrev near : (n : ℕ) (s : List ℕ) (ma : List Mark) (t : Step sub n s ma) → Bool
     near n s ma t = ltb (t .c) 2 && isNamed (getEntry sub (drop (t .k + t .u) s))
@@ -89,23 +52,6 @@ module _ (sub : Inside) where
     unfolding entries
     none-read zero ma es e = let z : _≡_ {A = ℕ} 0 1 = cc in absurd (omega arith)
     none-read (suc n) ma es e = cc
-
-    pub entries-good : (n : ℕ) (s : List ℕ) (ma : List Mark) → Whole s → entries n sub s ≡ read ma [] → Good (length s) ma
-    unfolding entries
-    entries-good zero s ma w e = let z : _≡_ {A = ℕ} 0 1 = cc in absurd (omega arith)
-    entries-good (suc n) [] ma w e = subst (Good 0) (sym (none-read (suc n) ma [] e)) (good-nil 0)
-    entries-good (suc n) (b ∷ bs) ma w e =
-        let t = step-of sub n b bs ma e in
-        by (step-of sub n b bs ma e) (entries-good n (drop (t .k + t .u) (b ∷ bs)) (t .mr) (whole-drop (t .k + t .u) (b ∷ bs) w) (t .rest))
-      where
-        by : (t : Step sub n (b ∷ bs) ma) → Good (length (drop (t .k + t .u) (b ∷ bs))) (t .mr) → Good (suc (length bs)) ma
-        by t g =
-            let le = step-le n b bs ma t w in
-            let z : t .k + t .u + length (drop (t .k + t .u) (b ∷ bs)) ≡ suc (length bs) = omega (arith, length-drop (t .k + t .u) (b ∷ bs)) in
-            subst (Good (suc (length bs))) (t .marks) (subst (λ i. Good i (node (kindOfEntry (t .e) (near n (b ∷ bs) ma t)) (t .ms) ++ moveUp (t .k + t .u) (t .mr))) z
-            (good-append (t .k + t .u) (length (drop (t .k + t .u) (b ∷ bs))) (node (kindOfEntry (t .e) (near n (b ∷ bs) ma t)) (t .ms)) (t .mr)
-            (good-node (t .k + t .u) (kindOfEntry (t .e) (near n (b ∷ bs) ma t)) (t .ms) (lt-ltb (kindOfEntry (t .e) (near n (b ∷ bs) ma t)) 100 (omega (arith, kind-le (t .e) (near n (b ∷ bs) ma t) (small-of b bs (t .e) (t .ms) (t .k) (t .entry)))))
-            (good-more (t .k) (t .k + t .u) (omega arith) (t .ms) (entry-good n (b ∷ bs) ma t))) g))
 
     -- nodes moved up keep their kinds
     module _ (S : List ℕ) where
@@ -145,15 +91,15 @@ module _ (sub : Inside) where
               K = kindOfEntry (t .e) (near n (b ∷ bs) ma t)
 
               le : K ≤ 6
-              le = kind-le (t .e) (near n (b ∷ bs) ma t) (small-of b bs (t .e) (t .ms) (t .k) (t .entry))
+              le = kind-le (t .e) (near n (b ∷ bs) ma t) (small-of sub (b ∷ bs) (t .entry))
 
               listed : nodes ma ≡ nodeOf K (t .ms) ∷ map (upNode j) (nodes (t .mr))
-              listed = ap nodes (sym (t .marks)) ∙ nodes-of K (t .ms) (t .mr) j le (entry-good n (b ∷ bs) ma t .0)
+              listed = ap nodes (sym (t .marks)) ∙ nodes-of K (t .ms) (t .mr) j le (entry-levels n (b ∷ bs) ma t)
 
               last : map (upNode j) (nodes (t .mr)) ≡ [] → eqb K 6 ≡ false
               last h = byCase (ltb 0 (length (drop (t .k + t .u) (b ∷ bs))))
                   (λ q. absurd (some-up j (nodes (t .mr)) (ih .1 (ltb-true 0 (length (drop (t .k + t .u) (b ∷ bs))) q)) h))
-                  (λ q. not-six K (kind-low (t .e) (near n (b ∷ bs) ma t) (small-of b bs (t .e) (t .ms) (t .k) (t .entry))
+                  (λ q. not-six K (kind-low (t .e) (near n (b ∷ bs) ma t) (small-of sub (b ∷ bs) (t .entry))
                   (ap (λ r. ltb (t .c) 2 && isNamed (getEntry sub r)) (empty-of (drop (t .k + t .u) (b ∷ bs)) (ltb-false 0 (length (drop (t .k + t .u) (b ∷ bs))) q)) ∙ ap (λ v. ltb (t .c) 2 && v) (nil-named sub) ∙ and-false (ltb (t .c) 2))))
                 where
                   empty-of : (r : List ℕ) → length r ≤ 0 → r ≡ []
@@ -194,7 +140,7 @@ module _ (sub : Inside) where
           by : (d : Entry) (ms : List Mark) (k : ℕ) → getEntry sub (c ∷ cs) ≡ ok d ms k → (kd : ℕ) → ((v : Bool) → kindOfEntry d v ≡ kd) → kd ≤ 6 → isFree S kd ≡ false → eqb kd 6 ≡ false → Named (nodes mr)
           by d ms k p kd f le a b =
               let (g, j, r, ns, es, rd, m) = entries-ok n c cs mr er d ms k e p in
-              (nodeOf kd ms, map (upNode j) (nodes ns), ap nodes (sym m) ∙ ap (λ i. nodes (node i ms ++ moveUp j ns)) (f (ltb g 2 && isNamed (getEntry sub r))) ∙ nodes-of kd ms ns j le (subst Marked p (entry-marked sub mk (c ∷ cs)) .0), a, b)
+              (nodeOf kd ms, map (upNode j) (nodes ns), ap nodes (sym m) ∙ ap (λ i. nodes (node i ms ++ moveUp j ns)) (f (ltb g 2 && isNamed (getEntry sub r))) ∙ nodes-of kd ms ns j le (forest-levels (ok-uses (entry-bounds mk) (c ∷ cs) p .forest)), a, b)
 
           go : (o : Out Entry) → getEntry sub (c ∷ cs) ≡ o → isNamed (getEntry sub (c ∷ cs)) ≡ true → Named (nodes mr)
           go (ok message ms k) p q = by message ms k p 1 (λ v. unfold kindOfEntry in refl) (omega arith) refl refl
@@ -235,10 +181,10 @@ module _ (sub : Inside) where
                   K = kindOfEntry d (ltb g 2 && isNamed (getEntry sub r))
 
                   listed : nodes mb ≡ nodeOf K ms ∷ map (upNode j) (nodes mr)
-                  listed = ap nodes (sym m) ∙ nodes-of K ms mr j (kind-le d (ltb g 2 && isNamed (getEntry sub r)) (small-of c cs d ms k p)) (subst Marked p (entry-marked sub mk (c ∷ cs)) .0)
+                  listed = ap nodes (sym m) ∙ nodes-of K ms mr j (kind-le d (ltb g 2 && isNamed (getEntry sub r)) (small-of sub (c ∷ cs) p)) (forest-levels (ok-uses (entry-bounds mk) (c ∷ cs) p .forest))
 
                   near-true : eqb K 6 ≡ true → (ltb g 2 && isNamed (getEntry sub r)) ≡ true
-                  near-true q = byCase (ltb g 2 && isNamed (getEntry sub r)) (λ z. z) (λ z. clash q (not-six K (kind-low d (ltb g 2 && isNamed (getEntry sub r)) (small-of c cs d ms k p) z)))
+                  near-true q = byCase (ltb g 2 && isNamed (getEntry sub r)) (λ z. z) (λ z. clash q (not-six K (kind-low d (ltb g 2 && isNamed (getEntry sub r)) (small-of sub (c ∷ cs) p) z)))
 
                   and-right : (a b : Bool) → (a && b) ≡ true → b ≡ true
                   and-right true b h = h

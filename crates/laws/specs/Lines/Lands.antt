@@ -1,30 +1,121 @@
--- Entries end where a line starts.
+-- Entries end where a line starts, or at the end of the file.
 use Prim.Native.Nat.{ℕ, zero, suc, _+_, _-_, _≤_, _<_}
-use native.Mathlib.Nat.{not-suc-le-zero, add-zero, add-assoc, min-eq-left}
+use native.Mathlib.Nat.{not-suc-le-zero, add-zero, add-assoc}
 use native.Mathlib.Omega.{arith}
 use mathlib.Core.Path.{_≡_, refl, sym, ap, _∙_, subst}
 use mathlib.Core.Logic.{_⊎_, inl, inr}
 use mathlib.Core.Bool.{Bool, true, false, _&&_, _||_, not}
-use mathlib.Core.List.{List, [], _∷_, _++_, append-nil}
+use mathlib.Core.List.{List, [], _∷_, _++_}
 use lib.ListN.{drop, length, take, length-drop, length-take}
-use lib.Seq.{drop-drop, take-append-le}
+use lib.Seq.{drop-drop}
 use lib.Dec.{eqb, ltb}
-use borrow.Author.Tests.{eqb-true, eqb-false, ltb-true, ltb-false}
+use borrow.Author.Tests.{eqb-true, eq-eqb, ltb-true, ltb-false}
 use Rattle.syntax.specs.Bytes.{startsWith, spaces, eol, run}
-use Rattle.syntax.specs.Marks.{Mark, moveUp}
+use Rattle.syntax.specs.Marks.{Mark}
 use Rattle.syntax.specs.Reader.{Out, ok, bad, deep, Reader, _>>=_, _>>_, pure, fail, wrap, inNode, next, after, Turn, again, done, loop, repeat}
-use Rattle.syntax.specs.Helper.{skipBlankInline, skipBlankBlock, blockTurn, expectByte, getIdentifier}
+use Rattle.syntax.specs.Helper.{skipBlankBlock, blockTurn}
 use Rattle.syntax.specs.Pattern.{Inside, Ending, lineFeed, crlf, placeableStart, eof, Role, initialLineStart, lineStart, continuation, Slice, isTextByte, endsInCr, lineSlice, sliceBy, getTextSlice, State, isLineStart, roleAfter, withPlaceable, withText, goesOn, lineTurn, textTurn, patternTurn, finish, stateAt, usedBy, firstState, getPattern}
 use Rattle.syntax.specs.Expression.{needsValue}
-use Rattle.syntax.specs.Core.{getAttribute, attributeBy, attributeTurn, getAttributes, Fields, fields, termFields, Entry, asMessage, asTerm, getEntry, lineStartsAt}
-use Rattle.laws.specs.Bytes.{Whole, whole-tail, whole-drop, nonempty, byCase, clash, run-whole}
-use Rattle.laws.specs.Stable.{Mode, loose, fresh, any, none, Within, TurnWithin, Turns, Short, Strict, Holds, holds-map, TurnHolds, loop-holds, Takes, Closes, Sure}
-use Rattle.laws.specs.Stable.Helper.{past-spaces, block-sure, expectByte-strict, expectByte-reads}
-use Rattle.laws.specs.Stable.Pattern.{InsideLaw, Ready, not-ready, past-text, pattern-turns, first-ready}
-use Rattle.laws.specs.Stable.Comment.{lineRun, eol-line, starts-at, starts-later, starts-add}
+use Rattle.syntax.specs.Core.{getAttribute, attributeBy, attributeTurn, getAttributes, Fields, fields, termFields, Entry, asMessage, asTerm, getEntry, toNextEntry, lineStartsAt, junkEnd}
+use Rattle.laws.specs.Bytes.{Whole, byCase, clash, pick, run-le}
+use Rattle.laws.specs.Stable.{Takes, Holds, TurnHolds, loop-holds, Sure}
+use Rattle.laws.specs.Stable.Helper.{block-sure}
+use Rattle.laws.specs.Stable.Comment.{starts-later, starts-add}
+use Rattle.laws.specs.Bounds.{TurnBounded, goes, ends}
+use Rattle.laws.specs.Bounds.Pattern.{text-bounded}
+
+-- unless all of s is used, a line starts k bytes on: past the start
+abbrev pub Lands : List ℕ → ℕ → Type 0
+Lands s k = k < length s → (0 < k) × (lineStartsAt k s ≡ true)
+
+-- or where s starts
+abbrev pub Stays : List ℕ → ℕ → Type 0
+Stays s k = k < length s → lineStartsAt k s ≡ true
+
+lands-after : (k j : ℕ) (s : List ℕ) → Lands (drop k s) j → Lands s (k + j)
+lands-after k j s h l = let (p, q) = h (omega (arith, length-drop k s)) in (omega arith, starts-later k j s p q)
+
+lands-stay : (k j : ℕ) (s : List ℕ) → Lands s k → Stays (drop k s) j → Lands s (k + j)
+lands-stay k j s h g l = let (p, q) = h (omega arith) in (omega arith, starts-add k j s q (g (omega (arith, length-drop k s))))
+
+pub stays-stay : (k j : ℕ) (s : List ℕ) → Stays s k → Stays (drop k s) j → Stays s (k + j)
+stays-stay k j s h g l = starts-add k j s (h (omega arith)) (g (omega (arith, length-drop k s)))
+
+pub record LandsOn {A : Type 0} (p : Reader A) : Type 0 where
+  pub on : (s : List ℕ) → Holds (λ a ms k. Lands s k) (p s)
+
+pub record StaysOn {A : Type 0} (p : Reader A) : Type 0 where
+  pub on : (s : List ℕ) → Holds (λ a ms k. Stays s k) (p s)
+
+-- from an answer on
+module _ {A B : Type 0} where
+  bind-lands : (p : Reader A) {q : A → Reader B} → ((a : A) → LandsOn (q a)) → LandsOn (p >>= q)
+  unfolding _>>=_ next after
+  bind-lands p {q} f = record { on = λ s. go s (p s) }
+    where
+      inner : (s : List ℕ) (ms : List Mark) (k : ℕ) (o : Out B) → Holds (λ b ns j. Lands (drop k s) j) o → Holds (λ b ns j. Lands s j) (after ms k o)
+      inner s ms k (ok b ns j) h = lands-after k j s h
+      inner s ms k (bad e j) h = tt
+      inner s ms k (deep j) h = tt
+
+      go : (s : List ℕ) (o : Out A) → Holds (λ b ns j. Lands s j) (next s q o)
+      go s (ok a ms k) = inner s ms k (q a (drop k s)) (f a .on (drop k s))
+      go s (bad e k) = tt
+      go s (deep k) = tt
+
+  then-lands : (p : Reader A) {q : Reader B} → LandsOn q → LandsOn (p >> q)
+  unfolding _>>_ _>>=_
+  then-lands p {q} f = bind-lands p {q = λ _. q} (λ _. f)
+
+  lands-bind : {p : Reader A} {q : A → Reader B} → LandsOn p → ((a : A) → StaysOn (q a)) → LandsOn (p >>= q)
+  unfolding _>>=_ next after
+  lands-bind {p} {q} h f = record { on = λ s. go s (p s) (h .on s) }
+    where
+      inner : (s : List ℕ) (ms : List Mark) (k : ℕ) (o : Out B) → Lands s k → Holds (λ b ns j. Stays (drop k s) j) o → Holds (λ b ns j. Lands s j) (after ms k o)
+      inner s ms k (ok b ns j) l h = lands-stay k j s l h
+      inner s ms k (bad e j) l h = tt
+      inner s ms k (deep j) l h = tt
+
+      go : (s : List ℕ) (o : Out A) → Holds (λ a ms k. Lands s k) o → Holds (λ b ns j. Lands s j) (next s q o)
+      go s (ok a ms k) l = inner s ms k (q a (drop k s)) l (f a .on (drop k s))
+      go s (bad e k) l = tt
+      go s (deep k) l = tt
+
+  stays-bind : {p : Reader A} {q : A → Reader B} → StaysOn p → ((a : A) → StaysOn (q a)) → StaysOn (p >>= q)
+  unfolding _>>=_ next after
+  stays-bind {p} {q} h f = record { on = λ s. go s (p s) (h .on s) }
+    where
+      inner : (s : List ℕ) (ms : List Mark) (k : ℕ) (o : Out B) → Stays s k → Holds (λ b ns j. Stays (drop k s) j) o → Holds (λ b ns j. Stays s j) (after ms k o)
+      inner s ms k (ok b ns j) l h = stays-stay k j s l h
+      inner s ms k (bad e j) l h = tt
+      inner s ms k (deep j) l h = tt
+
+      go : (s : List ℕ) (o : Out A) → Holds (λ a ms k. Stays s k) o → Holds (λ b ns j. Stays s j) (next s q o)
+      go s (ok a ms k) l = inner s ms k (q a (drop k s)) l (f a .on (drop k s))
+      go s (bad e k) l = tt
+      go s (deep k) l = tt
+
+  stays-then : {p : Reader A} {q : Reader B} → StaysOn p → StaysOn q → StaysOn (p >> q)
+  unfolding _>>_ _>>=_
+  stays-then {q = q} h f = stays-bind {q = λ _. q} h (λ _. f)
+
+pure-stays : {A : Type 0} (a : A) → StaysOn (pure a)
+unfolding pure lineStartsAt
+pure-stays a = record { on = λ s l. refl }
+
+-- a source that ends in a newline ends where a line would start
+whole-end : (b : ℕ) (bs : List ℕ) → Whole (b ∷ bs) → lineStartsAt (suc (length bs)) (b ∷ bs) ≡ true
+unfolding lineStartsAt
+whole-end b [] w = eq-eqb b 10 w
+whole-end b (c ∷ cs) w = whole-end c cs w
+
+pub whole-lands : (b : ℕ) (bs : List ℕ) (k : ℕ) → Whole (b ∷ bs) → k ≤ suc (length bs) → Lands (b ∷ bs) k → lineStartsAt k (b ∷ bs) ≡ true
+whole-lands b bs k w l h = byCase (ltb k (suc (length bs))) (λ q. h (ltb-true k (suc (length bs)) q) .1) (λ q. let e : k ≡ suc (length bs) = omega (arith, ltb-false k (suc (length bs)) q) in rw e (whole-end b bs w))
+
+-- ---- blank lines
 
 -- a line end ends where a line starts
-eol-starts : (r : List ℕ) → 0 < eol r → lineStartsAt (eol r) r ≡ true
+pub eol-starts : (r : List ℕ) → 0 < eol r → lineStartsAt (eol r) r ≡ true
 unfolding eol startsWith lineStartsAt
 eol-starts [] h = absurd (not-suc-le-zero h)
 eol-starts (b ∷ bs) h = byCase (eqb b 10) (λ q. rw (q, eol) q) (λ q. cr bs q (rw (q, eol) at h))
@@ -45,9 +136,24 @@ pub block-lands : (s : List ℕ) → Holds (λ a ms k. lineStartsAt k s ≡ true
 unfolding skipBlankBlock repeat
 block-lands s = loop-holds blockTurn (λ st r a ms k. lineStartsAt k r ≡ true) block-turn-lands (suc (length s)) 0 s
 
--- a pattern's turns, from the state st on
-abbrev Landed : State → List ℕ → State → List Mark → ℕ → Type 0
-Landed st s st′ ms k = Whole s → Ready st s → (k ≡ 0 → (isLineStart (st .role) ≡ true) × (startsWith 10 s ≡ false)) × (0 < k → lineStartsAt k s ≡ true)
+pub block-starts : (s : List ℕ) → lineStartsAt (usedBy (skipBlankBlock s)) s ≡ true
+unfolding usedBy
+block-starts s = go (skipBlankBlock s) (block-sure s) (block-lands s)
+  where
+    go : (o : Out ℕ) → Sure o → Holds (λ a ms k. lineStartsAt k s ≡ true) o → lineStartsAt (usedBy o) s ≡ true
+    go (ok a ms k) u h = h
+    go (bad f k) u h = absurd u
+    go (deep k) u h = absurd u
+
+block-stays : StaysOn skipBlankBlock
+block-stays = record { on = λ s. go s (skipBlankBlock s) (block-lands s) }
+  where
+    go : (s : List ℕ) (o : Out ℕ) → Holds (λ a ms k. lineStartsAt k s ≡ true) o → Holds (λ a ms k. Stays s k) o
+    go s (ok a ms k) h = λ l. h
+    go s (bad f k) h = tt
+    go s (deep k) h = tt
+
+-- ---- texts
 
 run-end : (t : ℕ → Bool) (s : List ℕ) (d : ℕ) (ds : List ℕ) → drop (run t s) s ≡ d ∷ ds → t d ≡ false
 unfolding run
@@ -68,332 +174,159 @@ lineSlice-ends s i t d ds e q = byCase (endsInCr t)
     (λ r. rw (r, lineSlice) (λ h. inl (rw e q)))
     (λ r. rw (r, lineSlice) (λ h. inr (subst (λ z. lineStartsAt z s ≡ true) (add-assoc i (length t) 1) (starts-later (i + length t) 1 s (omega arith) (rw e q)))))
 
-sliceBy-ends : (s : List ℕ) (i : ℕ) (t : List ℕ) (d : ℕ) (ds : List ℕ) → drop (i + length t) s ≡ d ∷ ds → isTextByte d ≡ false → Holds (EndsLine s i) (sliceBy t (d ∷ ds))
+sliceBy-ends : (s : List ℕ) (i : ℕ) (t r : List ℕ) → drop (i + length t) s ≡ r → ((d : ℕ) (ds : List ℕ) → r ≡ d ∷ ds → isTextByte d ≡ false) → Holds (EndsLine s i) (sliceBy t r)
 unfolding sliceBy isLineStart roleAfter
-sliceBy-ends s i t d ds e f = byCase (eqb d 125) (λ q. rw (q, sliceBy) tt)
-    (λ q. rw (q, sliceBy) (byCase (eqb d 123) (λ r. rw r (λ h. clash h refl)) (λ r. rw r (lineSlice-ends s i t d ds e (newline-of d f q r)))))
-
-sliceBy-pos : (t : List ℕ) (d : ℕ) (ds : List ℕ) → (0 < length t) ⊎ (eqb d 123 ≡ false) → Holds (λ z ms k. 0 < k) (sliceBy t (d ∷ ds))
-unfolding sliceBy lineSlice
-sliceBy-pos t d ds h = byCase (eqb d 125) (λ q. rw (q, sliceBy) tt)
-    (λ q. rw (q, sliceBy) (byCase (eqb d 123) (λ r. rw r (some h r)) (λ r. rw r (byCase (endsInCr t) (λ z. rw (z, lineSlice) (cr t z)) (λ z. rw (z, lineSlice) (omega arith))))))
-  where
-    some : (0 < length t) ⊎ (eqb d 123 ≡ false) → eqb d 123 ≡ true → 0 < length t
-    some (inl z) r = z
-    some (inr z) r = clash r z
-
-    cr : (t : List ℕ) → endsInCr t ≡ true → 0 < length t
-    cr [] z = clash z (unfold endsInCr in refl)
-    cr (x ∷ xs) z = omega arith
+sliceBy-ends s i t [] e f = λ h. clash h refl
+sliceBy-ends s i t (d ∷ ds) e f = byCase (eqb d 125) (λ q. rw (q, sliceBy) tt)
+    (λ q. rw (q, sliceBy) (byCase (eqb d 123) (λ r. rw r (λ h. clash h refl)) (λ r. rw r (lineSlice-ends s i t d ds e (newline-of d (f d ds refl) q r)))))
 
 -- the text at the start of a rest of s, i bytes on
-module _ (s : List ℕ) (i b : ℕ) (bs : List ℕ) (at : drop i s ≡ b ∷ bs) (w : Whole (b ∷ bs)) where
-  text-ends : Holds (EndsLine s i) (getTextSlice (b ∷ bs))
-  unfolding getTextSlice
-  text-ends =
-      let n = run isTextByte (b ∷ bs) in
-      let (d, ds, e) = past-text b bs w in
-      let len : length (take n (b ∷ bs)) ≡ n = length-take n (b ∷ bs) ∙ min-eq-left (omega (arith, run-whole isTextByte (unfold isTextByte in refl) b bs [] w .1)) in
-      subst (λ r. Holds (EndsLine s i) (sliceBy (take n (b ∷ bs)) r)) (sym e)
-      (sliceBy-ends s i (take n (b ∷ bs)) d ds (rw len (sym (drop-drop n i s) ∙ ap (drop n) at ∙ e)) (run-end isTextByte (b ∷ bs) d ds e))
+text-ends : (s : List ℕ) (i : ℕ) (r : List ℕ) → drop i s ≡ r → Holds (EndsLine s i) (getTextSlice r)
+unfolding getTextSlice
+text-ends s i r at =
+    let n = run isTextByte r in
+    let len : length (take n r) ≡ n = omega (arith, length-take n r, run-le isTextByte r) in
+    sliceBy-ends s i (take n r) (drop n r) (rw len (sym (drop-drop n i s) ∙ ap (drop n) at)) (λ d ds e. run-end isTextByte r d ds e)
 
-  text-pos : eqb b 123 ≡ false → Holds (λ z ms k. 0 < k) (getTextSlice (b ∷ bs))
-  unfolding getTextSlice run
-  text-pos q =
-      let n = run isTextByte (b ∷ bs) in
-      let (d, ds, e) = past-text b bs w in
-      subst (λ r. Holds (λ z ms k. 0 < k) (sliceBy (take n (b ∷ bs)) r)) (sym e)
-      (sliceBy-pos (take n (b ∷ bs)) d ds (byCase (isTextByte b) (λ r. inl (rw (r, run) (omega arith)))
-      (λ r. inr (let z : b ∷ bs ≡ d ∷ ds = rw (r, run) at e in let y : b ≡ d = cc in ap (λ c. eqb c 123) (sym y) ∙ q))))
+-- ---- patterns
 
-module _ (sub : Inside) (law : InsideLaw sub) where
-  abbrev TurnLands : State → List ℕ → Turn State State → Type 0
-  TurnLands st s w = TurnHolds (patternTurn sub) Landed st s w
+-- a pattern's turns, from the state st on
+abbrev Landed : State → List ℕ → State → List Mark → ℕ → Type 0
+Landed st s st′ ms k = k < length s → ((0 < k) × (lineStartsAt k s ≡ true)) ⊎ ((k ≡ 0) × (isLineStart (st .role) ≡ true) × (startsWith 10 s ≡ false))
 
-  abbrev ReadyTurn : State → List ℕ → Turn State State → Type 0
-  ReadyTurn st s w = Whole s → Ready st s → TurnWithin (λ st′ k. Ready st′ (drop k s)) (length s) w
+module _ (sub : Inside) where
+  abbrev Turned : State → List ℕ → Turn State State → Type 0
+  Turned st s w = TurnHolds (patternTurn sub) Landed st s w
 
-  withText-lands : (st : State) (s : List ℕ) (i : ℕ) (o : Out Slice) → ReadyTurn st s (withText st i o) → (Whole s → Holds (λ t ms k. 0 < i + k) o) → (Whole s → Holds (EndsLine s i) o) → TurnLands st s (withText st i o)
+  withText-lands : (st : State) (s : List ℕ) (i : ℕ) (o : Out Slice) → TurnBounded 0 1 0 s (withText st i o) → Holds (EndsLine s i) o → Turned st s (withText st i o)
   unfolding withText after
-  withText-lands st s i (ok t ms k) ready pos ends = λ st′ ns j g w r.
-      let h = g (whole-drop (i + k) s w) (ready w r .1) in
-      (λ z. absurd (omega (arith, pos w)), λ z. by j h (pos w) (ends w))
+  withText-lands st s i (ok t ms k) (goes u) e = λ st′ ns j h l. inl (by j (h (omega (arith, length-drop (i + k) s))))
     where
-      by : (j : ℕ) → (j ≡ 0 → (isLineStart (roleAfter (t .ending)) ≡ true) × (startsWith 10 (drop (i + k) s) ≡ false)) × (0 < j → lineStartsAt j (drop (i + k) s) ≡ true) → 0 < i + k → EndsLine s i t ms k → lineStartsAt (i + k + j) s ≡ true
-      by zero h p e = rw (add-zero (i + k)) (from (e (h .0 refl .0)) (h .0 refl .1))
+      by : (j : ℕ) → ((0 < j) × (lineStartsAt j (drop (i + k) s) ≡ true)) ⊎ ((j ≡ 0) × (isLineStart (roleAfter (t .ending)) ≡ true) × (startsWith 10 (drop (i + k) s) ≡ false)) → (0 < i + k + j) × (lineStartsAt (i + k + j) s ≡ true)
+      by j (inl (p, q)) = (omega arith, starts-later (i + k) j s p q)
+      by j (inr (z, a, b)) = (omega (arith, u .room), rw z (rw (add-zero (i + k)) (from (e a))))
         where
-          from : (startsWith 10 (drop (i + k) s) ≡ true) ⊎ (lineStartsAt (i + k) s ≡ true) → startsWith 10 (drop (i + k) s) ≡ false → lineStartsAt (i + k) s ≡ true
-          from (inl a) b = clash a b
-          from (inr a) b = a
-      by (suc j) h p e = starts-later (i + k) (suc j) s (omega arith) (h .1 (omega arith))
-  withText-lands st s i (bad f k) ready pos ends = tt
-  withText-lands st s i (deep k) ready pos ends = tt
+          from : (startsWith 10 (drop (i + k) s) ≡ true) ⊎ (lineStartsAt (i + k) s ≡ true) → lineStartsAt (i + k) s ≡ true
+          from (inl c) = clash c b
+          from (inr c) = c
+  withText-lands st s i (bad f k) b e = tt
+  withText-lands st s i (deep k) b e = tt
 
-  withPlaceable-lands : (st : State) (s : List ℕ) (o : Out (Unit {0})) → ReadyTurn st s (withPlaceable st o) → Takes o → TurnLands st s (withPlaceable st o)
+  withPlaceable-lands : (st : State) (s : List ℕ) (o : Out (Unit {0})) → Takes o → Turned st s (withPlaceable st o)
   unfolding withPlaceable isLineStart
-  withPlaceable-lands st s (ok u ms k) ready pos = λ st′ ns j g w r.
-      let h = g (whole-drop k s w) (ready w r .1) in
-      (λ z. absurd (omega arith), λ z. by j h)
+  withPlaceable-lands st s (ok u ms k) p = λ st′ ns j h l. inl (by j (h (omega (arith, length-drop k s))))
     where
-      by : (j : ℕ) → (j ≡ 0 → (false ≡ true) × (startsWith 10 (drop k s) ≡ false)) × (0 < j → lineStartsAt j (drop k s) ≡ true) → lineStartsAt (k + j) s ≡ true
-      by zero h = clash refl (sym (h .0 refl .0))
-      by (suc j) h = starts-later k (suc j) s (omega arith) (h .1 (omega arith))
-  withPlaceable-lands st s (bad f k) ready pos = tt
-  withPlaceable-lands st s (deep k) ready pos = tt
+      by : (j : ℕ) → ((0 < j) × (lineStartsAt j (drop k s) ≡ true)) ⊎ ((j ≡ 0) × (false ≡ true) × (startsWith 10 (drop k s) ≡ false)) → (0 < k + j) × (lineStartsAt (k + j) s ≡ true)
+      by j (inl (p, q)) = (omega arith, starts-later k j s p q)
+      by j (inr (z, a, b)) = clash refl (sym a)
+  withPlaceable-lands st s (bad f k) p = tt
+  withPlaceable-lands st s (deep k) p = tt
 
-  line-lands : (st : State) (b : ℕ) (bs : List ℕ) (i : ℕ) (r : List ℕ) → isLineStart (st .role) ≡ true → eqb b 123 ≡ false → spaces (b ∷ bs) ≡ i → drop i (b ∷ bs) ≡ r → ReadyTurn st (b ∷ bs) (lineTurn st i r) → TurnLands st (b ∷ bs) (lineTurn st i r)
-  unfolding lineTurn startsWith goesOn
-  line-lands st b bs i [] l q e d ready = λ w r.
-      let (c, cs, f, v, n) = past-spaces b bs w in
-      let z : _≡_ {A = List ℕ} [] (c ∷ cs) = sym d ∙ ap (λ k. drop k (b ∷ bs)) (sym e) ∙ f in
-      let y : _≡_ {A = ℕ} 0 1 = cc in absurd (omega arith)
-  line-lands st b bs i (c ∷ cs) l q e d ready =
+  line-lands : (st : State) (b : ℕ) (bs : List ℕ) (i : ℕ) (r : List ℕ) → isLineStart (st .role) ≡ true → spaces (b ∷ bs) ≡ i → drop i (b ∷ bs) ≡ r → TurnBounded 0 1 0 (b ∷ bs) (lineTurn st i r) → Turned st (b ∷ bs) (lineTurn st i r)
+  unfolding lineTurn goesOn spaces run startsWith
+  line-lands st b bs i [] l e d t = λ h. absurd (omega (arith, ap length d, length-drop i (b ∷ bs)))
+  line-lands st b bs i (c ∷ cs) l e d t =
       byCase (goesOn i c)
-      (λ g. rw (g, lineTurn) (withText-lands st (b ∷ bs) i (getTextSlice (c ∷ cs)) (rw (g, lineTurn) at ready)
-      (λ w. holds-pos w) (λ w. text-ends (b ∷ bs) i c cs d (rest-whole w))))
-      (λ g. rw (g, lineTurn) (λ w r. (λ z. (l, not-newline g), λ z. absurd (not-suc-le-zero z))))
+      (λ g. rw (g, lineTurn) (withText-lands st (b ∷ bs) i (getTextSlice (c ∷ cs)) (rw (g, lineTurn) at t) (text-ends (b ∷ bs) i (c ∷ cs) d)))
+      (λ g. rw (g, lineTurn) (λ h. inr (refl, l, not-newline g)))
     where
-      rest-whole : Whole (b ∷ bs) → Whole (c ∷ cs)
-      rest-whole w = subst Whole d (whole-drop i (b ∷ bs) w)
-
-      first : (k : ℕ) → i ≡ k → drop k (b ∷ bs) ≡ c ∷ cs → k ≡ 0 → b ≡ c
-      first k z f y = let h : b ∷ bs ≡ c ∷ cs = subst (λ n. drop n (b ∷ bs) ≡ c ∷ cs) y f in cc
-
-      holds-pos : Whole (b ∷ bs) → Holds (λ t ms k. 0 < i + k) (getTextSlice (c ∷ cs))
-      holds-pos w = byCase (eqb i 0)
-          (λ z. holds-map (λ t ms k. 0 < k) (λ t ms k. 0 < i + k) (λ t ms k h. omega arith) (getTextSlice (c ∷ cs))
-          (text-pos (b ∷ bs) i c cs d (rest-whole w) (ap (λ k. eqb k 123) (sym (first i refl d (eqb-true i 0 z))) ∙ q)))
-          (λ z. all (getTextSlice (c ∷ cs)) (pos i (eqb-false i 0 z)))
-        where
-          pos : (k : ℕ) → (k ≡ 0 → ⊥) → 0 < k
-          pos zero h = absurd (h refl)
-          pos (suc k) h = omega arith
-
-          all : (o : Out Slice) → 0 < i → Holds (λ t ms k. 0 < i + k) o
-          all (ok t ms k) h = omega arith
-          all (bad f k) h = tt
-          all (deep k) h = tt
-
-      not-newline : goesOn i c ≡ false → eqb b 10 ≡ false
+      not-newline : goesOn i c ≡ false → startsWith 10 (b ∷ bs) ≡ false
       not-newline g = byCase (eqb b 10)
-          (λ z. let s0 : spaces (b ∷ bs) ≡ 0 = unfold spaces run in (rw (eqb-true b 10 z) refl) in
+          (λ z. let s0 : spaces (b ∷ bs) ≡ 0 = rw (eqb-true b 10 z) refl in
           let i0 : i ≡ 0 = sym e ∙ s0 in
-          let bc : b ≡ c = first i refl d i0 in
+          let h : b ∷ bs ≡ c ∷ cs = subst (λ n. drop n (b ∷ bs) ≡ c ∷ cs) i0 d in
+          let bc : b ≡ c = cc in
           clash {v = goesOn i c} (rw i0 (rw (← bc) (rw (eqb-true b 10 z) refl))) g)
           (λ z. z)
 
-  ready-turn : (st : State) (s : List ℕ) → ReadyTurn st s (patternTurn sub st s)
-  ready-turn st s w r = subst (λ z. TurnWithin (λ st′ k. Ready st′ (drop k s)) (length s) (patternTurn sub st z)) (append-nil s) (pattern-turns none tt sub law .stops st s [] w r tt)
+  -- what stands in braces uses a byte
+  module _ (takes : (b : ℕ) (bs : List ℕ) → Takes (sub .braced (b ∷ bs))) where
+    turn-lands : (st : State) (s : List ℕ) → Turned st s (patternTurn sub st s)
+    unfolding patternTurn textTurn
+    turn-lands st [] = λ h. absurd (not-suc-le-zero h)
+    turn-lands st (b ∷ bs) = byCase (eqb b 123) (λ q. rw (q, patternTurn) (withPlaceable-lands st (b ∷ bs) (sub .braced (b ∷ bs)) (takes b bs)))
+        (λ q. let t = text-bounded {n = 0} st b bs q in
+        rw (q, patternTurn) (byCase (isLineStart (st .role))
+        (λ l. rw (l, textTurn) (line-lands st b bs (spaces (b ∷ bs)) (drop (spaces (b ∷ bs)) (b ∷ bs)) l refl refl (rw (l, textTurn) at t)))
+        (λ l. rw (l, textTurn) (withText-lands st (b ∷ bs) 0 (getTextSlice (b ∷ bs)) (rw (l, textTurn) at t) (text-ends (b ∷ bs) 0 (b ∷ bs) refl)))))
 
-  turn-line : (st : State) (b : ℕ) (bs : List ℕ) → eqb b 123 ≡ false → isLineStart (st .role) ≡ true → patternTurn sub st (b ∷ bs) ≡ lineTurn st (spaces (b ∷ bs)) (drop (spaces (b ∷ bs)) (b ∷ bs))
-  unfolding patternTurn textTurn
-  turn-line st b bs q l = rw (q, patternTurn) (rw (l, textTurn) refl)
+    -- where the first text or placeable stands
+    first-lands : (s : List ℕ) → (firstState s .role ≡ initialLineStart) ⊎ ((0 < firstState s .used) × (lineStartsAt (firstState s .used) s ≡ true))
+    unfolding firstState stateAt
+    first-lands s = byCase (ltb 0 (eol (drop (spaces s) s)))
+        (λ q. inr (rw (q, firstState) (
+          omega (arith, ltb-true 0 (eol (drop (spaces s) s)) q),
+          (let k = spaces s in let e = eol (drop (spaces s) s) in
+              starts-add (k + e) (usedBy (skipBlankBlock (drop (k + e) s))) s (starts-later k e s (ltb-true 0 e q) (eol-starts (drop k s) (ltb-true 0 e q))) (block-starts (drop (k + e) s))),
+        )))
+        (λ q. inl (rw (q, firstState) refl))
 
-  turn-text : (st : State) (b : ℕ) (bs : List ℕ) → eqb b 123 ≡ false → isLineStart (st .role) ≡ false → patternTurn sub st (b ∷ bs) ≡ withText st 0 (getTextSlice (b ∷ bs))
-  unfolding patternTurn textTurn
-  turn-text st b bs q l = rw (q, patternTurn) (rw (l, textTurn) refl)
+    pattern-lands : LandsOn (getPattern sub)
+    unfolding getPattern repeat
+    pattern-lands = record {
+      on = λ s. let st = firstState s in let r = drop (st .used) s in
+          finished s (after [] (st .used) (repeat (patternTurn sub) st r)) (started s (repeat (patternTurn sub) st r) (loop-holds (patternTurn sub) Landed turn-lands (suc (length r)) st r));
+    }
+      where
+        finished : (s : List ℕ) (o : Out State) → Holds (λ a ms k. Lands s k) o → Holds (λ a ms k. Lands s k) (finish s o)
+        finished s (ok st ms k) h = unfold finish in (pick (Holds (λ a ms k. Lands s k)) (eqb (st .kept) 0) _ _ (λ q. h) (λ q. h))
+        finished s (bad f k) h = unfold finish in tt
+        finished s (deep k) h = unfold finish in tt
 
-  turn-brace : (st : State) (b : ℕ) (bs : List ℕ) → eqb b 123 ≡ true → patternTurn sub st (b ∷ bs) ≡ withPlaceable st (sub .braced (b ∷ bs))
-  unfolding patternTurn
-  turn-brace st b bs q = rw (q, patternTurn) refl
+        started : (s : List ℕ) (o : Out State) → Holds (Landed (firstState s) (drop (firstState s .used) s)) o → Holds (λ a ms k. Lands s k) (after [] (firstState s .used) o)
+        started s (ok st ms k) h = unfold after in (λ l. by k (h (omega (arith, length-drop (firstState s .used) s))) (first-lands s))
+          where
+            by : (k : ℕ) → ((0 < k) × (lineStartsAt k (drop (firstState s .used) s) ≡ true)) ⊎ ((k ≡ 0) × (isLineStart (firstState s .role) ≡ true) × (startsWith 10 (drop (firstState s .used) s) ≡ false))
+                → (firstState s .role ≡ initialLineStart) ⊎ ((0 < firstState s .used) × (lineStartsAt (firstState s .used) s ≡ true)) → (0 < firstState s .used + k) × (lineStartsAt (firstState s .used + k) s ≡ true)
+            by k (inl (p, q)) f = (omega arith, starts-later (firstState s .used) k s p q)
+            by k (inr (z, a, b)) (inl e) = clash a (ap isLineStart e ∙ (unfold isLineStart in refl))
+            by k (inr (z, a, b)) (inr (p, q)) = (omega arith, rw z (rw (add-zero (firstState s .used)) q))
+        started s (bad f k) h = unfold after in tt
+        started s (deep k) h = unfold after in tt
 
-  turn-lands : (st : State) (s : List ℕ) → TurnLands st s (patternTurn sub st s)
-  unfolding patternTurn startsWith
-  turn-lands st [] = λ w r. (λ z. (not-ready st r, refl), λ z. absurd (not-suc-le-zero z))
-  turn-lands st (b ∷ bs) = byCase (eqb b 123)
-      (λ q. let e = turn-brace st b bs q in
-      subst (TurnLands st (b ∷ bs)) (sym e) (withPlaceable-lands st (b ∷ bs) (sub .braced (b ∷ bs)) (subst (ReadyTurn st (b ∷ bs)) e (ready-turn st (b ∷ bs))) (law .braced .takes (b ∷ bs))))
-      (λ q. byCase (isLineStart (st .role))
-      (λ l. let e = turn-line st b bs q l in
-      subst (TurnLands st (b ∷ bs)) (sym e) (line-lands st b bs (spaces (b ∷ bs)) (drop (spaces (b ∷ bs)) (b ∷ bs)) l q refl refl (subst (ReadyTurn st (b ∷ bs)) e (ready-turn st (b ∷ bs)))))
-      (λ l. let e = turn-text st b bs q l in
-      subst (TurnLands st (b ∷ bs)) (sym e) (withText-lands st (b ∷ bs) 0 (getTextSlice (b ∷ bs)) (subst (ReadyTurn st (b ∷ bs)) e (ready-turn st (b ∷ bs)))
-      (λ w. holds-map (λ t ms k. 0 < k) (λ t ms k. 0 < 0 + k) (λ t ms k h. omega arith) (getTextSlice (b ∷ bs)) (text-pos (b ∷ bs) 0 b bs refl w q)) (λ w. text-ends (b ∷ bs) 0 b bs refl w))))
+    -- ---- entries
 
-  pattern-lands : (st : State) (s : List ℕ) → Holds (Landed st s) (repeat (patternTurn sub) st s)
-  unfolding repeat
-  pattern-lands st s = loop-holds (patternTurn sub) Landed turn-lands (suc (length s)) st s
+    value-stays : (v : Bool) → StaysOn (needsValue v)
+    unfolding needsValue fail
+    value-stays true = pure-stays tt
+    value-stays false = record { on = λ s. tt }
 
-  -- an answer that ends where a line starts, past the start
-  abbrev Land : {A : Type 0} → List ℕ → A → List Mark → ℕ → Type 0
-  Land s a ms k = (0 < k) × (lineStartsAt k s ≡ true)
+    attribute-lands : LandsOn (getAttribute sub)
+    unfolding getAttribute inNode
+    attribute-lands = record { on = λ s. wrapped s _ (then-lands _ (then-lands _ (then-lands _ (lands-bind pattern-lands value-stays))) .on s) }
+      where
+        wrapped : (s : List ℕ) (o : Out (Unit {0})) → Holds (λ a ms k. Lands s k) o → Holds (λ a ms k. Lands s k) (wrap 10 o)
+        wrapped s (ok a ms k) h = unfold wrap in h
+        wrapped s (bad f k) h = unfold wrap in tt
+        wrapped s (deep k) h = unfold wrap in tt
 
-  abbrev Stay : {A : Type 0} → List ℕ → A → List Mark → ℕ → Type 0
-  Stay s a ms k = lineStartsAt k s ≡ true
+    attributes-stay : StaysOn (getAttributes sub)
+    unfolding getAttributes repeat
+    attributes-stay = record { on = λ s. loop-holds (attributeTurn sub) (λ n r a ms k. Stays r k) turns (suc (length s)) 0 s }
+      where
+        by : (n : ℕ) (s : List ℕ) (k : ℕ) (o : Out (Unit {0})) → Holds (λ a ms j. Lands (drop k s) j) o → TurnHolds (attributeTurn sub) (λ n r a ms k. Stays r k) n s (attributeBy n k o)
+        by n s k (ok u ms j) h = unfold attributeBy in (λ a ns i g. stays-stay (k + j) i s (λ l. lands-after k j s h l .1) g)
+        by n s k (bad f j) h = unfold attributeBy lineStartsAt in (λ l. refl)
+        by n s k (deep j) h = unfold attributeBy in tt
 
-  first-lands : (s : List ℕ) → (firstState s .role ≡ initialLineStart) ⊎ ((0 < firstState s .used) × (lineStartsAt (firstState s .used) s ≡ true))
-  unfolding firstState stateAt usedBy
-  first-lands s = byCase (ltb 0 (eol (drop (spaces s) s)))
-      (λ q. inr (rw (q, firstState) (
-        omega (arith, ltb-true 0 (eol (drop (spaces s) s)) q),
-        (let k = spaces s in let e = eol (drop (spaces s) s) in
-            starts-add (k + e) (usedBy (skipBlankBlock (drop (k + e) s))) s
-            (starts-later k e s (ltb-true 0 e q) (eol-starts (drop k s) (ltb-true 0 e q)))
-            (block (skipBlankBlock (drop (k + e) s)) (drop (k + e) s) (block-sure (drop (k + e) s)) (block-lands (drop (k + e) s)))),
-      )))
-      (λ q. inl (rw (q, firstState) refl))
-    where
-      block : (o : Out ℕ) (r : List ℕ) → Sure o → Holds (λ a ms k. lineStartsAt k r ≡ true) o → lineStartsAt (usedBy o) r ≡ true
-      block (ok a ms k) r u h = h
-      block (bad f k) r u h = absurd u
-      block (deep k) r u h = absurd u
+        turns : (n : ℕ) (s : List ℕ) → TurnHolds (attributeTurn sub) (λ n r a ms k. Stays r k) n s (attributeTurn sub n s)
+        turns n s = unfold attributeTurn lineStartsAt in
+            (pick (TurnHolds (attributeTurn sub) (λ n r a ms k. Stays r k) n s) (startsWith 46 (drop (spaces s) s)) _ _ (λ q. by n s (spaces s + 1) (getAttribute sub (drop (spaces s + 1) s)) (attribute-lands .on (drop (spaces s + 1) s))) (λ q l. refl))
 
-  finish-lands : (s : List ℕ) (r : List ℕ) (o : Out State) → Holds (Land s) o → Holds (Land s) (finish r o)
-  unfolding finish
-  finish-lands s r (ok st ms k) h = byCase (eqb (st .kept) 0) (λ q. rw (q, finish) h) (λ q. rw (q, finish) h)
-  finish-lands s r (bad f k) h = tt
-  finish-lands s r (deep k) h = tt
+    fields-land : LandsOn (fields sub)
+    unfolding fields
+    fields-land = bind-lands _ (λ n. then-lands _ (then-lands _ (lands-bind pattern-lands (λ v. stays-then block-stays (stays-bind attributes-stay (λ c. pure-stays _))))))
 
-  after-lands : (s : List ℕ) (st : State) → Whole (drop (st .used) s) → Ready st (drop (st .used) s) → (st .role ≡ initialLineStart) ⊎ ((0 < st .used) × (lineStartsAt (st .used) s ≡ true))
-      → (o : Out State) → Holds (Landed st (drop (st .used) s)) o → Holds (Land s) (after [] (st .used) o)
-  unfolding after isLineStart
-  after-lands s st w r f (ok st′ ms k) h = by k (h w r) f
-    where
-      by : (k : ℕ) → (k ≡ 0 → (isLineStart (st .role) ≡ true) × (startsWith 10 (drop (st .used) s) ≡ false)) × (0 < k → lineStartsAt k (drop (st .used) s) ≡ true) → (st .role ≡ initialLineStart) ⊎ ((0 < st .used) × (lineStartsAt (st .used) s ≡ true)) → (0 < st .used + k) × (lineStartsAt (st .used + k) s ≡ true)
-      by zero g (inl e) = clash (g .0 refl .0) (ap isLineStart e)
-      by zero g (inr e) = rw (add-zero (st .used)) e
-      by (suc k) g e = (omega arith, starts-later (st .used) (suc k) s (omega arith) (g .1 (omega arith)))
-  after-lands s st w r f (bad e k) h = tt
-  after-lands s st w r f (deep k) h = tt
+    pub entry-lands : (s : List ℕ) → startsWith 35 s ≡ false → Holds (λ e ms k. Lands s k) (getEntry sub s)
+    unfolding getEntry termFields
+    entry-lands s q = rw (q, getEntry) (pick (Holds (λ e ms k. Lands s k)) (startsWith 45 s) _ _ (λ r. ofTerm (termFields sub s) (then-lands _ fields-land .on s)) (λ r. ofMessage (fields sub s) (fields-land .on s)))
+      where
+        ofMessage : (o : Out Fields) → Holds (λ a ms k. Lands s k) o → Holds (λ e ms k. Lands s k) (asMessage o)
+        ofMessage (ok f ms k) h = unfold asMessage in (pick (Holds (λ e ms k. Lands s k)) (f .value || not (eqb (f .attributes) 0)) _ _ (λ q. h) (λ q. tt))
+        ofMessage (bad f k) h = unfold asMessage in tt
+        ofMessage (deep k) h = unfold asMessage in tt
 
-  getPattern-lands : (s : List ℕ) → Whole s → 0 < length s → Holds (Land s) (getPattern sub s)
-  getPattern-lands [] w h = absurd (not-suc-le-zero h)
-  getPattern-lands (b ∷ bs) w h = unfold getPattern in
-      (let st = firstState (b ∷ bs) in
-      let f = subst (λ z. (firstState z .used ≤ suc (length bs)) × Ready (firstState z) (drop (firstState z .used) (b ∷ bs))) (append-nil (b ∷ bs)) (first-ready b bs w [] tt) in
-      finish-lands (b ∷ bs) (b ∷ bs) (after [] (st .used) (repeat (patternTurn sub) st (drop (st .used) (b ∷ bs))))
-      (after-lands (b ∷ bs) st (whole-drop (st .used) (b ∷ bs) w) (f .1) (first-lands (b ∷ bs)) (repeat (patternTurn sub) st (drop (st .used) (b ∷ bs))) (pattern-lands st (drop (st .used) (b ∷ bs)))))
-
-  lands-next : {A B : Type 0} (s : List ℕ) (q : A → Reader B) (o : Out A) → Holds (λ a ms k. Holds (Land (drop k s)) (q a (drop k s))) o → Holds (Land s) (next s q o)
-  unfolding next after
-  lands-next {B = B} s q (ok a ms k) h = go (q a (drop k s)) h
-    where
-      go : (w : Out B) → Holds (Land (drop k s)) w → Holds (Land s) (after ms k w)
-      go (ok b ns j) g = (omega (arith, g .0), starts-later k j s (g .0) (g .1))
-      go (bad f j) g = tt
-      go (deep j) g = tt
-  lands-next s q (bad f k) h = tt
-  lands-next s q (deep k) h = tt
-
-  stay-next : {A B : Type 0} (s : List ℕ) (q : A → Reader B) (o : Out A) → Holds (Land s) o → Holds (λ a ms k. Holds (Stay (drop k s)) (q a (drop k s))) o → Holds (Land s) (next s q o)
-  unfolding next after
-  stay-next {B = B} s q (ok a ms k) l h = go (q a (drop k s)) h
-    where
-      go : (w : Out B) → Holds (Stay (drop k s)) w → Holds (Land s) (after ms k w)
-      go (ok b ns j) g = (omega (arith, l .0), starts-add k j s (l .1) g)
-      go (bad f j) g = tt
-      go (deep j) g = tt
-  stay-next s q (bad f k) l h = tt
-  stay-next s q (deep k) l h = tt
-
-  stays-next : {A B : Type 0} (s : List ℕ) (q : A → Reader B) (o : Out A) → Holds (Stay s) o → Holds (λ a ms k. Holds (Stay (drop k s)) (q a (drop k s))) o → Holds (Stay s) (next s q o)
-  unfolding next after
-  stays-next {B = B} s q (ok a ms k) l h = go (q a (drop k s)) h
-    where
-      go : (w : Out B) → Holds (Stay (drop k s)) w → Holds (Stay s) (after ms k w)
-      go (ok b ns j) g = starts-add k j s l g
-      go (bad f j) g = tt
-      go (deep j) g = tt
-  stays-next s q (bad f k) l h = tt
-  stays-next s q (deep k) l h = tt
-
-  every : {A : Type 0} (P : A → List Mark → ℕ → Type 0) → ((a : A) (ms : List Mark) (k : ℕ) → P a ms k) → (o : Out A) → Holds P o
-  every P f (ok a ms k) = f a ms k
-  every P f (bad e k) = tt
-  every P f (deep k) = tt
-
-  byte-short : (z : List ℕ) → Whole z → Holds (λ a ms k. k < length z) (expectByte 61 z)
-  byte-short z v = go (expectByte 61 z) (subst (λ t. Short (length z) (expectByte 61 t)) (append-nil z) (expectByte-strict 61 (λ e. omega arith) (λ e. omega arith) .short z [] v tt))
-    where
-      go : (o : Out (Unit {0})) → Short (length z) o → Holds (λ a ms k. k < length z) o
-      go (ok a ms k) h = h
-      go (bad f k) h = tt
-      go (deep k) h = tt
-
-  -- from the '=' of an entry or an attribute on
-  module _ {A : Type 0} (q : Bool → Reader A) (stays : (v : Bool) (r : List ℕ) → Whole r → Holds (Stay r) (q v r)) where
-    value-lands : (z : List ℕ) → Whole z → Holds (Land z) ((expectByte 61 >> (getPattern sub >>= q)) z)
-    unfolding _>>_ _>>=_
-    value-lands z v = lands-next z (λ _. getPattern sub >>= q) (expectByte 61 z)
-        (holds-map (λ a ms k. k < length z) (λ a ms k. Holds (Land (drop k z)) ((getPattern sub >>= q) (drop k z)))
-        (λ a ms k h. stay-next (drop k z) q (getPattern sub (drop k z)) (getPattern-lands (drop k z) (whole-drop k z v) (rw length-drop (omega arith)))
-        (every (λ b ns j. Holds (Stay (drop j (drop k z))) (q b (drop j (drop k z)))) (λ b ns j. stays b (drop j (drop k z)) (whole-drop j (drop k z) (whole-drop k z v))) (getPattern sub (drop k z))))
-        (expectByte 61 z) (byte-short z v))
-
-    inline-lands : (z : List ℕ) → Whole z → Holds (Land z) ((skipBlankInline >> (expectByte 61 >> (getPattern sub >>= q))) z)
-    unfolding _>>_
-    inline-lands z v = lands-next z (λ _. expectByte 61 >> (getPattern sub >>= q)) (skipBlankInline z) (every (λ a ms k. Holds (Land (drop k z)) ((expectByte 61 >> (getPattern sub >>= q)) (drop k z))) (λ a ms k. value-lands (drop k z) (whole-drop k z v)) (skipBlankInline z))
-
-  value-stays : (v : Bool) (r : List ℕ) → Holds (Stay r) (needsValue v r)
-  unfolding needsValue pure fail lineStartsAt
-  value-stays true r = refl
-  value-stays false r = tt
-
-  wrap-lands : (kind : ℕ) (s : List ℕ) (o : Out (Unit {0})) → Holds (Land s) o → Holds (Land s) (wrap kind o)
-  unfolding wrap
-  wrap-lands kind s (ok a ms k) h = h
-  wrap-lands kind s (bad f k) h = tt
-  wrap-lands kind s (deep k) h = tt
-
-  attribute-lands : (s : List ℕ) → Whole s → Holds (Land s) (getAttribute sub s)
-  unfolding getAttribute inNode _>>_
-  attribute-lands s w = wrap-lands 10 s _ (lands-next s (λ _. skipBlankInline >> (expectByte 61 >> (getPattern sub >>= needsValue))) (getIdentifier 9 s)
-      (every (λ a ms k. Holds (Land (drop k s)) ((skipBlankInline >> (expectByte 61 >> (getPattern sub >>= needsValue))) (drop k s))) (λ a ms k. inline-lands needsValue (λ v r x. value-stays v r) (drop k s) (whole-drop k s w)) (getIdentifier 9 s)))
-
-  abbrev Attributed : ℕ → List ℕ → ℕ → List Mark → ℕ → Type 0
-  Attributed n s a ms k = Whole s → lineStartsAt k s ≡ true
-
-  attributeBy-lands : (n : ℕ) (s : List ℕ) (k : ℕ) (o : Out (Unit {0})) → (Whole s → Holds (Land (drop k s)) o) → TurnHolds (attributeTurn sub) Attributed n s (attributeBy n k o)
-  unfolding attributeBy lineStartsAt
-  attributeBy-lands n s k (ok u ms j) h = λ a ns i g w. starts-add (k + j) i s (starts-later k j s (h w .0) (h w .1)) (g (whole-drop (k + j) s w))
-  attributeBy-lands n s k (bad f j) h = λ w. refl
-  attributeBy-lands n s k (deep j) h = tt
-
-  attributeTurn-lands : (n : ℕ) (s : List ℕ) → TurnHolds (attributeTurn sub) Attributed n s (attributeTurn sub n s)
-  unfolding attributeTurn lineStartsAt
-  attributeTurn-lands n s = byCase (startsWith 46 (drop (spaces s) s))
-      (λ q. rw (q, TurnHolds, attributeTurn) (attributeBy-lands n s (spaces s + 1) (getAttribute sub (drop (spaces s + 1) s)) (λ w. attribute-lands (drop (spaces s + 1) s) (whole-drop (spaces s + 1) s w))))
-      (λ q. rw (q, TurnHolds, attributeTurn) (λ w. refl))
-
-  attributes-stay : (s : List ℕ) → Whole s → Holds (Stay s) (getAttributes sub s)
-  unfolding getAttributes repeat
-  attributes-stay s w = holds-map (Attributed 0 s) (Stay s) (λ a ms k h. h w) (loop (suc (length s)) (attributeTurn sub) 0 s) (loop-holds (attributeTurn sub) Attributed attributeTurn-lands (suc (length s)) 0 s)
-
-  pure-stays : {A : Type 0} (a : A) (r : List ℕ) → Holds (Stay r) (pure a r)
-  unfolding pure lineStartsAt
-  pure-stays a r = refl
-
-  abbrev rest : ℕ → Bool → Reader Fields
-  rest n v = skipBlankBlock >> (getAttributes sub >>= λ c. pure (record { name = n; value = v; attributes = c }))
-
-  rest-stays : (n : ℕ) (v : Bool) (r : List ℕ) → Whole r → Holds (Stay r) (rest n v r)
-  unfolding _>>_ _>>=_
-  rest-stays n v r w = stays-next r (λ _. getAttributes sub >>= λ c. pure (record { name = n; value = v; attributes = c })) (skipBlankBlock r) (block-lands r)
-      (every (λ a ms k. Holds (Stay (drop k r)) ((getAttributes sub >>= λ c. pure (record { name = n; value = v; attributes = c })) (drop k r)))
-      (λ a ms k. stays-next (drop k r) (λ c. pure (record { name = n; value = v; attributes = c })) (getAttributes sub (drop k r)) (attributes-stay (drop k r) (whole-drop k r w))
-      (every (λ c ns j. Holds (Stay (drop j (drop k r))) (pure (record { name = n; value = v; attributes = c }) (drop j (drop k r)))) (λ c ns j. pure-stays (record { name = n; value = v; attributes = c }) (drop j (drop k r))) (getAttributes sub (drop k r)))) (skipBlankBlock r))
-
-  fields-land : (s : List ℕ) → Whole s → Holds (Land s) (fields sub s)
-  unfolding fields _>>=_
-  fields-land s w = lands-next s (λ n. skipBlankInline >> (expectByte 61 >> (getPattern sub >>= rest n))) (getIdentifier 9 s)
-      (every (λ n ms k. Holds (Land (drop k s)) ((skipBlankInline >> (expectByte 61 >> (getPattern sub >>= rest n))) (drop k s))) (λ n ms k. inline-lands (rest n) (rest-stays n) (drop k s) (whole-drop k s w)) (getIdentifier 9 s))
-
-  termFields-land : (s : List ℕ) → Whole s → Holds (Land s) (termFields sub s)
-  unfolding termFields _>>_
-  termFields-land s w = lands-next s (λ _. fields sub) (expectByte 45 s) (every (λ a ms k. Holds (Land (drop k s)) (fields sub (drop k s))) (λ a ms k. fields-land (drop k s) (whole-drop k s w)) (expectByte 45 s))
-
-  asMessage-lands : (s : List ℕ) (o : Out Fields) → Holds (Land s) o → Holds (Land s) (asMessage o)
-  unfolding asMessage
-  asMessage-lands s (ok f ms k) h = byCase (f .value || not (eqb (f .attributes) 0)) (λ q. rw (q, asMessage) h) (λ q. rw (q, asMessage) tt)
-  asMessage-lands s (bad f k) h = tt
-  asMessage-lands s (deep k) h = tt
-
-  asTerm-lands : (s : List ℕ) (o : Out Fields) → Holds (Land s) o → Holds (Land s) (asTerm o)
-  unfolding asTerm
-  asTerm-lands s (ok f ms k) h = byCase (f .value) (λ q. rw (q, asTerm) h) (λ q. rw (q, asTerm) tt)
-  asTerm-lands s (bad f k) h = tt
-  asTerm-lands s (deep k) h = tt
-
-  pub entry-lands : (b : ℕ) (bs : List ℕ) → Whole (b ∷ bs) → eqb b 35 ≡ false → Holds (λ e ms k. (0 < k) × (lineStartsAt k (b ∷ bs) ≡ true)) (getEntry sub (b ∷ bs))
-  unfolding getEntry startsWith
-  entry-lands b bs w q = rw (q, getEntry) (byCase (eqb b 45) (λ r. rw r (asTerm-lands (b ∷ bs) (termFields sub (b ∷ bs)) (termFields-land (b ∷ bs) w))) (λ r. rw r (asMessage-lands (b ∷ bs) (fields sub (b ∷ bs)) (fields-land (b ∷ bs) w))))
+        ofTerm : (o : Out Fields) → Holds (λ a ms k. Lands s k) o → Holds (λ e ms k. Lands s k) (asTerm o)
+        ofTerm (ok f ms k) h = unfold asTerm in (pick (Holds (λ e ms k. Lands s k)) (f .value) _ _ (λ q. h) (λ q. tt))
+        ofTerm (bad f k) h = unfold asTerm in tt
+        ofTerm (deep k) h = unfold asTerm in tt

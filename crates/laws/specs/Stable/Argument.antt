@@ -9,7 +9,7 @@ use lib.ListN.{drop, length, take, length-drop, length-append, drop-of-length-le
 use lib.Seq.{take-append-le}
 use lib.Dec.{eqb, ltb}
 use borrow.Author.Tests.{eqb-true, eqb-false, ltb-true, ltb-false}
-use Rattle.syntax.specs.Bytes.{startsWith, starts, isLetter, isDigit}
+use Rattle.syntax.specs.Bytes.{startsWith, starts, all, isLetter, isDigit, isCalleePart}
 use Rattle.syntax.specs.declared.errors.ErrorKind.the-variants as Errors
 use Rattle.syntax.specs.Marks.{Mark, textNode, node}
 use Rattle.syntax.specs.Reader.{Out, ok, bad, deep, Reader, fail, _>>=_, _>>_, pure, next, after, wrap, Turn, again, done, turnOf, repeat}
@@ -53,40 +53,47 @@ asString-fits (ok a ms k) = tt
 asString-fits (bad f k) = tt
 asString-fits (deep k) = tt
 
-pure-nameless : (sh : Inline) → Nameless sh → (s : List ℕ) → Holds (λ a ms k. Nameless a) (pure sh s)
-unfolding pure
-pure-nameless sh h s = h
+-- what holds of the values that references can have
+module _ (P : Inline → Type 0) where
+  pure-value : (sh : Inline) → P sh → (s : List ℕ) → Holds (λ a ms k. P a) (pure sh s)
+  unfolding pure
+  pure-value sh h s = h
 
-number-nameless : (s : List ℕ) → Holds (λ a ms k. Nameless a) (numberLiteral s)
-unfolding numberLiteral _>>_
-number-nameless s = plain-next Nameless s (λ _. pure number) (getNumberLiteral 20 s) (λ a r. pure-nameless number (λ n. tt) r)
+  pub number-value : P number → (s : List ℕ) → Holds (λ a ms k. P a) (numberLiteral s)
+  unfolding numberLiteral _>>_
+  number-value h s = plain-next P s (λ _. pure number) (getNumberLiteral 20 s) (λ a r. pure-value number h r)
 
-variable-nameless : (s : List ℕ) → Holds (λ a ms k. Nameless a) (variableReference s)
-unfolding variableReference _>>_
-variable-nameless s = plain-next Nameless s (λ _. getIdentifier 9 >> pure variable) (expectByte 36 s) (λ a r. plain-next Nameless r (λ _. pure variable) (getIdentifier 9 r) (λ a r. pure-nameless variable (λ n. tt) r))
+  pub variable-value : P variable → (s : List ℕ) → Holds (λ a ms k. P a) (variableReference s)
+  unfolding variableReference _>>_
+  variable-value h s = plain-next P s (λ _. getIdentifier 9 >> pure variable) (expectByte 36 s) (λ a r. plain-next P r (λ _. pure variable) (getIdentifier 9 r) (λ a r. pure-value variable h r))
+
+  pub term-value : (sub : Inside) → ((t : Bool) → P (term t)) → (s : List ℕ) → Holds (λ a ms k. P a) (termReference sub s)
+  unfolding termReference _>>_ _>>=_
+  term-value sub h s = plain-next P s (λ _. getIdentifier 9 >> (getAttributeAccessor >>= λ t. getCallArguments sub >> pure (term t))) (expectByte 45 s)
+      (λ a r. plain-next P r (λ _. getAttributeAccessor >>= λ t. getCallArguments sub >> pure (term t)) (getIdentifier 9 r)
+      (λ a r. plain-next P r (λ t. getCallArguments sub >> pure (term t)) (getAttributeAccessor r)
+      (λ t r. plain-next P r (λ _. pure (term t)) (getCallArguments sub r) (λ a r. pure-value (term t) (h t) r))))
+
+  pub nested-value : (sub : Inside) → P inner → (s : List ℕ) → Holds (λ a ms k. P a) (nestedPlaceable sub s)
+  unfolding nestedPlaceable _>>_
+  nested-value sub h s = plain-next P s (λ _. pure inner) (sub .braced s) (λ a r. pure-value inner h r)
+
+  referenceBy-value : P function → (n : ℕ) → ((a : Bool) → P (message n a)) → (z : List ℕ) (v : Bool) (s : List ℕ) → Holds (λ a ms k. P a) (referenceBy z n v s)
+  unfolding referenceBy functionReference messageReference pure fail _>>=_
+  referenceBy-value f n h z true s = byCase (all isCalleePart (take n z)) (λ q. rw (q, functionReference) f) (λ q. rw (q, functionReference) tt)
+  referenceBy-value f n h z false s = plain-next P s (λ a. pure (message n a)) (getAttributeAccessor s) (λ a r. h a)
+
+  pub reference-value : (sub : Inside) → P function → ((n : ℕ) (a : Bool) → P (message n a)) → (s : List ℕ) → Holds (λ a ms k. P a) (reference sub s)
+  unfolding reference _>>=_
+  reference-value sub f h s = plain-next P s (λ n. getCallArguments sub >>= (λ call. referenceBy s n call)) (getIdentifier 9 s)
+      (λ n r. plain-next P r (λ call. referenceBy s n call) (getCallArguments sub r) (λ v z. referenceBy-value f n (h n) s v z))
 
 noInline-nameless : (v : Bool) (s : List ℕ) → Holds (λ a ms k. Nameless a) (noInline v s)
 unfolding noInline fail
 noInline-nameless true s = tt
 noInline-nameless false s = tt
 
-referenceBy-upto : (z : List ℕ) (n : ℕ) (v : Bool) (s : List ℕ) → Holds (λ a ms k. NameUpto n a) (referenceBy z n v s)
-unfolding referenceBy functionReference messageReference pure fail _>>=_
-referenceBy-upto z n true s = byCase (Rattle.syntax.specs.Bytes.all Rattle.syntax.specs.Bytes.isCalleePart (take n z)) (λ q. rw (q, functionReference) tt) (λ q. rw (q, functionReference) tt)
-referenceBy-upto z n false s = plain-next (NameUpto n) s (λ a. pure (message n a)) (getAttributeAccessor s) (λ a r. omega arith)
-
 module _ (sub : Inside) where
-  term-nameless : (s : List ℕ) → Holds (λ a ms k. Nameless a) (termReference sub s)
-  unfolding termReference _>>_ _>>=_
-  term-nameless s = plain-next Nameless s (λ _. getIdentifier 9 >> (getAttributeAccessor >>= λ t. getCallArguments sub >> pure (term t))) (expectByte 45 s)
-      (λ a r. plain-next Nameless r (λ _. getAttributeAccessor >>= λ t. getCallArguments sub >> pure (term t)) (getIdentifier 9 r)
-      (λ a r. plain-next Nameless r (λ t. getCallArguments sub >> pure (term t)) (getAttributeAccessor r)
-      (λ t r. plain-next Nameless r (λ _. pure (term t)) (getCallArguments sub r) (λ a r. pure-nameless (term t) (λ n. tt) r))))
-
-  nested-nameless : (s : List ℕ) → Holds (λ a ms k. Nameless a) (nestedPlaceable sub s)
-  unfolding nestedPlaceable _>>_
-  nested-nameless s = plain-next Nameless s (λ _. pure inner) (sub .braced s) (λ a r. pure-nameless inner (λ n. tt) r)
-
   after-fits : (n : ℕ) (ms : List Mark) (k : ℕ) (o : Out Inline) → n ≡ k → Holds (λ a ns j. NameUpto n a) o → Fits (after ms k o)
   unfolding after
   after-fits n ms k (ok (message i a) ns j) e h = omega arith
@@ -102,7 +109,7 @@ module _ (sub : Inside) where
   named-fits : (z s : List ℕ) (o : Out ℕ) → Holds (λ n ms k. n ≡ k) o → Fits (next s (λ n. getCallArguments sub >>= (λ call. referenceBy z n call)) o)
   unfolding next _>>=_
   named-fits z s (ok n ms k) h = after-fits n ms k ((getCallArguments sub >>= (λ call. referenceBy z n call)) (drop k s)) h
-      (plain-next (NameUpto n) (drop k s) (λ call. referenceBy z n call) (getCallArguments sub (drop k s)) (λ v r. referenceBy-upto z n v r))
+      (plain-next (NameUpto n) (drop k s) (λ call. referenceBy z n call) (getCallArguments sub (drop k s)) (λ v r. referenceBy-value (NameUpto n) tt n (λ a. omega arith) z v r))
   named-fits z s (bad f k) h = tt
   named-fits z s (deep k) h = tt
 
@@ -118,11 +125,11 @@ module _ (sub : Inside) where
   unfolding getInlineExpression nonLiteral
   inline-fits v [] = nameless-fits (noInline v []) (noInline-nameless v [])
   inline-fits v (b ∷ bs) =
-      pick-fits (eqb b 34) _ _ (asString-fits (stringLiteral (b ∷ bs))) (pick-fits (isDigit b) _ _ (nameless-fits (numberLiteral (b ∷ bs)) (number-nameless (b ∷ bs)))
+      pick-fits (eqb b 34) _ _ (asString-fits (stringLiteral (b ∷ bs))) (pick-fits (isDigit b) _ _ (nameless-fits (numberLiteral (b ∷ bs)) (number-value Nameless (λ n. tt) (b ∷ bs)))
       (pick-fits (isLetter b) _ _ (asInline-fits (reference sub (b ∷ bs)) (reference-fits (b ∷ bs))) (pick-fits v _ _ (nameless-fits (noInline true (b ∷ bs)) (noInline-nameless true (b ∷ bs)))
-      (pick-fits (eqb b 45) _ _ (pick-fits (starts isLetter bs) _ _ (asInline-fits (termReference sub (b ∷ bs)) (nameless-fits (termReference sub (b ∷ bs)) (term-nameless (b ∷ bs)))) (nameless-fits (numberLiteral (b ∷ bs)) (number-nameless (b ∷ bs))))
-      (pick-fits (eqb b 36) _ _ (asInline-fits (variableReference (b ∷ bs)) (nameless-fits (variableReference (b ∷ bs)) (variable-nameless (b ∷ bs))))
-      (pick-fits (eqb b 123) _ _ (asInline-fits (nestedPlaceable sub (b ∷ bs)) (nameless-fits (nestedPlaceable sub (b ∷ bs)) (nested-nameless (b ∷ bs)))) (nameless-fits (noInline false (b ∷ bs)) (noInline-nameless false (b ∷ bs)))))))))
+      (pick-fits (eqb b 45) _ _ (pick-fits (starts isLetter bs) _ _ (asInline-fits (termReference sub (b ∷ bs)) (nameless-fits (termReference sub (b ∷ bs)) (term-value Nameless sub (λ t n. tt) (b ∷ bs)))) (nameless-fits (numberLiteral (b ∷ bs)) (number-value Nameless (λ n. tt) (b ∷ bs))))
+      (pick-fits (eqb b 36) _ _ (asInline-fits (variableReference (b ∷ bs)) (nameless-fits (variableReference (b ∷ bs)) (variable-value Nameless (λ n. tt) (b ∷ bs))))
+      (pick-fits (eqb b 123) _ _ (asInline-fits (nestedPlaceable sub (b ∷ bs)) (nameless-fits (nestedPlaceable sub (b ∷ bs)) (nested-value Nameless sub (λ n. tt) (b ∷ bs)))) (nameless-fits (noInline false (b ∷ bs)) (noInline-nameless false (b ∷ bs)))))))))
 
 separator-reads : (names : List (List ℕ)) → Reads loose (separator names)
 unfolding separator

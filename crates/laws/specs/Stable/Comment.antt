@@ -17,7 +17,7 @@ use Rattle.syntax.specs.declared.errors.ParserError.{ParserError}
 use Rattle.syntax.specs.Reader.{Out, ok, bad, deep, Reader, fail, after, Turn, again, done, loop, repeat}
 use Rattle.syntax.specs.Comment.{lineLength, levelOf, lineEndUsed, lineRead, lineTurn, commentTurn, getComment}
 use Rattle.syntax.specs.Core.{lineStartsAt}
-use Rattle.laws.specs.Moving.{after-after, moveUp-nil}
+use Rattle.laws.specs.Moving.{after-after}
 use Rattle.laws.specs.Bytes.{Whole, whole-tail, whole-drop, nonempty, Fresh, isFresh, Stop, stop-fresh, byCase, clash, drop-app, run-whole, eol-whole, not-fresh}
 
 pub lineRun-whole : (b : ℕ) (bs y : List ℕ) → Whole (b ∷ bs) → (lineRun ((b ∷ bs) ++ y) ≡ lineRun (b ∷ bs)) × (lineRun (b ∷ bs) < suc (length bs))
