@@ -8,7 +8,7 @@ use mathlib.Core.Bool.{Bool, true, false, _&&_, _||_, not}
 use mathlib.Core.List.{List, [], _∷_, _++_}
 use lib.ListN.{drop, length, length-drop}
 use lib.Dec.{eqb, ltb}
-use borrow.Author.Tests.{eqb-true, eqb-false}
+use borrow.Author.Tests.{ne-eqb}
 use Rattle.syntax.specs.Bytes.{startsWith, starts, isLetter, isDigit, isNamePart, run, eol}
 use Rattle.syntax.specs.Marks.{Mark, node, textNode}
 use Rattle.syntax.specs.declared.errors.ParserError.{ParserError}
@@ -18,8 +18,11 @@ use Rattle.syntax.specs.Comment.{levelOf, lineRead, lineTurn, commentTurn, getC
 use Rattle.syntax.specs.Pattern.{Inside, usedBy}
 use Rattle.syntax.specs.Expression.{level}
 use Rattle.syntax.specs.Core.{Fields, fields, termFields, Entry, asMessage, asTerm, asComment, getEntry, toNextEntry, lineStartsAt, junkEnd, Error, Reading, read, refused, following, isNamed, count, kindOfEntry, entries, parse}
-use Rattle.laws.specs.Bytes.{isFresh, byCase, clash}
-use Rattle.laws.specs.Lines.Join.{levels}
+use Rattle.laws.specs.Bytes.{isFresh, byCase, clash, pick}
+use Rattle.laws.specs.Loop.{turn-moves, repeat-again, repeat-done}
+use Rattle.laws.specs.Loop.Turns.{commentTurn-moves}
+use Rattle.laws.specs.Bounds.Helper.{name-some}
+use Rattle.laws.specs.Bounds.Comment.{levelOf-some}
 use Rattle.laws.specs.Entries.{no-entry}
 
 -- an answer, or an error, past the first byte
@@ -41,11 +44,8 @@ moved-next s q (bad f k) h = h
 moved-next s q (deep k) h = tt
 
 identifier-moved : (b : ℕ) (bs : List ℕ) → isLetter b ≡ true → Moved (getIdentifier 9 (b ∷ bs))
-unfolding getIdentifier starts run
-identifier-moved b bs q = rw (q, getIdentifier) (let e : isNamePart b ≡ true = named in rw (e, run) (omega arith))
-  where
-    named : isNamePart b ≡ true
-    named = unfold isNamePart in (rw q refl)
+unfolding getIdentifier starts
+identifier-moved b bs q = rw (q, getIdentifier) (name-some (b ∷ bs) q)
 
 message-moved : (o : Out Fields) → Moved o → Moved (asMessage o)
 unfolding asMessage
@@ -65,26 +65,30 @@ comment-moved (ok l ms k) h = h
 comment-moved (bad f k) h = h
 comment-moved (deep k) h = tt
 
-line-moved : (n l : ℕ) (s r : List ℕ) → 0 < l → Moved {A = ℕ} (elim (lineTurn 0 l r) [ again st′ ms k ↦ after ms k (loop n commentTurn st′ (drop k s)) | done o ↦ o ])
-unfolding lineTurn lineRead after fail
-line-moved n l s [] h = h
-line-moved n l s (b ∷ bs) h = byCase (ltb 0 (eol (b ∷ bs)))
-    (λ q. rw (q, lineTurn) (moved-after (textNode 8 l (l + 0)) (l + 0 + lineEndUsed (b ∷ bs)) (loop n commentTurn l (drop (l + 0 + lineEndUsed (b ∷ bs)) s)) (omega arith)))
-    (λ q. byCase (eqb b 32)
-    (λ r. rw (q, lineTurn) (rw r (moved-after (textNode 8 (l + 1) (l + 1 + lineLength bs)) (l + 1 + lineLength bs + lineEndUsed (drop (lineLength bs) bs)) (loop n commentTurn l (drop (l + 1 + lineLength bs + lineEndUsed (drop (lineLength bs) bs)) s)) (omega arith))))
-    (λ r. rw (q, lineTurn) (rw r (omega arith))))
+abbrev TurnMoved : Turn ℕ ℕ → Type 0
+TurnMoved (again st ms k) = Unit {0}
+TurnMoved (done o) = Moved o
 
-getComment-moved : (b : ℕ) (bs : List ℕ) → eqb b 35 ≡ true → Moved (getComment (b ∷ bs))
-unfolding getComment repeat loop commentTurn
-getComment-moved b bs q =
-    let p = levels b bs q in
-    let e : (eqb (levelOf (b ∷ bs)) 0 || (not (eqb 0 0) && not (eqb (levelOf (b ∷ bs)) 0))) ≡ false = byCase (eqb (levelOf (b ∷ bs)) 0) (λ z. absurd (omega (arith, eqb-true (levelOf (b ∷ bs)) 0 z))) (λ z. rw z refl) in
-    rw (e, loop, commentTurn) (line-moved (suc (length bs)) (levelOf (b ∷ bs)) (b ∷ bs) (drop (levelOf (b ∷ bs)) (b ∷ bs)) p)
+line-moved : (l : ℕ) (r : List ℕ) → 0 < l → TurnMoved (lineTurn 0 l r)
+unfolding lineTurn lineRead after fail
+line-moved l [] h = h
+line-moved l (b ∷ bs) h = pick TurnMoved (ltb 0 (eol (b ∷ bs))) _ _ (λ q. tt) (λ q. pick TurnMoved (eqb b 32) _ _ (λ q. tt) (λ q. omega arith))
+
+getComment-moved : (s : List ℕ) → startsWith 35 s ≡ true → Moved (getComment s)
+unfolding getComment commentTurn
+getComment-moved s h = go (commentTurn 0 s) refl (rw (starts, commentTurn) (line-moved (levelOf s) (drop (levelOf s) s) (levelOf-some s h)))
+  where
+    starts : eqb (levelOf s) 0 ≡ false
+    starts = ne-eqb (levelOf s) 0 (λ e. omega (arith, levelOf-some s h))
+
+    go : (t : Turn ℕ ℕ) → commentTurn 0 s ≡ t → TurnMoved t → Moved (repeat commentTurn 0 s)
+    go (again st ms k) e m = let l = turn-moves commentTurn-moves 0 s e in rw (repeat-again commentTurn-moves 0 s e) (moved-after ms k (repeat commentTurn st (drop k s)) (l .0))
+    go (done o) e m = rw (repeat-done commentTurn 0 s e) m
 
 module _ (sub : Inside) where
   fresh-moved : (b : ℕ) (bs : List ℕ) → isFresh b ≡ true → Moved (getEntry sub (b ∷ bs))
   unfolding getEntry startsWith fields termFields expectByte _>>=_ _>>_
-  fresh-moved b bs f = byCase (eqb b 35) (λ q. rw (q, getEntry) (comment-moved (getComment (b ∷ bs)) (getComment-moved b bs q)))
+  fresh-moved b bs f = byCase (eqb b 35) (λ q. rw (q, getEntry) (comment-moved (getComment (b ∷ bs)) (getComment-moved (b ∷ bs) q)))
       (λ q. byCase (eqb b 45)
       (λ r. rw (q, getEntry) (rw r (term-moved (termFields sub (b ∷ bs)) (moved-next (b ∷ bs) (λ _. fields sub) (expectByte 45 (b ∷ bs)) (rw (r, expectByte) (omega arith))))))
       (λ r. byCase (isLetter b)

@@ -54,10 +54,25 @@ upto-rest fresh y x k j u = (rw length-drop (omega arith), u .1)
 upto-rest any y x k j u = rw length-drop (omega arith)
 upto-rest none y x k j u = u
 
+-- what holds of an answer, if it is ok
+abbrev pub Holds : {A : Type 0} → (A → List Mark → ℕ → Type 0) → Out A → Type 0
+Holds P (ok a ms k) = P a ms k
+Holds P (bad f k) = Unit {0}
+Holds P (deep k) = Unit {0}
+
+pub holds-map : {A : Type 0} (P Q : A → List Mark → ℕ → Type 0) → ((a : A) (ms : List Mark) (k : ℕ) → P a ms k → Q a ms k) → (o : Out A) → Holds P o → Holds Q o
+holds-map P Q f (ok a ms k) h = f a ms k h
+holds-map P Q f (bad e k) h = tt
+holds-map P Q f (deep k) h = tt
+
+holds-after : {A : Type 0} (P Q : A → List Mark → ℕ → Type 0) (ms : List Mark) (k : ℕ) → ((a : A) (ns : List Mark) (j : ℕ) → P a ns j → Q a (ms ++ moveUp k ns) (k + j)) → (o : Out A) → Holds P o → Holds Q (after ms k o)
+unfolding after
+holds-after P Q ms k f (ok a ns j) h = f a ns j h
+holds-after P Q ms k f (bad e j) h = tt
+holds-after P Q ms k f (deep j) h = tt
+
 abbrev pub Within : {A : Type 0} → ℕ → Out A → Type 0
-Within n (ok a ms k) = k ≤ n
-Within n (bad f k) = Unit {0}
-Within n (deep k) = Unit {0}
+Within n o = Holds (λ a ms k. k ≤ n) o
 
 abbrev pub Carries : {A : Type 0} → (ℕ → Type 0) → Out A → Out A → Type 0
 Carries N (ok a ms k) o = N k → o ≡ ok a ms k
@@ -66,9 +81,7 @@ Carries N (deep k) o = Unit {0}
 
 -- an answer that used some bytes
 abbrev pub Takes : {A : Type 0} → Out A → Type 0
-Takes (ok a ms k) = 0 < k
-Takes (bad f k) = Unit {0}
-Takes (deep k) = Unit {0}
+Takes o = Holds (λ a ms k. 0 < k) o
 
 abbrev pub KeepsAt : {A : Type 0} → Mode → Reader A → List ℕ → List ℕ → Type 0
 KeepsAt m p x y = Carries (Upto m y (length x)) (p x) (p (x ++ y))
@@ -96,16 +109,10 @@ pub from-any : {A : Type 0} (m : Mode) {p : Reader A} → Reads any p → Reads 
 from-any m {p} r = record { stops = r .stops; keeps = λ x y w. weaker (Upto any y (length x)) (Upto m y (length x)) (λ k u. upto-le m y (length x) k u) (p x) (p (x ++ y)) (r .keeps x y w) }
 
 pub after-within : {A : Type 0} (n k : ℕ) (ms : List Mark) (o : Out A) → k ≤ n → Within (n - k) o → Within n (after ms k o)
-unfolding after
-after-within n k ms (ok a ns j) h w = omega arith
-after-within n k ms (bad f j) h w = tt
-after-within n k ms (deep j) h w = tt
+after-within n k ms o h w = holds-after (λ a ns j. j ≤ n - k) (λ a ns j. j ≤ n) ms k (λ a ns j g. omega arith) o w
 
-pub takes-after : {B : Type 0} (k : ℕ) (ms : List Mark) (o : Out B) → Takes o → Takes (after ms k o)
-unfolding after
-takes-after k ms (ok a ns j) t = omega arith
-takes-after k ms (bad f j) t = tt
-takes-after k ms (deep j) t = tt
+takes-after : {A : Type 0} (k : ℕ) (ms : List Mark) (o : Out A) → Takes o → Takes (after ms k o)
+takes-after k ms o t = holds-after (λ a ns j. 0 < j) (λ a ns j. 0 < j) ms k (λ a ns j g. omega arith) o t
 
 takes-upto : {B : Type 0} (y : List ℕ) (n k j : ℕ) (b : B) (ns : List Mark) (o : Out B) → Takes o → o ≡ ok b ns j → k + j ≤ n → k < n
 takes-upto y n k j b ns (ok a ms i) t e u = let h : i ≡ j = cc in omega arith
@@ -231,16 +238,6 @@ pub node-closes : {A : Type 0} {p : Reader A} (kind : ℕ) → Closes p → Clos
 unfolding inNode
 node-closes kind r = relabel-closes {f = wrap kind} (wrap-relabels kind) r
 
--- a choice by a test
-pub pick-within : {A : Type 0} (n : ℕ) (v : Bool) (o u : Out A) → (v ≡ true → Within n o) → (v ≡ false → Within n u) → Within {A = A} n (elim v [ true ↦ o | false ↦ u ])
-pick-within n true o u f g = f refl
-pick-within n false o u f g = g refl
-
-pub pick-carries : {A : Type 0} (N : ℕ → Type 0) (v : Bool) (o u o′ u′ : Out A) → (v ≡ true → Carries N o o′) → (v ≡ false → Carries N u u′)
-    → Carries {A = A} N (elim v [ true ↦ o | false ↦ u ]) (elim v [ true ↦ o′ | false ↦ u′ ])
-pick-carries N true o u o′ u′ f g = f refl
-pick-carries N false o u o′ u′ f g = g refl
-
 -- turns of a loop, with what holds of the state and the rest of x before each
 abbrev pub TurnWithin : {S A : Type 0} → (S → ℕ → Type 0) → ℕ → Turn S A → Type 0
 TurnWithin H n (again st ms k) = (k ≤ n) × H st k
@@ -279,15 +276,6 @@ unfolding turnOf
 turnOf-within A n (ok a ms k) c = (c, tt)
 turnOf-within A n (bad f k) c = tt
 turnOf-within A n (deep k) c = tt
-
-pub pick-turn-within : {S A : Type 0} (H : S → ℕ → Type 0) (n : ℕ) (v : Bool) (o u : Turn S A) → (v ≡ true → TurnWithin H n o) → (v ≡ false → TurnWithin H n u) → TurnWithin {S = S} {A = A} H n (elim v [ true ↦ o | false ↦ u ])
-pick-turn-within H n true o u f g = f refl
-pick-turn-within H n false o u f g = g refl
-
-pub pick-turn-carries : {S A : Type 0} (H : S → ℕ → Type 0) (N : ℕ → Type 0) (v : Bool) (o u o′ u′ : Turn S A) → (v ≡ true → TurnCarries H N o o′) → (v ≡ false → TurnCarries H N u u′)
-    → TurnCarries {S = S} {A = A} H N (elim v [ true ↦ o | false ↦ u ]) (elim v [ true ↦ o′ | false ↦ u′ ])
-pick-turn-carries H N true o u o′ u′ f g = f refl
-pick-turn-carries H N false o u o′ u′ f g = g refl
 
 module _ {S A : Type 0} (t : S → List ℕ → Turn S A) where
   step-within : (H : S → ℕ → Type 0) (n : ℕ) (x y : List ℕ) (w : Turn S A) → TurnWithin H (length x) w
@@ -342,9 +330,7 @@ module _ {S A : Type 0} (t : S → List ℕ → Turn S A) where
 
 -- readers that leave a byte of x
 abbrev pub Short : {A : Type 0} → ℕ → Out A → Type 0
-Short n (ok a ms k) = k < n
-Short n (bad f k) = Unit {0}
-Short n (deep k) = Unit {0}
+Short n o = Holds (λ a ms k. k < n) o
 
 pub record Strict {A : Type 0} (p : Reader A) : Type 0 where
   pub short : (x y : List ℕ) → Whole x → Stop y → Short (length x) (p (x ++ y))
@@ -355,10 +341,7 @@ pub record Inner {A : Type 0} (m : Mode) (p : Reader A) : Type 0 where
   pub keeps : (b : ℕ) (bs y : List ℕ) → Whole (b ∷ bs) → KeepsAt m p (b ∷ bs) y
 
 short-after : {A : Type 0} (n k : ℕ) (ms : List Mark) (o : Out A) → k ≤ n → Short (n - k) o → Short n (after ms k o)
-unfolding after
-short-after n k ms (ok a ns j) h w = omega arith
-short-after n k ms (bad f j) h w = tt
-short-after n k ms (deep j) h w = tt
+short-after n k ms o h w = holds-after (λ a ns j. j < n - k) (λ a ns j. j < n) ms k (λ a ns j g. omega arith) o w
 
 pub inner-within : {B : Type 0} {m : Mode} {p : Reader B} → Inner m p → (x y : List ℕ) → 0 < length x → Whole x → Stop y → Within (length x) (p (x ++ y))
 inner-within i [] y h w s = absurd (not-suc-le-zero h)
@@ -422,11 +405,6 @@ module _ {A B : Type 0} {m : Mode} {p : Reader A} {q : Reader B} where
   inner-then r f = inner-bind {q = λ _. q} r (λ _. f)
 
 -- what holds of a loop's answers, by its turns
-abbrev pub Holds : {A : Type 0} → (A → List Mark → ℕ → Type 0) → Out A → Type 0
-Holds P (ok a ms k) = P a ms k
-Holds P (bad f k) = Unit {0}
-Holds P (deep k) = Unit {0}
-
 module _ {S A : Type 0} (t : S → List ℕ → Turn S A) (G : S → List ℕ → A → List Mark → ℕ → Type 0) where
   abbrev pub TurnHolds : S → List ℕ → Turn S A → Type 0
   TurnHolds st s (again st′ ms k) = (a : A) (ns : List Mark) (j : ℕ) → G st′ (drop k s) a ns j → G st s a (ms ++ moveUp k ns) (k + j)
@@ -507,11 +485,6 @@ after-least ms k (ok a ns j) = omega arith
 after-least ms k (bad f j) = tt
 after-least ms k (deep j) = tt
 
-pub holds-map : {A : Type 0} (P Q : A → List Mark → ℕ → Type 0) → ((a : A) (ms : List Mark) (k : ℕ) → P a ms k → Q a ms k) → (o : Out A) → Holds P o → Holds Q o
-holds-map P Q f (ok a ms k) h = f a ms k h
-holds-map P Q f (bad e k) h = tt
-holds-map P Q f (deep k) h = tt
-
 pub least-next : {A B : Type 0} (k : ℕ) (s : List ℕ) (q : A → Reader B) (o : Out A) → Holds (λ b ns j. k ≤ j) o → Holds (λ b ns j. k ≤ j) (next s q o)
 unfolding next
 least-next k s q (ok a ms j) h = holds-map (λ b ns i. j ≤ i) (λ b ns i. k ≤ i) (λ b ns i l. omega arith) (after ms j (q a (drop j s))) (after-least ms j (q a (drop j s)))
@@ -530,33 +503,11 @@ beyond y n k (bad f j) o′ l h = tt
 beyond y n k (deep j) o′ l h = tt
 
 -- what holds of every answer, whatever the marks and the bytes
-pub plain-after : {A : Type 0} (P : A → Type 0) (ms : List Mark) (k : ℕ) (o : Out A) → Holds (λ a ns j. P a) o → Holds (λ a ns j. P a) (after ms k o)
-unfolding after
-plain-after P ms k (ok a ns j) h = h
-plain-after P ms k (bad f j) h = tt
-plain-after P ms k (deep j) h = tt
+plain-after : {A : Type 0} (P : A → Type 0) (ms : List Mark) (k : ℕ) (o : Out A) → Holds (λ a ns j. P a) o → Holds (λ a ns j. P a) (after ms k o)
+plain-after P ms k o h = holds-after (λ a ns j. P a) (λ a ns j. P a) ms k (λ a ns j g. g) o h
 
 pub plain-next : {A B : Type 0} (P : B → Type 0) (s : List ℕ) (q : A → Reader B) (o : Out A) → ((a : A) (r : List ℕ) → Holds (λ b ns j. P b) (q a r)) → Holds (λ b ns j. P b) (next s q o)
 unfolding next
 plain-next P s q (ok a ms k) h = plain-after P ms k (q a (drop k s)) (h a (drop k s))
 plain-next P s q (bad f k) h = tt
 plain-next P s q (deep k) h = tt
-
--- more turns change no answer
-module _ {S A : Type 0} (t : S → List ℕ → Turn S A) where
-  pub loop-more : (n n′ : ℕ) (st : S) (s : List ℕ) (a : A) (ms : List Mark) (k : ℕ) → n ≤ n′ → loop n t st s ≡ ok a ms k → loop n′ t st s ≡ ok a ms k
-  unfolding loop after
-  loop-more zero n′ st s a ms k le e = let z : _≡_ {A = ℕ} 0 1 = cc in absurd (omega arith)
-  loop-more (suc n) zero st s a ms k le e = absurd (not-suc-le-zero le)
-  loop-more (suc n) (suc n′) st s a ms k le e = go (t st s) (λ st′ j b ns i f. loop-more n n′ st′ (drop j s) b ns i (le-of-suc-le-suc le) f) e
-    where
-      inner : (o o′ : Out A) (ns : List Mark) (j : ℕ) → ((b : A) (os : List Mark) (i : ℕ) → o ≡ ok b os i → o′ ≡ ok b os i) → after ns j o ≡ ok a ms k → after ns j o′ ≡ ok a ms k
-      inner (ok b os i) o′ ns j f g = ap (after ns j) (f b os i refl) ∙ g
-      inner (bad d i) o′ ns j f g = let z : _≡_ {A = ℕ} 0 1 = cc in absurd (omega arith)
-      inner (deep i) o′ ns j f g = let z : _≡_ {A = ℕ} 0 1 = cc in absurd (omega arith)
-
-      go : (w : Turn S A) → ((st′ : S) (j : ℕ) (b : A) (ns : List Mark) (i : ℕ) → loop n t st′ (drop j s) ≡ ok b ns i → loop n′ t st′ (drop j s) ≡ ok b ns i)
-          → _≡_ {A = Out A} (elim w [ again st′ ms k ↦ after ms k (loop n t st′ (drop k s)) | done o ↦ o ]) (ok a ms k)
-          → _≡_ {A = Out A} (elim w [ again st′ ms k ↦ after ms k (loop n′ t st′ (drop k s)) | done o ↦ o ]) (ok a ms k)
-      go (again st′ ns j) f g = inner (loop n t st′ (drop j s)) (loop n′ t st′ (drop j s)) ns j (f st′ j) g
-      go (done o) f g = g

@@ -16,7 +16,10 @@ use Rattle.syntax.specs.declared.errors.ParserError.{ParserError}
 use Rattle.syntax.specs.Reader.{Out, ok, bad, deep, Reader, fail, after, Turn, again, done, loop, repeat}
 use Rattle.syntax.specs.Comment.{lineLength, levelOf, lineEndUsed, lineRead, lineTurn, commentTurn, getComment}
 use Rattle.laws.specs.Bytes.{byCase, clash}
-use Rattle.laws.specs.Stable.{Holds, TurnHolds, loop-holds, loop-more}
+use Rattle.laws.specs.Stable.{Holds, TurnHolds, loop-holds}
+use Rattle.laws.specs.Loop.{loop-fuel}
+use Rattle.laws.specs.Loop.Turns.{commentTurn-moves}
+use Rattle.laws.specs.Bounds.Comment.{levelOf-some}
 
 -- where a comment has started there is no error
 abbrev NotBad : Out ℕ → Type 0
@@ -103,10 +106,6 @@ Own l y = (ms : List Mark) × (k : ℕ) × (getComment y ≡ ok l ms k) × ((m :
 abbrev pub Other : ℕ → List ℕ → Type 0
 Other l y = ((ms : List Mark) (k : ℕ) → getComment y ≡ ok l ms k → ⊥) × ((m : ℕ) → length y < m → loop m commentTurn l y ≡ ok l [] 0)
 
-pub levels : (c : ℕ) (cs : List ℕ) → eqb c 35 ≡ true → 0 < levelOf (c ∷ cs)
-unfolding levelOf run
-levels c cs h = let e : run (λ b. eqb b 35) (c ∷ cs) ≡ suc (run (λ b. eqb b 35) cs) = rw (h, run) refl in omega arith
-
 lineTurn-same : (l : ℕ) (r : List ℕ) → 0 < l → (lineTurn l l r ≡ lineTurn 0 l r) ⊎ ((lineTurn l l r ≡ done (ok l [] 0)) × ((f : ParserError) × (k : ℕ) × (lineTurn 0 l r ≡ done (bad f k))))
 unfolding lineTurn after fail
 lineTurn-same l [] p = inl refl
@@ -126,8 +125,8 @@ module _ (l c : ℕ) (cs : List ℕ) (pos : 0 < l) (hash : eqb c 35 ≡ true) (n
   other-level : eqb (levelOf (c ∷ cs)) l ≡ false → Other l (c ∷ cs)
   unfolding commentTurn getComment repeat
   other-level q = (
-    λ ms k e. eqb-false (levelOf (c ∷ cs)) l q (sym (subst (Holds (Levelled 0 (c ∷ cs))) e (levelled (suc (length (c ∷ cs))) 0 (c ∷ cs)) .1 refl (levels c cs hash))),
-    at-once (rw (ne-eqb (levelOf (c ∷ cs)) 0 (λ e. omega (arith, levels c cs hash)), commentTurn) (rw (ne-eqb l 0 (λ e. omega arith)) (rw q refl))),
+    λ ms k e. eqb-false (levelOf (c ∷ cs)) l q (sym (subst (Holds (Levelled 0 (c ∷ cs))) e (levelled (suc (length (c ∷ cs))) 0 (c ∷ cs)) .1 refl (levelOf-some (c ∷ cs) (unfold startsWith in hash)))),
+    at-once (rw (ne-eqb (levelOf (c ∷ cs)) 0 (λ e. omega (arith, levelOf-some (c ∷ cs) (unfold startsWith in hash))), commentTurn) (rw (ne-eqb l 0 (λ e. omega arith)) (rw q refl))),
   )
 
   module _ (same : levelOf (c ∷ cs) ≡ l) where
@@ -154,11 +153,11 @@ module _ (l c : ℕ) (cs : List ℕ) (pos : 0 < l) (hash : eqb c 35 ≡ true) (n
 
         go : (o : Out ℕ) → getComment (c ∷ cs) ≡ o → Own l (c ∷ cs)
         go (ok a ms k) e =
-            let z : a ≡ l = subst (Holds (Levelled 0 (c ∷ cs))) e (levelled (suc (length (c ∷ cs))) 0 (c ∷ cs)) .1 refl (levels c cs hash) ∙ same in
+            let z : a ≡ l = subst (Holds (Levelled 0 (c ∷ cs))) e (levelled (suc (length (c ∷ cs))) 0 (c ∷ cs)) .1 refl (levelOf-some (c ∷ cs) (unfold startsWith in hash)) ∙ same in
             (ms, k, e ∙ ap (λ n. ok n ms k) z, λ m h. more m h ∙ e ∙ ap (λ n. ok n ms k) z)
           where
             more : (m : ℕ) → length (c ∷ cs) < m → loop m commentTurn l (c ∷ cs) ≡ getComment (c ∷ cs)
-            more m h = loop-more commentTurn (suc (length (c ∷ cs))) m l (c ∷ cs) a ms k h (loops (length (c ∷ cs)) ∙ e) ∙ sym e
+            more m h = loop-fuel commentTurn-moves m (suc (length (c ∷ cs))) l (c ∷ cs) h (omega arith) ∙ loops (length (c ∷ cs))
         go (bad f k) e = absurd (subst NotBad (loops (length (c ∷ cs)) ∙ e) (loop-not-bad (suc (length (c ∷ cs))) l (c ∷ cs) pos))
         go (deep k) e = absurd (notDeep k e)
 

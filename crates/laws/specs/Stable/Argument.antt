@@ -16,8 +16,8 @@ use Rattle.syntax.specs.Reader.{Out, ok, bad, deep, Reader, fail, _>>=_, _>>_, 
 use Rattle.syntax.specs.Helper.{skipBlank, takeByteIf, expectByte, getIdentifier, getNumberLiteral}
 use Rattle.syntax.specs.Pattern.{Inside}
 use Rattle.syntax.specs.Expression.{Inline, string, number, variable, function, inner, message, term, asInline, stringLiteral, asString, numberLiteral, getCallArguments, getAttributeAccessor, termReference, variableReference, messageReference, functionReference, referenceBy, reference, nestedPlaceable, noInline, nonLiteral, getInlineExpression, isAmong, isNone, separator, positional, namedValue, namedArgument, afterReference, pastBlank, argumentBy, argumentTurn}
-use Rattle.laws.specs.Bytes.{Whole, whole-tail, whole-drop, nonempty, Fresh, Stop, byCase, clash, drop-app}
-use Rattle.laws.specs.Stable.{Mode, loose, any, Upto, upto-le, Within, Carries, Reads, Closes, from-any, bind, then, pure-reads, fail-reads, pick-within, pick-carries, Holds, TurnWithin, TurnCarries, Turns, Any, Free, pick-turn-within, pick-turn-carries, turnOf-carries, turnOf-within, next-within, next-keeps, wrap-relabels, Sure, sure-ok, cont-within, cont-keeps, carries-trans, after-least, holds-map, least-next, least-wrap, beyond, plain-after, plain-next}
+use Rattle.laws.specs.Bytes.{Whole, whole-tail, whole-drop, nonempty, Fresh, Stop, byCase, clash, drop-app, pick, pick₂}
+use Rattle.laws.specs.Stable.{Mode, loose, any, Upto, upto-le, Within, Carries, Reads, Closes, from-any, bind, then, pure-reads, fail-reads, Holds, TurnWithin, TurnCarries, Turns, Any, Free, turnOf-carries, turnOf-within, next-within, next-keeps, wrap-relabels, Sure, sure-ok, cont-within, cont-keeps, carries-trans, after-least, holds-map, least-next, least-wrap, beyond, plain-after, plain-next}
 use Rattle.laws.specs.Stable.Helper.{expectByte-reads, takeByteIf-reads, identifier-reads, identifier-named, blank-reads, blank-sure, loose-nil}
 use Rattle.laws.specs.Stable.Pattern.{InsideLaw}
 use Rattle.laws.specs.Stable.Inline.{inline-reads}
@@ -143,11 +143,11 @@ module _ (sub : Inside) (law : InsideLaw sub) where
   module _ (x y : List ℕ) (w : Whole x) (names : List (List ℕ)) where
     positional-within : Stop y → (ms : List Mark) (k : ℕ) → k ≤ length x → Within (length x) (positional names ms k (x ++ y))
     unfolding positional fail after
-    positional-within s ms k h = pick-within (length x) (isNone names) _ _ (λ q. cont-within (separator names) (separator-reads names) x y w ms k s h) (λ q. tt)
+    positional-within s ms k h = pick (Within (length x)) (isNone names) _ _ (λ q. cont-within (separator names) (separator-reads names) x y w ms k s h) (λ q. tt)
 
     positional-keeps : (ms : List Mark) (k : ℕ) → Carries (Upto loose y (length x)) (positional names ms k x) (positional names ms k (x ++ y))
     unfolding positional fail after
-    positional-keeps ms k = pick-carries (Upto loose y (length x)) (isNone names) _ _ _ _ (λ q. cont-keeps (separator names) (separator-reads names) x y w ms k) (λ q. tt)
+    positional-keeps ms k = pick₂ (Carries (Upto loose y (length x))) (isNone names) _ _ _ _ (λ q. cont-keeps (separator names) (separator-reads names) x y w ms k) (λ q. tt)
 
     positional-least : (ms : List Mark) (k : ℕ) (s : List ℕ) → Holds (λ b ns j. k ≤ j) (positional names ms k s)
     unfolding positional fail
@@ -162,13 +162,13 @@ module _ (sub : Inside) (law : InsideLaw sub) where
 
     named-within : Stop y → (n k : ℕ) → k ≤ length x → Within (length x) (namedArgument sub names n k (x ++ y))
     unfolding namedArgument _>>_
-    named-within s n k h = pick-within (length x) (isAmong (take n (x ++ y)) names) _ _ (λ q. tt)
+    named-within s n k h = pick (Within (length x)) (isAmong (take n (x ++ y)) names) _ _ (λ q. tt)
         (λ q. next-within x y (λ _. separator (take n (x ++ y) ∷ names)) (valued n k (x ++ y))
         (wrap-relabels 26 .within (length x) (after (textNode 9 0 n) k (namedValue sub (drop k (x ++ y)))) (cont-within (namedValue sub) value-reads x y w (textNode 9 0 n) k s h))
         (λ a j g. separator-reads (take n (x ++ y) ∷ names) .stops (drop j x) y (whole-drop j x w) s))
 
     namedWith-keeps : (n k : ℕ) (t : List ℕ) → Carries (Upto loose y (length x)) (NamedWith n k t x) (NamedWith n k t (x ++ y))
-    namedWith-keeps n k t = pick-carries (Upto loose y (length x)) (isAmong t names) _ _ _ _ (λ q. tt)
+    namedWith-keeps n k t = pick₂ (Carries (Upto loose y (length x))) (isAmong t names) _ _ _ _ (λ q. tt)
         (λ q. next-keeps loose loose x y (λ _. separator (t ∷ names)) (valued n k x) (valued n k (x ++ y))
         (wrap-relabels 26 .carries (Upto loose y (length x)) (after (textNode 9 0 n) k (namedValue sub (drop k x))) (after (textNode 9 0 n) k (namedValue sub (drop k (x ++ y)))) (cont-keeps (namedValue sub) value-reads x y w (textNode 9 0 n) k))
         (λ a j. separator-reads (t ∷ names) .keeps (drop j x) y (whole-drop j x w))
@@ -189,7 +189,7 @@ module _ (sub : Inside) (law : InsideLaw sub) where
 
     afterReference-within : Stop y → (n : ℕ) (ms : List Mark) (k : ℕ) → k ≤ length x → Within (length x) (afterReference sub names n ms k (x ++ y))
     unfolding afterReference
-    afterReference-within s n ms k h = pick-within (length x) (startsWith 58 (drop k (x ++ y))) _ _ (λ q. named-within s n k h) (λ q. positional-within s ms k h)
+    afterReference-within s n ms k h = pick (Within (length x)) (startsWith 58 (drop k (x ++ y))) _ _ (λ q. named-within s n k h) (λ q. positional-within s ms k h)
 
     startsWith-same : (k : ℕ) → k < length x → startsWith 58 (drop k (x ++ y)) ≡ startsWith 58 (drop k x)
     unfolding startsWith
@@ -205,7 +205,7 @@ module _ (sub : Inside) (law : InsideLaw sub) where
         byCase (ltb k (length x))
         (λ q. subst (λ v. Carries {A = List (List ℕ)} (Upto loose y (length x)) (elim (startsWith 58 (drop k x)) [ true ↦ namedArgument sub names n k x | false ↦ positional names ms k x ])
         (elim v [ true ↦ namedArgument sub names n k (x ++ y) | false ↦ positional names ms k (x ++ y) ])) (sym (startsWith-same k (ltb-true k (length x) q)))
-        (pick-carries (Upto loose y (length x)) (startsWith 58 (drop k x)) _ _ _ _ (λ r. named-keeps n k (omega (arith, ltb-true k (length x) q))) (λ r. positional-keeps ms k)))
+        (pick₂ (Carries (Upto loose y (length x))) (startsWith 58 (drop k x)) _ _ _ _ (λ r. named-keeps n k (omega (arith, ltb-true k (length x) q))) (λ r. positional-keeps ms k)))
         (λ q. beyond y (length x) k (afterReference sub names n ms k x) (afterReference sub names n ms k (x ++ y)) (ltb-false k (length x) q) (afterReference-least n ms k x))
 
   past-of : ℕ → Out (Unit {0}) → ℕ
@@ -283,16 +283,16 @@ module _ (sub : Inside) (law : InsideLaw sub) where
   argument-stops : (names : List (List ℕ)) (x y : List ℕ) → Whole x → Unit {0} → Stop y → TurnWithin Free (length x) (argumentTurn sub names (x ++ y))
   unfolding argumentTurn
   argument-stops names [] [] w i s = omega arith
-  argument-stops names [] (c ∷ cs) w i s = pick-turn-within Free 0 (eqb c 41) _ _ (λ q. omega arith)
+  argument-stops names [] (c ∷ cs) w i s = pick (TurnWithin Free 0) (eqb c 41) _ _ (λ q. omega arith)
       (λ q. turnOf-within (Unit {0}) 0 (argumentBy sub names (c ∷ cs) (getInlineExpression sub false (c ∷ cs))) (argumentBy-within [] (c ∷ cs) tt names s (getInlineExpression sub false (c ∷ cs)) (inline-reads sub law false .stops [] (c ∷ cs) tt s)))
-  argument-stops names (b ∷ bs) y w i s = pick-turn-within Free (suc (length bs)) (eqb b 41) _ _ (λ q. omega arith)
+  argument-stops names (b ∷ bs) y w i s = pick (TurnWithin Free (suc (length bs))) (eqb b 41) _ _ (λ q. omega arith)
       (λ q. turnOf-within (Unit {0}) (suc (length bs)) (argumentBy sub names ((b ∷ bs) ++ y) (getInlineExpression sub false ((b ∷ bs) ++ y)))
       (argumentBy-within (b ∷ bs) y w names s (getInlineExpression sub false ((b ∷ bs) ++ y)) (inline-reads sub law false .stops (b ∷ bs) y w s)))
 
   argument-keeps : (names : List (List ℕ)) (x y : List ℕ) → Whole x → Unit {0} → TurnCarries Free (Upto loose y (length x)) (argumentTurn sub names x) (argumentTurn sub names (x ++ y))
   unfolding argumentTurn
   argument-keeps names [] y w i = λ u. absurd (not-suc-le-zero u)
-  argument-keeps names (b ∷ bs) y w i = pick-turn-carries Free (Upto loose y (suc (length bs))) (eqb b 41) _ _ _ _ (λ q u. refl)
+  argument-keeps names (b ∷ bs) y w i = pick₂ (TurnCarries Free (Upto loose y (suc (length bs)))) (eqb b 41) _ _ _ _ (λ q u. refl)
       (λ q. turnOf-carries (Unit {0}) (Upto loose y (suc (length bs))) (argumentBy sub names (b ∷ bs) (getInlineExpression sub false (b ∷ bs))) (argumentBy sub names ((b ∷ bs) ++ y) (getInlineExpression sub false ((b ∷ bs) ++ y)))
       (argumentBy-keeps (b ∷ bs) y w names (getInlineExpression sub false (b ∷ bs)) (getInlineExpression sub false ((b ∷ bs) ++ y)) (inline-fits sub false (b ∷ bs)) (inline-reads sub law false .keeps (b ∷ bs) y w)))
 

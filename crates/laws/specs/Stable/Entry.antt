@@ -17,8 +17,8 @@ use Rattle.syntax.specs.Helper.{skipBlankInline, skipBlankBlock, expectByte, ge
 use Rattle.syntax.specs.Pattern.{Inside, getPattern}
 use Rattle.syntax.specs.Expression.{needsValue}
 use Rattle.syntax.specs.Core.{getAttribute, attributeBy, attributeTurn, getAttributes, Fields, fields, termFields, Entry, comment, message, term, asMessage, asTerm, asComment, getEntry}
-use Rattle.laws.specs.Bytes.{Whole, whole-tail, whole-drop, nonempty, Fresh, isFresh, Stop, stop-fresh, byCase, clash, drop-app, spaces-whole, fresh-spaces, not-fresh}
-use Rattle.laws.specs.Stable.{Mode, loose, fresh, any, none, Upto, upto-le, Within, Carries, Reads, Closes, Short, Strict, Inner, inner-keeps, from-any, weaker, bind, then, strict-then, inner-bind, inner-then, pure-reads, node-reads, TurnWithin, TurnCarries, Turns, Any, Free, pick-turn-within, repeat-reads, Holds, holds-map, next-ok, pick-within, pick-carries}
+use Rattle.laws.specs.Bytes.{Whole, whole-tail, whole-drop, nonempty, Fresh, isFresh, Stop, stop-fresh, byCase, clash, drop-app, spaces-whole, fresh-spaces, not-fresh, pick, pick₂}
+use Rattle.laws.specs.Stable.{Mode, loose, fresh, any, none, Upto, upto-le, Within, Carries, Reads, Closes, Short, Strict, Inner, inner-keeps, from-any, weaker, bind, then, strict-then, inner-bind, inner-then, pure-reads, node-reads, TurnWithin, TurnCarries, Turns, Any, Free, repeat-reads, Holds, holds-map, next-ok}
 use Rattle.laws.specs.Stable.Helper.{Soft, past-spaces, expectByte-reads, expectByte-strict, inline-reads, identifier-reads, block-reads}
 use Rattle.laws.specs.Stable.Pattern.{InsideLaw, getPattern-inner}
 use Rattle.laws.specs.Stable.Expression.{needsValue-reads}
@@ -88,7 +88,7 @@ module _ (sub : Inside) (law : InsideLaw sub) where
   attributes-stops n (b ∷ bs) y w i s =
       let (k, c, cs, v, e, f, l, d) = attribute-cut n b bs y w in
       subst (TurnWithin Free (suc (length bs))) (sym f)
-      (pick-turn-within Free (suc (length bs)) (eqb c 46) _ _
+      (pick (TurnWithin Free (suc (length bs))) (eqb c 46) _ _
       (λ q. subst (λ z. TurnWithin Free z (attributeBy n (k + 1) (getAttribute sub (cs ++ y)))) l (attributeBy-within n (k + 1) (length cs) (getAttribute sub (cs ++ y)) (attribute-reads none tt sub law .stops cs y v s)))
       (λ q. omega arith))
 
@@ -265,12 +265,12 @@ module _ (sub : Inside) (law : InsideLaw sub) where
 
   pub entry-ends : (b : ℕ) (bs y : List ℕ) → Whole (b ∷ bs) → Fresh y → eqb b 35 ≡ false → Carries (Cut (b ∷ bs)) (getEntry sub (b ∷ bs)) (getEntry sub ((b ∷ bs) ++ y))
   unfolding getEntry startsWith
-  entry-ends b bs y w f e = rw (e, getEntry) (pick-carries (Cut (b ∷ bs)) (eqb b 45) _ _ _ _
+  entry-ends b bs y w f e = rw (e, getEntry) (pick₂ (Carries (Cut (b ∷ bs))) (eqb b 45) _ _ _ _
       (λ q. term-carries (Cut (b ∷ bs)) (termFields sub (b ∷ bs)) (termFields sub ((b ∷ bs) ++ y)) (termFields-ends y f (b ∷ bs) w))
       (λ q. message-carries (Cut (b ∷ bs)) (fields sub (b ∷ bs)) (fields sub ((b ∷ bs) ++ y)) (fields-ends y f (b ∷ bs) w)))
 
   pub entry-stops : (b : ℕ) (bs y : List ℕ) → Whole (b ∷ bs) → Stop y → eqb b 35 ≡ false → Within (suc (length bs)) (getEntry sub ((b ∷ bs) ++ y))
   unfolding getEntry startsWith
-  entry-stops b bs y w s e = rw (e, getEntry) (pick-within (suc (length bs)) (eqb b 45) _ _
+  entry-stops b bs y w s e = rw (e, getEntry) (pick (Within (suc (length bs))) (eqb b 45) _ _
       (λ q. term-within (suc (length bs)) (termFields sub ((b ∷ bs) ++ y)) (termFields-none .stops (b ∷ bs) y w s))
       (λ q. message-within (suc (length bs)) (fields sub ((b ∷ bs) ++ y)) (fields-none .stops (b ∷ bs) y w s)))

@@ -15,8 +15,8 @@ use Rattle.syntax.specs.Reader.{Out, ok, bad, deep, Reader, fail, _>>=_, _>>_, 
 use Rattle.syntax.specs.Helper.{skipBlank, skipBlankInline, skipEol, expectByte, getIdentifier, getNumberLiteral}
 use Rattle.syntax.specs.Pattern.{Inside, getPattern}
 use Rattle.syntax.specs.Expression.{Inline, string, number, variable, function, inner, message, term, getInlineExpression, argumentTurn, parenthesised, keyText, getVariantKey, needsValue, variant, variantKind, endVariants, variantWith, afterStar, turnAfter, variantTurn, getVariants, selector, alone, needsLineEnd, selectFrom, afterInline, inSelect, inlineOrSelect, getExpression, braced, tooDeep, level}
-use Rattle.laws.specs.Bytes.{Whole, whole-tail, nonempty, Stop, byCase}
-use Rattle.laws.specs.Stable.{Mode, loose, any, Upto, Within, Carries, Takes, Reads, Closes, Strict, Inner, from-any, bind, then, bind-closes, then-closes, then-strict, strict-then, inner-bind, pure-reads, fail-reads, node-reads, node-closes, Relabels, relabel, relabels, TurnWithin, TurnCarries, Turns, Any, Free, pick-turn-within, pick-turn-carries, turnOf-carries, turnOf-within, done-carries, repeat-reads}
+use Rattle.laws.specs.Bytes.{Whole, whole-tail, nonempty, Stop, byCase, pick, pick₂}
+use Rattle.laws.specs.Stable.{Mode, loose, any, Upto, Within, Carries, Takes, Reads, Closes, Strict, Inner, from-any, bind, then, bind-closes, then-closes, then-strict, strict-then, inner-bind, pure-reads, fail-reads, node-reads, node-closes, Relabels, relabel, relabels, TurnWithin, TurnCarries, Turns, Any, Free, turnOf-carries, turnOf-within, done-carries, repeat-reads}
 use Rattle.laws.specs.Stable.Helper.{expectByte-reads, expectByte-closes, expectByte-strict, inline-reads, eol-reads, blank-reads, identifier-reads, numberLiteral-reads, choose-reads, loose-nil}
 use Rattle.laws.specs.Stable.Pattern.{InsideLaw, getPattern-inner}
 use Rattle.laws.specs.Stable.Inline as Inline
@@ -105,13 +105,13 @@ module _ (sub : Inside) (law : InsideLaw sub) where
 
   star-within : (v d : Bool) (x y : List ℕ) → Whole x → Stop y → TurnWithin Free (length x) (afterStar sub v d (x ++ y))
   unfolding afterStar fail
-  star-within v d x y w s = pick-turn-within Free (length x) (v && d) _ _ (λ q. tt)
-      (λ q. pick-turn-within Free (length x) (startsWith 91 (x ++ y)) _ _ (λ r. turnOf-within (Unit {0}) (length x) (variantWith sub v d (x ++ y)) (variantWith-reads v d .stops x y w s)) (λ r. endVariants-reads (v || d) .stops x y w s))
+  star-within v d x y w s = pick (TurnWithin Free (length x)) (v && d) _ _ (λ q. tt)
+      (λ q. pick (TurnWithin Free (length x)) (startsWith 91 (x ++ y)) _ _ (λ r. turnOf-within (Unit {0}) (length x) (variantWith sub v d (x ++ y)) (variantWith-reads v d .stops x y w s)) (λ r. endVariants-reads (v || d) .stops x y w s))
 
   star-keeps : (v d : Bool) (b : ℕ) (bs y : List ℕ) → Whole (b ∷ bs) → TurnCarries Free (Upto loose y (suc (length bs))) (afterStar sub v d (b ∷ bs)) (afterStar sub v d ((b ∷ bs) ++ y))
   unfolding afterStar fail startsWith
-  star-keeps v d b bs y w = pick-turn-carries Free (Upto loose y (suc (length bs))) (v && d) _ _ _ _ (λ q. tt)
-      (λ q. pick-turn-carries Free (Upto loose y (suc (length bs))) (eqb b 91) _ _ _ _
+  star-keeps v d b bs y w = pick₂ (TurnCarries Free (Upto loose y (suc (length bs)))) (v && d) _ _ _ _ (λ q. tt)
+      (λ q. pick₂ (TurnCarries Free (Upto loose y (suc (length bs)))) (eqb b 91) _ _ _ _
       (λ r. turnOf-carries (Unit {0}) (Upto loose y (suc (length bs))) (variantWith sub v d (b ∷ bs)) (variantWith sub v d ((b ∷ bs) ++ y)) (variantWith-reads v d .keeps (b ∷ bs) y w))
       (λ r. done-carries Free (Upto loose y (suc (length bs))) (endVariants (v || d) (b ∷ bs)) (endVariants (v || d) ((b ∷ bs) ++ y)) (endVariants-reads (v || d) .keeps (b ∷ bs) y w)))
 
@@ -142,13 +142,13 @@ module _ (sub : Inside) (law : InsideLaw sub) where
   variant-stops : (d : Bool) (x y : List ℕ) → Whole x → Unit {0} → Stop y → TurnWithin Free (length x) (variantTurn sub d (x ++ y))
   unfolding variantTurn startsWith
   variant-stops d [] [] w i s = star-within false d [] [] w s
-  variant-stops d [] (c ∷ cs) w i s = pick-turn-within Free 0 (eqb c 42) _ _ (λ q. absurd (omega (arith, eqb-true c 42 q))) (λ q. star-within false d [] (c ∷ cs) w s)
-  variant-stops d (b ∷ bs) y w i s = pick-turn-within Free (suc (length bs)) (eqb b 42) _ _ (λ q. turnAfter-within (length bs) (afterStar sub true d (bs ++ y)) (star-within true d bs y (whole-tail b bs w) s)) (λ q. star-within false d (b ∷ bs) y w s)
+  variant-stops d [] (c ∷ cs) w i s = pick (TurnWithin Free 0) (eqb c 42) _ _ (λ q. absurd (omega (arith, eqb-true c 42 q))) (λ q. star-within false d [] (c ∷ cs) w s)
+  variant-stops d (b ∷ bs) y w i s = pick (TurnWithin Free (suc (length bs))) (eqb b 42) _ _ (λ q. turnAfter-within (length bs) (afterStar sub true d (bs ++ y)) (star-within true d bs y (whole-tail b bs w) s)) (λ q. star-within false d (b ∷ bs) y w s)
 
   variant-keeps : (d : Bool) (x y : List ℕ) → Whole x → Unit {0} → TurnCarries Free (Upto loose y (length x)) (variantTurn sub d x) (variantTurn sub d (x ++ y))
   unfolding variantTurn startsWith
   variant-keeps d [] y w i = loose-turn y (variantTurn sub d []) (variantTurn sub d y)
-  variant-keeps d (b ∷ bs) y w i = pick-turn-carries Free (Upto loose y (suc (length bs))) (eqb b 42) _ _ _ _
+  variant-keeps d (b ∷ bs) y w i = pick₂ (TurnCarries Free (Upto loose y (suc (length bs)))) (eqb b 42) _ _ _ _
       (λ q. turnAfter-keeps y (length bs) (afterStar sub true d bs) (afterStar sub true d (bs ++ y)) (star-kept true d bs y (whole-tail b bs w))) (λ q. star-keeps false d b bs y w)
 
   variants-reads : Reads loose (getVariants sub)

@@ -13,8 +13,8 @@ use Rattle.syntax.specs.Marks.{Mark, textNode}
 use Rattle.syntax.specs.declared.errors.ErrorKind.the-variants.{ExpectedToken, ExpectedCharRange, InvalidUnicodeEscapeSequence}
 use Rattle.syntax.specs.Reader.{Out, ok, bad, deep, Reader, fail, _>>=_, _>>_, pure, Turn, again, done, repeat}
 use Rattle.syntax.specs.Helper.{skipBlankInline, skipEol, blankTurn, skipBlank, blockTurn, skipBlankBlock, takeByteIf, expectByte, skipDigits, fraction, number, asText, getNumberLiteral, getIdentifier, skipUnicodeEscapeSequence}
-use Rattle.laws.specs.Bytes.{Whole, whole-drop, Fresh, isFresh, Stop, stop-fresh, byCase, clash, drop-app, run-whole, eol-whole, spaces-whole, fresh-spaces, fresh-eol, not-fresh, stop-run, nonempty}
-use Rattle.laws.specs.Stable.{Mode, loose, fresh, any, none, Upto, Within, Carries, Takes, Reads, Closes, same-carries, from-any, bind, then, pure-reads, fail-reads, Relabels, relabel, relabels, pick-within, pick-carries, TurnWithin, TurnCarries, Turns, Free, Any, pick-turn-within, repeat-reads, Sure, TurnSure, repeat-sure, Short, Strict, Holds}
+use Rattle.laws.specs.Bytes.{Whole, whole-drop, Fresh, isFresh, Stop, stop-fresh, byCase, clash, drop-app, run-whole, eol-whole, spaces-whole, fresh-spaces, fresh-eol, not-fresh, stop-run, nonempty, pick, pick₂}
+use Rattle.laws.specs.Stable.{Mode, loose, fresh, any, none, Upto, Within, Carries, Takes, Reads, Closes, same-carries, from-any, bind, then, pure-reads, fail-reads, Relabels, relabel, relabels, TurnWithin, TurnCarries, Turns, Free, Any, repeat-reads, Sure, TurnSure, repeat-sure, Short, Strict, Holds}
 
 -- modes in which what follows an x that is used up is fresh
 abbrev pub Soft : Mode → Type 0
@@ -126,7 +126,7 @@ blockTurn-fits : (n : ℕ) (b : ℕ) (bs : List ℕ) → Whole (b ∷ bs) → Tu
 blockTurn-fits n b bs w =
     let (c, cs, e, v, l) = past-spaces b bs w in
     rw (blockTurn-at n (spaces (b ∷ bs)) (c ∷ cs) (b ∷ bs) refl e)
-    (pick-turn-within Free (suc (length bs)) (ltb 0 (eol (c ∷ cs))) _ _ (λ r. (omega (arith, eol-whole c cs [] v .1), tt)) (λ r. omega arith))
+    (pick (TurnWithin Free (suc (length bs))) (ltb 0 (eol (c ∷ cs))) _ _ (λ r. (omega (arith, eol-whole c cs [] v .1), tt)) (λ r. omega arith))
 
 blockTurn-same : (n : ℕ) (b : ℕ) (bs y : List ℕ) → Whole (b ∷ bs) → blockTurn n ((b ∷ bs) ++ y) ≡ blockTurn n (b ∷ bs)
 blockTurn-same n b bs y w =
@@ -144,7 +144,7 @@ byte-stop b h c e = byCase (eqb c b) (λ q. absurd (h (sym (eqb-true c b q) ∙ 
 
 pub takeByteIf-reads : (b : ℕ) → (b ≡ 35 → ⊥) → Reads loose (takeByteIf b)
 unfolding takeByteIf startsWith
-takeByteIf-reads b h = line-reads loose (takeByteIf b) (λ c bs y w. refl) (λ c bs w. pick-within (suc (length bs)) (eqb c b) (ok true [] 1) (ok false [] 0) (λ q. omega arith) (λ q. omega arith)) nil (λ y. loose-nil y (takeByteIf b []) (takeByteIf b y))
+takeByteIf-reads b h = line-reads loose (takeByteIf b) (λ c bs y w. refl) (λ c bs w. pick (Within (suc (length bs))) (eqb c b) (ok true [] 1) (ok false [] 0) (λ q. omega arith) (λ q. omega arith)) nil (λ y. loose-nil y (takeByteIf b []) (takeByteIf b y))
   where
     nil : (y : List ℕ) → Stop y → Within 0 (takeByteIf b y)
     nil [] s = omega arith
@@ -152,7 +152,7 @@ takeByteIf-reads b h = line-reads loose (takeByteIf b) (λ c bs y w. refl) (λ c
 
 pub expectByte-reads : (b : ℕ) → (b ≡ 35 → ⊥) → Reads any (expectByte b)
 unfolding expectByte startsWith fail
-expectByte-reads b h = line-reads any (expectByte b) (λ c bs y w. refl) (λ c bs w. pick-within (suc (length bs)) (eqb c b) (ok tt [] 1) (fail (ExpectedToken b) (c ∷ bs)) (λ q. omega arith) (λ q. tt)) nil (λ y. tt)
+expectByte-reads b h = line-reads any (expectByte b) (λ c bs y w. refl) (λ c bs w. pick (Within (suc (length bs))) (eqb c b) (ok tt [] 1) (fail (ExpectedToken b) (c ∷ bs)) (λ q. omega arith) (λ q. tt)) nil (λ y. tt)
   where
     nil : (y : List ℕ) → Stop y → Within 0 (expectByte b y)
     nil [] s = tt
@@ -185,7 +185,7 @@ identifier-reads kind = line-reads any (getIdentifier kind)
     (λ b bs w. fits b bs w) nil (λ y. tt)
   where
     fits : (b : ℕ) (bs : List ℕ) → Whole (b ∷ bs) → Within (suc (length bs)) (getIdentifier kind (b ∷ bs))
-    fits b bs w = pick-within (suc (length bs)) (isLetter b) _ _ (λ q. omega (arith, run-whole isNamePart (unfold isNamePart isLetter isDigit in refl) b bs [] w .1)) (λ q. tt)
+    fits b bs w = pick (Within (suc (length bs))) (isLetter b) _ _ (λ q. omega (arith, run-whole isNamePart (unfold isNamePart isLetter isDigit in refl) b bs [] w .1)) (λ q. tt)
 
     nil : (y : List ℕ) → Stop y → Within 0 (getIdentifier kind y)
     nil [] s = tt
@@ -198,7 +198,7 @@ pub digits-reads : Reads any skipDigits
 unfolding skipDigits fail
 digits-reads = line-reads any skipDigits
     (λ b bs y w. ap digitsOf (run-whole isDigit (unfold isDigit in refl) b bs y w .0))
-    (λ b bs w. pick-within (suc (length bs)) (eqb (run isDigit (b ∷ bs)) 0) _ _ (λ q. tt) (λ q. omega (arith, run-whole isDigit (unfold isDigit in refl) b bs [] w .1))) nil (λ y. unfold run in tt)
+    (λ b bs w. pick (Within (suc (length bs))) (eqb (run isDigit (b ∷ bs)) 0) _ _ (λ q. tt) (λ q. omega (arith, run-whole isDigit (unfold isDigit in refl) b bs [] w .1))) nil (λ y. unfold run in tt)
   where
     nil : (y : List ℕ) → Stop y → Within 0 (skipDigits y)
     nil y s = rw (stop-run isDigit (unfold isDigit in refl) y s, skipDigits) tt
@@ -230,14 +230,14 @@ isHex-end = refl
 -- hex digits are within their line
 pub escape-within : (len b : ℕ) (bs y : List ℕ) → Whole (b ∷ bs) → Within (length bs) (skipUnicodeEscapeSequence len ((b ∷ bs) ++ y))
 unfolding skipUnicodeEscapeSequence
-escape-within len b bs y w = pick-within (length bs) (eqb (min len (run isHex ((b ∷ bs) ++ y))) len) _ _ (λ q. omega (arith, run-whole isHex isHex-end b bs y w .0, run-whole isHex isHex-end b bs y w .1)) (λ q. tt)
+escape-within len b bs y w = pick (Within (length bs)) (eqb (min len (run isHex ((b ∷ bs) ++ y))) len) _ _ (λ q. omega (arith, run-whole isHex isHex-end b bs y w .0, run-whole isHex isHex-end b bs y w .1)) (λ q. tt)
 
 pub escape-carries : (N : ℕ → Type 0) (len b : ℕ) (bs y : List ℕ) → Whole (b ∷ bs) → Carries N (skipUnicodeEscapeSequence len (b ∷ bs)) (skipUnicodeEscapeSequence len ((b ∷ bs) ++ y))
 unfolding skipUnicodeEscapeSequence
 escape-carries N len b bs y w =
     subst (λ n. Carries N (escapeOf len (run isHex (b ∷ bs)) (firstWidth (drop (min len (run isHex (b ∷ bs))) (b ∷ bs)))) (escapeOf len n (firstWidth (drop (min len n) ((b ∷ bs) ++ y)))))
     (sym (run-whole isHex isHex-end b bs y w .0))
-    (pick-carries N (eqb (min len (run isHex (b ∷ bs))) len) _ _ _ _ (λ q u. refl) (λ q. tt))
+    (pick₂ (Carries N) (eqb (min len (run isHex (b ∷ bs))) len) _ _ _ _ (λ q u. refl) (λ q. tt))
 
 -- skip_blank_block has always an answer
 blockTurn-sure : (n : ℕ) (s : List ℕ) → TurnSure s (blockTurn n s)
@@ -269,11 +269,11 @@ module _ {A : Type 0} (t : List ℕ → Bool) (p q : Reader A) (same : (b : ℕ)
   choose-keeps [] y w = loose-nil {A = A} y (elim (t []) [ true ↦ p [] | false ↦ q [] ]) (elim (t y) [ true ↦ p y | false ↦ q y ])
   choose-keeps (b ∷ bs) y w =
       subst (λ v. Carries {A = A} (Upto loose y (suc (length bs))) (elim (t (b ∷ bs)) [ true ↦ p (b ∷ bs) | false ↦ q (b ∷ bs) ]) (elim v [ true ↦ p ((b ∷ bs) ++ y) | false ↦ q ((b ∷ bs) ++ y) ])) (sym (same b bs y w))
-      (pick-carries (Upto loose y (suc (length bs))) (t (b ∷ bs)) _ _ _ _ (λ e. rp .keeps (b ∷ bs) y w) (λ e. rq .keeps (b ∷ bs) y w))
+      (pick₂ (Carries (Upto loose y (suc (length bs)))) (t (b ∷ bs)) _ _ _ _ (λ e. rp .keeps (b ∷ bs) y w) (λ e. rq .keeps (b ∷ bs) y w))
 
   pub choose-reads : Reads {A = A} loose (λ s. elim (t s) [ true ↦ p s | false ↦ q s ])
   choose-reads = record {
-    stops = λ x y w s. pick-within (length x) (t (x ++ y)) _ _ (λ e. rp .stops x y w s) (λ e. rq .stops x y w s);
+    stops = λ x y w s. pick (Within (length x)) (t (x ++ y)) _ _ (λ e. rp .stops x y w s) (λ e. rq .stops x y w s);
     keeps = choose-keeps;
   }
 

@@ -16,8 +16,8 @@ use Rattle.syntax.specs.Reader.{Out, ok, bad, deep, Reader, fail, _>>=_, _>>_, 
 use Rattle.syntax.specs.Helper.{skipBlank, takeByteIf, expectByte, getIdentifier, getNumberLiteral}
 use Rattle.syntax.specs.Pattern.{Inside}
 use Rattle.syntax.specs.Expression.{Inline, string, number, variable, function, inner, message, term, inlineKind, asInline, stringLiteral, asString, numberLiteral, callArguments, getCallArguments, getAttributeAccessor, termReference, variableReference, messageReference, functionReference, referenceBy, reference, nestedPlaceable, noInline, nonLiteral, getInlineExpression}
-use Rattle.laws.specs.Bytes.{Whole, whole-tail, nonempty, Fresh, Stop, byCase, clash}
-use Rattle.laws.specs.Stable.{Mode, loose, any, Upto, upto-le, Within, Carries, Reads, Closes, from-any, bind, then, pure-reads, fail-reads, Relabels, relabel, relabels, pick-within, pick-carries, Holds}
+use Rattle.laws.specs.Bytes.{Whole, whole-tail, nonempty, Fresh, Stop, byCase, clash, pick, pick₂}
+use Rattle.laws.specs.Stable.{Mode, loose, any, Upto, upto-le, Within, Carries, Reads, Closes, from-any, bind, then, pure-reads, fail-reads, Relabels, relabel, relabels, Holds}
 use Rattle.laws.specs.Stable.Helper.{expectByte-reads, identifier-reads, identifier-same, identifier-named, numberLiteral-reads, blank-reads, choose-reads, loose-nil}
 use Rattle.laws.specs.Stable.Pattern.{InsideLaw}
 use Rattle.laws.specs.Stable.String.{string-reads}
@@ -134,10 +134,10 @@ module _ (sub : Inside) (law : InsideLaw sub) where
   unfolding getInlineExpression nonLiteral
   inline-within n [] v c = c .nothings v
   inline-within n (b ∷ bs) v c =
-      pick-within n (eqb b 34) _ _ (λ q. c .strings) (λ q. pick-within n (isDigit b) _ _ (λ q. c .numbers)
-      (λ q. pick-within n (isLetter b) _ _ (λ q. c .references) (λ q. pick-within n v _ _ (λ q. c .nothings true)
-      (λ q. pick-within n (eqb b 45) _ _ (λ q. pick-within n (starts isLetter bs) _ _ (λ q. c .terms) (λ q. c .numbers))
-      (λ q. pick-within n (eqb b 36) _ _ (λ q. c .variables) (λ q. pick-within n (eqb b 123) _ _ (λ q. c .placeables) (λ q. c .nothings false)))))))
+      pick (Within n) (eqb b 34) _ _ (λ q. c .strings) (λ q. pick (Within n) (isDigit b) _ _ (λ q. c .numbers)
+      (λ q. pick (Within n) (isLetter b) _ _ (λ q. c .references) (λ q. pick (Within n) v _ _ (λ q. c .nothings true)
+      (λ q. pick (Within n) (eqb b 45) _ _ (λ q. pick (Within n) (starts isLetter bs) _ _ (λ q. c .terms) (λ q. c .numbers))
+      (λ q. pick (Within n) (eqb b 36) _ _ (λ q. c .variables) (λ q. pick (Within n) (eqb b 123) _ _ (λ q. c .placeables) (λ q. c .nothings false)))))))
 
   letter-next : (bs y : List ℕ) → 0 < length bs → starts isLetter (bs ++ y) ≡ starts isLetter bs
   unfolding starts
@@ -147,15 +147,15 @@ module _ (sub : Inside) (law : InsideLaw sub) where
   minus-keeps : (N : ℕ → Type 0) (b : ℕ) (bs y : List ℕ) → starts isLetter (bs ++ y) ≡ starts isLetter bs → Choices (λ p. Carries N (p (b ∷ bs)) (p ((b ∷ bs) ++ y)))
       → Carries {A = Inline} N (elim (starts isLetter bs) [ true ↦ asInline (termReference sub (b ∷ bs)) | false ↦ numberLiteral (b ∷ bs) ])
       (elim (starts isLetter (bs ++ y)) [ true ↦ asInline (termReference sub ((b ∷ bs) ++ y)) | false ↦ numberLiteral ((b ∷ bs) ++ y) ])
-  minus-keeps N b bs y e c = rw e (pick-carries N (starts isLetter bs) _ _ _ _ (λ q. c .terms) (λ q. c .numbers))
+  minus-keeps N b bs y e c = rw e (pick₂ (Carries N) (starts isLetter bs) _ _ _ _ (λ q. c .terms) (λ q. c .numbers))
 
   inline-kept : (N : ℕ → Type 0) (b : ℕ) (bs y : List ℕ) (v : Bool) → Whole (b ∷ bs) → Choices (λ p. Carries N (p (b ∷ bs)) (p ((b ∷ bs) ++ y))) → Carries N (getInlineExpression sub v (b ∷ bs)) (getInlineExpression sub v ((b ∷ bs) ++ y))
   unfolding getInlineExpression nonLiteral
   inline-kept N b bs y v w c =
-      pick-carries N (eqb b 34) _ _ _ _ (λ q. c .strings) (λ q. pick-carries N (isDigit b) _ _ _ _ (λ q. c .numbers)
-      (λ q. pick-carries N (isLetter b) _ _ _ _ (λ q. c .references) (λ q. pick-carries N v _ _ _ _ (λ q. c .nothings true)
-      (λ q. pick-carries N (eqb b 45) _ _ _ _ (λ q. minus-keeps N b bs y (letter-next bs y (nonempty b bs w (λ e. omega (arith, eqb-true b 45 q)))) c)
-      (λ q. pick-carries N (eqb b 36) _ _ _ _ (λ q. c .variables) (λ q. pick-carries N (eqb b 123) _ _ _ _ (λ q. c .placeables) (λ q. c .nothings false)))))))
+      pick₂ (Carries N) (eqb b 34) _ _ _ _ (λ q. c .strings) (λ q. pick₂ (Carries N) (isDigit b) _ _ _ _ (λ q. c .numbers)
+      (λ q. pick₂ (Carries N) (isLetter b) _ _ _ _ (λ q. c .references) (λ q. pick₂ (Carries N) v _ _ _ _ (λ q. c .nothings true)
+      (λ q. pick₂ (Carries N) (eqb b 45) _ _ _ _ (λ q. minus-keeps N b bs y (letter-next bs y (nonempty b bs w (λ e. omega (arith, eqb-true b 45 q)))) c)
+      (λ q. pick₂ (Carries N) (eqb b 36) _ _ _ _ (λ q. c .variables) (λ q. pick₂ (Carries N) (eqb b 123) _ _ _ _ (λ q. c .placeables) (λ q. c .nothings false)))))))
 
   inline-keeps : (v : Bool) (x y : List ℕ) → Whole x → Carries (Upto loose y (length x)) (getInlineExpression sub v x) (getInlineExpression sub v (x ++ y))
   inline-keeps v [] y w = loose-nil y (getInlineExpression sub v []) (getInlineExpression sub v y)

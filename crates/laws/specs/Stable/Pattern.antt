@@ -15,8 +15,8 @@ use Rattle.syntax.specs.Marks.{Mark, moveUp, node, textNode}
 use Rattle.syntax.specs.Reader.{Out, ok, bad, deep, Reader, fail, _>>=_, _>>_, pure, Turn, again, done, after, repeat, next, loop}
 use Rattle.syntax.specs.Helper.{skipBlankBlock}
 use Rattle.syntax.specs.Pattern.{Inside, Ending, lineFeed, crlf, placeableStart, eof, Role, initialLineStart, lineStart, continuation, Slice, isTextByte, isBlank, endsInCr, lineSlice, sliceBy, getTextSlice, Element, placeable, text, State, isLineStart, roleAfter, isLineFeed, withPlaceable, commonAfter, isElement, withText, goesOn, lineTurn, textTurn, patternTurn, trimmed, dedented, textMarks, elementMarks, finish, stateAt, usedBy, firstState, getPattern}
-use Rattle.laws.specs.Bytes.{Whole, whole-drop, Fresh, isFresh, Stop, stop-fresh, byCase, clash, drop-app, run-whole, eol-whole, spaces-whole, fresh-spaces, fresh-eol, not-fresh, stop-run}
-use Rattle.laws.specs.Stable.{Mode, loose, fresh, any, Upto, upto-le, upto-down, upto-rest, Within, Carries, Takes, Reads, Closes, same-carries, weaker, from-any, bind, then, pure-reads, fail-reads, Relabels, relabel, relabels, next-ok, after-within, pick-within, pick-carries, TurnWithin, TurnCarries, Turns, Free, Any, pick-turn-within, pick-turn-carries, repeat-reads, repeat-stops, repeat-keeps, Short, Strict, Inner, Holds, TurnHolds, loop-holds, Sure}
+use Rattle.laws.specs.Bytes.{Whole, whole-drop, Fresh, isFresh, Stop, stop-fresh, byCase, clash, drop-app, run-whole, eol-whole, spaces-whole, fresh-spaces, fresh-eol, not-fresh, stop-run, pick, pick₂}
+use Rattle.laws.specs.Stable.{Mode, loose, fresh, any, Upto, upto-le, upto-down, upto-rest, Within, Carries, Takes, Reads, Closes, same-carries, weaker, from-any, bind, then, pure-reads, fail-reads, Relabels, relabel, relabels, next-ok, after-within, TurnWithin, TurnCarries, Turns, Free, Any, repeat-reads, repeat-stops, repeat-keeps, Short, Strict, Inner, Holds, TurnHolds, loop-holds, Sure}
 use Rattle.laws.specs.Stable.Helper.{Soft, soft-fresh, past-spaces, block-reads, block-sure}
 
 -- the readers of what stands inside
@@ -92,7 +92,7 @@ lineTurn-same st k c cs y w = ap (λ o. elim (goesOn k c) [ true ↦ withText st
 
 lineTurn-fits : (st : State) (k c : ℕ) (cs x : List ℕ) → Whole (c ∷ cs) → isLineStart (st .role) ≡ true → suc (length cs) + k ≡ length x → TurnWithin (λ st′ j. Ready st′ (drop j x)) (length x) (lineTurn st k (c ∷ cs))
 unfolding lineTurn
-lineTurn-fits st k c cs x w l e = pick-turn-within (λ st′ j. Ready st′ (drop j x)) (length x) (goesOn k c) _ _
+lineTurn-fits st k c cs x w l e = pick (TurnWithin (λ st′ j. Ready st′ (drop j x)) (length x)) (goesOn k c) _ _
     (λ q. withText-fits st k (suc (length cs)) x (getTextSlice (c ∷ cs)) (slice-fits c cs w) e) (λ q. omega arith)
 
 textTurn-same : (st : State) (b : ℕ) (bs y : List ℕ) → Whole (b ∷ bs) → textTurn st ((b ∷ bs) ++ y) ≡ textTurn st (b ∷ bs)
@@ -148,14 +148,14 @@ module _ (m : Mode) (soft : Soft m) (sub : Inside) (law : InsideLaw sub) where
   pattern-stops : (st : State) (x y : List ℕ) → Whole x → Ready st x → Stop y → TurnWithin (λ st′ k. Ready st′ (drop k x)) (length x) (patternTurn sub st (x ++ y))
   unfolding patternTurn
   pattern-stops st [] y w r s = rw (patternTurn-calm sub st y (not-ready st r) (stop-fresh y s)) (omega arith)
-  pattern-stops st (b ∷ bs) y w r s = pick-turn-within (λ st′ k. Ready st′ (drop k (b ∷ bs))) (suc (length bs)) (eqb b 123) _ _
+  pattern-stops st (b ∷ bs) y w r s = pick (TurnWithin (λ st′ k. Ready st′ (drop k (b ∷ bs))) (suc (length bs))) (eqb b 123) _ _
       (λ q. withPlaceable-within st (b ∷ bs) (sub .braced ((b ∷ bs) ++ y)) (law .bracedStrict .short (b ∷ bs) y w s))
       (λ q. subst (TurnWithin (λ st′ k. Ready st′ (drop k (b ∷ bs))) (suc (length bs))) (sym (textTurn-same st b bs y w)) (textTurn-fits st b bs w))
 
   pattern-keeps : (st : State) (x y : List ℕ) → Whole x → Ready st x → TurnCarries (λ st′ k. Ready st′ (drop k x)) (Upto m y (length x)) (patternTurn sub st x) (patternTurn sub st (x ++ y))
   unfolding patternTurn
   pattern-keeps st [] y w r = λ u. patternTurn-calm sub st y (not-ready st r) (soft-fresh m soft y 0 u)
-  pattern-keeps st (b ∷ bs) y w r = pick-turn-carries (λ st′ k. Ready st′ (drop k (b ∷ bs))) (Upto m y (suc (length bs))) (eqb b 123) _ _ _ _
+  pattern-keeps st (b ∷ bs) y w r = pick₂ (TurnCarries (λ st′ k. Ready st′ (drop k (b ∷ bs))) (Upto m y (suc (length bs)))) (eqb b 123) _ _ _ _
       (λ q. withPlaceable-carries st (b ∷ bs) y (sub .braced (b ∷ bs)) (sub .braced ((b ∷ bs) ++ y)) (subst (λ z. Short (suc (length bs)) (sub .braced z)) (append-nil (b ∷ bs)) (law .bracedStrict .short (b ∷ bs) [] w tt)) (law .braced .reads .keeps (b ∷ bs) y w))
       (λ q. same-turn (b ∷ bs) (Upto m y (suc (length bs))) (textTurn st (b ∷ bs)) (textTurn st ((b ∷ bs) ++ y)) (textTurn-same st b bs y w) (textTurn-fits st b bs w))
 
@@ -350,7 +350,7 @@ module _ (b : ℕ) (bs : List ℕ) (w : Whole (b ∷ bs)) where
 module _ (m : Mode) (soft : Soft m) (sub : Inside) (law : InsideLaw sub) where
   finish-within : (s : List ℕ) (n : ℕ) (o : Out State) → Within n o → Within n (finish s o)
   unfolding finish
-  finish-within s n (ok st ms k) h = pick-within n (eqb (st .kept) 0) _ _ (λ q. h) (λ q. h)
+  finish-within s n (ok st ms k) h = pick (Within n) (eqb (st .kept) 0) _ _ (λ q. h) (λ q. h)
   finish-within s n (bad f k) h = tt
   finish-within s n (deep k) h = tt
 

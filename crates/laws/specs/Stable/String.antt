@@ -13,8 +13,8 @@ use Rattle.syntax.specs.Marks.{Mark, textNode}
 use Rattle.syntax.specs.Reader.{Out, ok, bad, deep, Reader, fail, _>>=_, _>>_, pure, Turn, again, done, turnOf, after, repeat}
 use Rattle.syntax.specs.Helper.{expectByte, skipUnicodeEscapeSequence}
 use Rattle.syntax.specs.Expression.{Inline, string, escapeTurn, stringTurn, stringLiteral, asString}
-use Rattle.laws.specs.Bytes.{Whole, whole-tail, nonempty, Fresh, Stop, byCase, clash}
-use Rattle.laws.specs.Stable.{Mode, loose, any, Upto, upto-le, Within, Carries, Reads, from-any, Relabels, relabel, relabels, TurnWithin, TurnCarries, Turns, pick-turn-within, pick-turn-carries, repeat-stops, repeat-keeps, Short, Strict, Inner, strict-then, inner-then}
+use Rattle.laws.specs.Bytes.{Whole, whole-tail, nonempty, Fresh, Stop, byCase, clash, pick, pick₂}
+use Rattle.laws.specs.Stable.{Mode, loose, any, Upto, upto-le, Within, Carries, Reads, from-any, Relabels, relabel, relabels, TurnWithin, TurnCarries, Turns, repeat-stops, repeat-keeps, Short, Strict, Inner, strict-then, inner-then}
 use Rattle.laws.specs.Stable.Helper.{expectByte-reads, expectByte-strict, escape-within, escape-carries}
 
 abbrev Left : Unit {0} → List ℕ → Type 0
@@ -39,9 +39,9 @@ escape-ends c q e = clash {v = eqb c 92 || (eqb c 123 || eqb c 34)} q (rw e refl
 escape-left : (b c : ℕ) (cs y : List ℕ) → Whole (c ∷ cs) → TurnWithin (λ u k. Left u (drop k (b ∷ c ∷ cs))) (suc (suc (length cs))) (escapeTurn ((b ∷ c ∷ cs) ++ y) ((c ∷ cs) ++ y))
 unfolding escapeTurn fail
 escape-left b c cs y w =
-    pick-turn-within _ _ (eqb c 92 || (eqb c 123 || eqb c 34)) _ _ (λ q. (omega arith, nonempty c cs w (escape-ends c q)))
-    (λ q. pick-turn-within _ _ (eqb c 117) _ _ (λ r. unicode 4 cs (whole-tail c cs w) (nonempty c cs w (λ e. omega (arith, eqb-true c 117 r))))
-    (λ r. pick-turn-within _ _ (eqb c 85) _ _ (λ t. unicode 6 cs (whole-tail c cs w) (nonempty c cs w (λ e. omega (arith, eqb-true c 85 t)))) (λ t. tt)))
+    pick (TurnWithin _ _) (eqb c 92 || (eqb c 123 || eqb c 34)) _ _ (λ q. (omega arith, nonempty c cs w (escape-ends c q)))
+    (λ q. pick (TurnWithin _ _) (eqb c 117) _ _ (λ r. unicode 4 cs (whole-tail c cs w) (nonempty c cs w (λ e. omega (arith, eqb-true c 117 r))))
+    (λ r. pick (TurnWithin _ _) (eqb c 85) _ _ (λ t. unicode 6 cs (whole-tail c cs w) (nonempty c cs w (λ e. omega (arith, eqb-true c 85 t)))) (λ t. tt)))
   where
     unicode : (len : ℕ) (ds : List ℕ) → Whole ds → 0 < length ds → TurnWithin {A = Unit {0}} (λ u k. Left u (drop k (b ∷ c ∷ ds))) (suc (suc (length ds))) (turnOf (after [] 2 (skipUnicodeEscapeSequence len (ds ++ y))))
     unicode len [] v h = absurd (not-suc-le-zero h)
@@ -50,9 +50,9 @@ escape-left b c cs y w =
 escape-kept : (b c : ℕ) (cs y : List ℕ) → Whole (c ∷ cs) → (N : ℕ → Type 0) → TurnCarries (λ u k. Left u (drop k (b ∷ c ∷ cs))) N (escapeTurn (b ∷ c ∷ cs) (c ∷ cs)) (escapeTurn ((b ∷ c ∷ cs) ++ y) ((c ∷ cs) ++ y))
 unfolding escapeTurn fail
 escape-kept b c cs y w N =
-    pick-turn-carries _ _ (eqb c 92 || (eqb c 123 || eqb c 34)) _ _ _ _ (λ q u. (refl, nonempty c cs w (escape-ends c q)))
-    (λ q. pick-turn-carries _ _ (eqb c 117) _ _ _ _ (λ r. unicode 4 cs (whole-tail c cs w) (nonempty c cs w (λ e. omega (arith, eqb-true c 117 r))))
-    (λ r. pick-turn-carries _ _ (eqb c 85) _ _ _ _ (λ t. unicode 6 cs (whole-tail c cs w) (nonempty c cs w (λ e. omega (arith, eqb-true c 85 t)))) (λ t. tt)))
+    pick₂ (TurnCarries _ _) (eqb c 92 || (eqb c 123 || eqb c 34)) _ _ _ _ (λ q u. (refl, nonempty c cs w (escape-ends c q)))
+    (λ q. pick₂ (TurnCarries _ _) (eqb c 117) _ _ _ _ (λ r. unicode 4 cs (whole-tail c cs w) (nonempty c cs w (λ e. omega (arith, eqb-true c 117 r))))
+    (λ r. pick₂ (TurnCarries _ _) (eqb c 85) _ _ _ _ (λ t. unicode 6 cs (whole-tail c cs w) (nonempty c cs w (λ e. omega (arith, eqb-true c 85 t)))) (λ t. tt)))
   where
     unicode : (len : ℕ) (ds : List ℕ) → Whole ds → 0 < length ds → TurnCarries {A = Unit {0}} (λ u k. Left u (drop k (b ∷ c ∷ ds))) N (turnOf (after [] 2 (skipUnicodeEscapeSequence len ds))) (turnOf (after [] 2 (skipUnicodeEscapeSequence len (ds ++ y))))
     unicode len [] v h = absurd (not-suc-le-zero h)
@@ -72,17 +72,17 @@ string-stops : (u : Unit {0}) (x y : List ℕ) → Whole x → Left u x → Stop
 unfolding stringTurn fail
 string-stops u [] y w h s = absurd (not-suc-le-zero h)
 string-stops u (b ∷ bs) y w h s =
-    pick-turn-within _ _ (eqb b 92) _ _ (λ q. back-left (λ k. Unit {0}) b bs y (whole-tail b bs w) (nonempty b bs w (λ e. omega (arith, eqb-true b 92 q))))
-    (λ q. pick-turn-within _ _ (eqb b 34) _ _ (λ r. omega arith)
-    (λ r. pick-turn-within _ _ (eqb b 10) _ _ (λ t. tt) (λ t. (omega arith, nonempty b bs w (eqb-false b 10 t)))))
+    pick (TurnWithin _ _) (eqb b 92) _ _ (λ q. back-left (λ k. Unit {0}) b bs y (whole-tail b bs w) (nonempty b bs w (λ e. omega (arith, eqb-true b 92 q))))
+    (λ q. pick (TurnWithin _ _) (eqb b 34) _ _ (λ r. omega arith)
+    (λ r. pick (TurnWithin _ _) (eqb b 10) _ _ (λ t. tt) (λ t. (omega arith, nonempty b bs w (eqb-false b 10 t)))))
 
 string-keeps : (u : Unit {0}) (x y : List ℕ) → Whole x → Left u x → TurnCarries (λ v k. Left v (drop k x)) (Upto loose y (length x)) (stringTurn u x) (stringTurn u (x ++ y))
 unfolding stringTurn fail
 string-keeps u [] y w h = absurd (not-suc-le-zero h)
 string-keeps u (b ∷ bs) y w h =
-    pick-turn-carries _ _ (eqb b 92) _ _ _ _ (λ q. back-kept (Upto loose y (suc (length bs))) b bs y (whole-tail b bs w) (nonempty b bs w (λ e. omega (arith, eqb-true b 92 q))))
-    (λ q. pick-turn-carries _ _ (eqb b 34) _ _ _ _ (λ r t. refl)
-    (λ r. pick-turn-carries _ _ (eqb b 10) _ _ _ _ (λ t. tt) (λ t v. (refl, nonempty b bs w (eqb-false b 10 t)))))
+    pick₂ (TurnCarries _ _) (eqb b 92) _ _ _ _ (λ q. back-kept (Upto loose y (suc (length bs))) b bs y (whole-tail b bs w) (nonempty b bs w (λ e. omega (arith, eqb-true b 92 q))))
+    (λ q. pick₂ (TurnCarries _ _) (eqb b 34) _ _ _ _ (λ r t. refl)
+    (λ r. pick₂ (TurnCarries _ _) (eqb b 10) _ _ _ _ (λ t. tt) (λ t v. (refl, nonempty b bs w (eqb-false b 10 t)))))
 
 string-turns : Turns loose Left stringTurn
 string-turns = record { stops = string-stops; keeps = string-keeps }
