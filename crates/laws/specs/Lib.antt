@@ -13,3 +13,4 @@ pub mod Lines
 pub mod Layout
 pub mod Call
 pub mod Shape
+pub mod Formed
