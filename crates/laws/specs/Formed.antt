@@ -1,4 +1,7 @@
 -- The marks of a reading are well formed.
+pub mod Edge
+pub mod Reader
+pub mod Helper
 use Prim.Native.Nat.{ℕ, _+_, _-_, _≤_, _<_}
 use native.Mathlib.Omega.{arith}
 use mathlib.Core.Path.{_≡_, refl, _∙_}
