@@ -2,6 +2,8 @@
 pub mod Edge
 pub mod Reader
 pub mod Helper
+pub mod Comment
+pub mod Pattern
 use Prim.Native.Nat.{ℕ, _+_, _-_, _≤_, _<_}
 use native.Mathlib.Omega.{arith}
 use mathlib.Core.Path.{_≡_, refl, _∙_}

@@ -14,7 +14,7 @@ use Rattle.syntax.specs.Comment.{lineLength, levelOf, lineEndUsed, lineRead, li
 use Rattle.laws.specs.Bytes.{byCase, clash, pick, run-le, eol-le}
 use Rattle.laws.specs.Bounds.{uses-nil, uses-text, Bounded, used, stopped, Bounds, TurnBounded, goes, ends, turn-less, TurnBounds, repeat-bounds, first-bounded}
 
-lineLength-le : (s : List ℕ) → lineLength s ≤ length s
+pub lineLength-le : (s : List ℕ) → lineLength s ≤ length s
 unfolding lineLength
 lineLength-le [] = omega arith
 lineLength-le (b ∷ bs) = byCase (ltb 0 (eol (b ∷ bs))) (λ q. rw (q, lineLength) (omega arith)) (λ q. rw (q, lineLength) (suc-le-suc (lineLength-le bs)))

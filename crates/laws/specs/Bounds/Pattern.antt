@@ -133,12 +133,12 @@ pub record Grown (st : State) : Type 0 where
   pub room : marksOf (st .elements) + 6 * length (st .elements) ≤ 8 * st .used
   pub kept : st .kept ≤ length (st .elements)
 
-trimmed-le : (t : List ℕ) → trimmed t ≤ length t
+pub trimmed-le : (t : List ℕ) → trimmed t ≤ length t
 unfolding trimmed
 trimmed-le [] = omega arith
 trimmed-le (x ∷ xs) = pick (λ e. e ≤ suc (length xs)) ((eqb x 32 || (eqb x 13 || eqb x 10)) && eqb (trimmed xs) 0) 0 (suc (trimmed xs)) (λ q. omega arith) (λ q. omega (arith, trimmed-le xs))
 
-dedented-le : (c : Option ℕ) (a i : ℕ) (l : Bool) → dedented c a i l ≤ a + i
+pub dedented-le : (c : Option ℕ) (a i : ℕ) (l : Bool) → dedented c a i l ≤ a + i
 unfolding dedented
 dedented-le c a i false = omega arith
 dedented-le none a i true = omega arith

@@ -51,6 +51,9 @@ edge-add (b ∷ bs) (suc zero) (suc j) e f = let z : 1 + suc j ≡ suc (suc j) =
 edge-add (b ∷ bs) (suc (suc m)) j e f = let z : suc (suc m) + j ≡ suc (suc m + j) = omega arith in
     rw z (edge-next b bs (suc m + j) (edge-add bs (suc m) j e f) (λ q. absurd (omega arith)))
 
+pub edge-past : (s : List ℕ) (k : ℕ) → edge s k ≡ true → {r : List ℕ} → drop k s ≡ r → (j i : ℕ) → k + j ≡ i → edge r j ≡ true → edge s i ≡ true
+edge-past s k e {r} d j i z f = subst (λ i. edge s i ≡ true) z (edge-add s k j e (subst (λ r. edge r j ≡ true) (sym d) f))
+
 -- where the rest is clear
 pub edge-clear : (s : List ℕ) (k : ℕ) → k ≤ length s → clear (drop k s) ≡ true → edge s k ≡ true
 unfolding edge

@@ -11,19 +11,22 @@ use borrow.Author.Tests.{leb-true, lt-ltb}
 use Rattle.syntax.specs.declared.errors.ErrorKind.the-variants.{ExpectedToken, ExpectedCharRange}
 use Rattle.syntax.specs.Kind as Kind
 use Rattle.syntax.specs.Bytes.{startsWith, starts, within, isLetter, isDigit, isNamePart, spaces, eol, run}
-use Rattle.syntax.specs.Reader.{Out, ok, pure, again, done, repeat}
+use Rattle.syntax.specs.Reader.{Out, ok, bad, deep, pure, again, done, repeat}
 use Rattle.syntax.specs.Helper.{skipBlankInline, skipEol, blankTurn, skipBlank, blockTurn, skipBlankBlock, takeByteIf, expectByte, skipDigits, fraction, number, asText, getNumberLiteral, getIdentifier}
+use Rattle.syntax.specs.Pattern.{usedBy}
 use Rattle.syntax.specs.Shape.{step}
 use Rattle.laws.specs.Bytes.{byCase, pick}
+use Rattle.laws.specs.Stable.{Sure}
+use Rattle.laws.specs.Stable.Helper.{block-sure}
 use Rattle.laws.specs.Shape.Run.{otherwise, run-text}
 use Rattle.laws.specs.Formed.Edge.{ascii, edge, edge-add, edge-run, ascii-of, edge-byte, edge-spaces, edge-eol}
-use Rattle.laws.specs.Formed.Reader.{Stand, at, by, leads-nil, Made, made, stopped, tooDeep, Makes, skips, pure-makes, fail-makes, bind, then, TurnMade, goes, ends, repeat-makes}
+use Rattle.laws.specs.Formed.Reader.{Stand, at, anywhere, by, leads-nil, Made, made, stopped, tooDeep, Makes, skips, pure-makes, fail-makes, bind, then, TurnMade, goes, ends, repeat-makes}
 
 -- tests that only ASCII bytes pass
 within-ascii : (low high : ℕ) → high ≤ 127 → (b : ℕ) → within low high b ≡ true → ascii b ≡ true
 within-ascii low high h b q = lt-ltb b 128 (omega (arith, leb-true b high (and-eq-true-iff (leb low b) (leb b high) .0 q .1)))
 
-or-ascii : (v w b : Bool) → (v ≡ true → b ≡ true) → (w ≡ true → b ≡ true) → (v || w) ≡ true → b ≡ true
+pub or-ascii : (v w b : Bool) → (v ≡ true → b ≡ true) → (w ≡ true → b ≡ true) → (v || w) ≡ true → b ≡ true
 or-ascii v w b f g q = byCase v f (λ z. g (otherwise v w q z))
 
 pub digit-ascii : (b : ℕ) → isDigit b ≡ true → ascii b ≡ true
@@ -93,6 +96,15 @@ module _ {n k : ℕ} {g : Stand} where
   number-makes : Makes n k g (λ _. g) number
   unfolding number
   number-makes = then (takeByteIf-makes 45 refl) (then digits-makes (bind (takeByteIf-makes 46 refl) fraction-makes))
+
+-- how far the blank lines reach
+pub block-edge : (s : List ℕ) → edge s (usedBy (skipBlankBlock s)) ≡ true
+block-edge s = go (skipBlankBlock s) (block-makes {n = 0} {k = 0} {g = anywhere} .on s) (block-sure s)
+  where
+    go : (o : Out ℕ) → Made 0 0 anywhere (λ _. anywhere) s o → Sure o → edge s (usedBy o) ≡ true
+    go (ok i ms j) (made e l) h = unfold usedBy in e
+    go (bad f j) m h = absurd h
+    go (deep j) m h = absurd h
 
 -- ---- T nodes
 
