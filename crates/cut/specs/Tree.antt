@@ -18,13 +18,15 @@ use Rattle.syntax.specs.Pattern.{usedBy}
 use Rattle.syntax.specs.Expression.{level}
 use Rattle.syntax.specs.Core.{getEntry, lineStartsAt, Error, upError, Reading, read, following, entries, parse}
 use Rattle.laws.specs.Bytes.{Whole, whole-drop, Fresh, byCase, drop-app}
-use Rattle.laws.specs.Stable.{fresh, Holds, sure-ok}
+use Rattle.laws.specs.Answers.{Holds, sure-ok}
+use Rattle.laws.specs.Stable.{fresh}
 use Rattle.laws.specs.Stable.Helper.{block-sure}
 use Rattle.laws.specs.Stable.Pattern.{block-within, block-same}
 use Rattle.laws.specs.Stable.Expression.{level-law}
 use Rattle.laws.specs.Moving.{moveUp-append, moveUp-twice, moveUp-zero, upErrors-twice, upErrors-zero}
 use Rattle.laws.specs.Lines.Lands.{block-lands}
-use Rattle.laws.specs.Entries.{lastLine-drop, Tail, tail-of, following-read, read-read, map-nil, weight, weight-append, weight-up, entries-more, block-fresh}
+use Rattle.laws.specs.File.{entries-more}
+use Rattle.laws.specs.Entries.{lastLine-drop, Tail, tail-of, following-read, read-read, map-nil, weight, weight-append, weight-up, block-fresh}
 use Rattle.cut.specs.Tree.Join.{Joint, join, used-of, no-exc}
 use Rattle.syntax.specs.Cut.{lastLine, hashes, Joins, Exception, Readings}
 

@@ -1,15 +1,15 @@
 -- Marks in nodes. `Forest k`: every node that opens closes; T kinds, and no others, have places, a text's in order and at most k.
 pub mod Nodes
-use Prim.Native.Nat.{ℕ, zero, suc, _+_, _-_, _≤_, _<_}
+use Prim.Native.Nat.{ℕ, suc, _+_, _-_, _≤_, _<_}
 use native.Mathlib.Nat.{zero-add}
 use native.Mathlib.Omega.{arith}
-use mathlib.Core.Path.{_≡_, refl, sym, ap, _∙_, subst}
+use mathlib.Core.Path.{_≡_, refl, sym, subst}
 use mathlib.Core.Bool.{Bool, true, false}
 use mathlib.Core.List.{List, [], _∷_, _++_, append-assoc, List·Memᴰ, List·Memᴰ·head, List·Memᴰ·tail}
 use lib.Dec.{ltb}
 use borrow.Author.Tests.{le-ltb}
 use Rattle.syntax.specs.Kind.{isText}
-use Rattle.syntax.specs.Marks.{Mark, plain, placed, kindOf, up, moveUp, node, textNode}
+use Rattle.syntax.specs.Marks.{Mark, plain, placed, kindOf, moveUp, node, textNode}
 use Rattle.laws.specs.Moving.{moveUp-append}
 
 -- a node's kind: below 100, and a T kind or not
@@ -55,11 +55,15 @@ abbrev pub Levels : ℕ → List Mark → Type 0
 Levels d [] = d ≡ 0
 Levels d (m ∷ ms) = elim (ltb (kindOf m) 100) [ true ↦ Levels (suc d) ms | false ↦ (0 < d) × Levels (d - 1) ms ]
 
+-- after a mark that opens a node, or closes one
+abbrev pub Opened : Bool → ℕ → List Mark → Type 0
+Opened v d ms = elim v [ true ↦ Levels (suc d) ms | false ↦ (0 < d) × Levels (d - 1) ms ]
+
 pub levels-append : (d e : ℕ) (ms ns : List Mark) → Levels d ms → Levels e ns → Levels (d + e) (ms ++ ns)
 levels-append d e [] ns l r = subst (λ z. Levels (z + e) ns) (sym l) (subst (λ z. Levels z ns) (sym (zero-add e)) r)
 levels-append d e (m ∷ ms) ns l r = by (ltb (kindOf m) 100) l (λ i g. levels-append i e ms ns g r)
   where
-    by : (v : Bool) → (elim v as (λ x. Type 0) [ true ↦ Levels (suc d) ms | false ↦ (0 < d) × Levels (d - 1) ms ]) → ((i : ℕ) → Levels i ms → Levels (i + e) (ms ++ ns)) → elim v as (λ x. Type 0) [ true ↦ Levels (suc (d + e)) (ms ++ ns) | false ↦ (0 < d + e) × Levels (d + e - 1) (ms ++ ns) ]
+    by : (v : Bool) → Opened v d ms → ((i : ℕ) → Levels i ms → Levels (i + e) (ms ++ ns)) → Opened v (d + e) (ms ++ ns)
     by true l f = let z : suc d + e ≡ suc (d + e) = omega arith in subst (λ i. Levels i (ms ++ ns)) z (f (suc d) l)
     by false l f = let z : d - 1 + e ≡ d + e - 1 = omega (arith, l .0) in (omega (arith, l .0), subst (λ i. Levels i (ms ++ ns)) z (f (d - 1) (l .1)))
 

@@ -1,6 +1,8 @@
 -- What a reader may answer on a rest s, with n openings still allowed.
 -- ok: it used no more than s; its marks are at most eight for each byte used, with c marks to spare, and make nodes (Balanced).
 -- bad: it stopped within s. deep: at a byte of s, with n bytes at least before it.
+-- Of a reader p with `b : Bounds n c p`: `ok-uses b s e`, `bad-within b s e` and `deep-within b s e` say it of the answer that e gives, as `e : p s ≡ ok a ms k`.
+-- Where what is nested is read at a level n, `level-bounds n` is the hypothesis that the readers of nesting ask for.
 pub mod Helper
 pub mod Comment
 pub mod Pattern
@@ -100,7 +102,8 @@ module _ {A B : Type 0} {n : ℕ} where
   then {q = q} bp bq = bind {q = λ _. q} bp (λ _. bq)
 
 -- what follows an opening byte may open one less
-pub then-inside : {A B : Type 0} {n c : ℕ} {d : B → ℕ} {p : Reader A} {q : Reader B} → 1 ≤ c → Bounds (suc n) (λ _. c) p → Bounds n d q → Bounds (suc n) (λ b. c + d b) (p >> q)
+pub then-inside : {A B : Type 0} {n c : ℕ} {d : B → ℕ} {p : Reader A} {q : Reader B} → 1 ≤ c → Bounds (suc n) (λ _. c) p → Bounds n d q
+    → Bounds (suc n) (λ b. c + d b) (p >> q)
 unfolding _>>_ next after
 then-inside {A} {B} {n} {c} {d} {p} {q} l bp bq = record { on = λ s. go s (p s) (bp .on s) }
   where

@@ -1,15 +1,15 @@
--- Bytes before a cut, and tests over them.
-use Prim.Native.Nat.{ℕ, zero, suc, _+_, _-_, _≤_, _<_, suc-le-suc}
-use mathlib.Core.Path.{_≡_, refl, sym, ap, _∙_, subst}
-use mathlib.Core.Bool.{Bool, true, false, _&&_, _||_, not}
+-- Tests on bytes, and choices by them; how many bytes a run or a line end takes; sources that end in a newline, and what follows a cut.
+use Prim.Native.Nat.{ℕ, zero, suc, _≤_, _<_, suc-le-suc}
+use mathlib.Core.Path.{_≡_, refl, ap}
+use mathlib.Core.Bool.{Bool, true, false, _&&_}
 use mathlib.Core.List.{List, [], _∷_, _++_}
 use native.Mathlib.Omega.{arith}
-use lib.ListN.{drop, length, take}
-use lib.Dec.{eqb, ltb}
-use borrow.Author.Tests.{eqb-true, eqb-false, ltb-true, ltb-false}
+use lib.ListN.{drop, length}
+use lib.Dec.{eqb}
+use borrow.Author.Tests.{eqb-true}
 use lib.Seq.{drop-append-le}
 pub use Rattle.syntax.specs.Bytes.{Whole, isFresh, Fresh}
-use Rattle.syntax.specs.Bytes.{startsWith, starts, isLetter, isDigit, isNamePart, isHex, spaces, eol, run, firstWidth}
+use Rattle.syntax.specs.Bytes.{startsWith, isLetter, spaces, eol, run}
 
 pub whole-tail : (b : ℕ) (bs : List ℕ) → Whole (b ∷ bs) → Whole bs
 whole-tail b [] w = tt
@@ -35,7 +35,8 @@ pick P true o u f g = f refl
 pick P false o u f g = g refl
 
 -- the same choice on both sides
-pub pick₂ : {B : Type 0} (R : B → B → Type 0) (v : Bool) (o u o′ u′ : B) → (v ≡ true → R o o′) → (v ≡ false → R u u′) → R (elim v [ true ↦ o | false ↦ u ]) (elim v [ true ↦ o′ | false ↦ u′ ])
+pub pick₂ : {B : Type 0} (R : B → B → Type 0) (v : Bool) (o u o′ u′ : B) → (v ≡ true → R o o′) → (v ≡ false → R u u′)
+    → R (elim v [ true ↦ o | false ↦ u ]) (elim v [ true ↦ o′ | false ↦ u′ ])
 pick₂ R true o u o′ u′ f g = f refl
 pick₂ R false o u o′ u′ f g = g refl
 

@@ -1,31 +1,31 @@
--- The entries of a file, and its last line.
-use Prim.Native.Nat.{ℕ, zero, suc, _+_, _-_, _≤_, _<_}
-use native.Mathlib.Nat.{not-suc-le-zero, le-of-suc-le-suc, add-zero, zero-add, suc-add, add-suc, min-eq-left}
+-- What a theorem on a cut needs of a file: its last line, its entries where there is no junk, and the blank lines between them.
+use Prim.Native.Nat.{ℕ, zero, suc, _+_, _≤_, _<_}
+use native.Mathlib.Nat.{not-suc-le-zero, add-zero, zero-add}
 use native.Mathlib.Omega.{arith}
-use mathlib.Core.Path.{_≡_, refl, sym, ap, ap₂, _∙_, subst}
-use mathlib.Core.Logic.{_⊎_, inl, inr}
-use mathlib.Core.Bool.{Bool, true, false, _&&_, _||_, not}
-use mathlib.Core.List.{List, [], _∷_, _++_, map, append-nil, append-assoc}
-use lib.ListN.{drop, length, take, length-drop, length-take, length-append, take-append-drop, drop-of-length-le}
-use lib.Seq.{drop-drop, drop-length, drop-append-seam}
+use mathlib.Core.Path.{_≡_, refl, sym, ap, _∙_, subst}
+use mathlib.Core.Bool.{true, false, _&&_}
+use mathlib.Core.List.{List, [], _∷_, _++_, map}
+use lib.ListN.{drop, length, take, length-drop, take-append-drop}
+use lib.Seq.{drop-drop}
 use lib.Dec.{eqb, ltb}
-use borrow.Author.Tests.{eqb-true, eqb-false, ltb-true, ltb-false, eq-eqb, ne-eqb, le-ltb}
-use Rattle.syntax.specs.declared.errors.ErrorKind.the-variants as Errors
+use borrow.Author.Tests.{eqb-true, eq-eqb, ne-eqb, le-ltb}
 use Rattle.syntax.specs.Bytes.{startsWith, starts, isLetter, spaces, eol, run}
-use Rattle.syntax.specs.Marks.{Mark, plain, placed, kindOf, moveUp, node, textNode}
+use Rattle.syntax.specs.Marks.{Mark, plain, placed, kindOf, moveUp, node}
 use Rattle.syntax.specs.declared.errors.ParserError.{ParserError}
-use Rattle.syntax.specs.Reader.{Out, ok, bad, deep, Reader, fail, next, _>>=_, after, Turn, again, done, loop, repeat}
+use Rattle.syntax.specs.Reader.{Out, ok, bad, deep, fail, next, _>>=_, after, loop, repeat}
 use Rattle.syntax.specs.Helper.{skipBlankBlock, blockTurn, getIdentifier}
-use Rattle.syntax.specs.Comment.{getComment, commentTurn}
+use Rattle.syntax.specs.Comment.{getComment}
 use Rattle.syntax.specs.Pattern.{Inside, usedBy}
-use Rattle.syntax.specs.Core.{Fields, fields, termFields, Entry, comment, message, term, asMessage, asTerm, asComment, getEntry, junkEnd, lineStartsAt, Error, upError, Reading, read, refused, following, isNamed, count, kindOfEntry, entries}
-use Rattle.laws.specs.Bytes.{Whole, whole-tail, whole-drop, nonempty, Fresh, isFresh, Stop, stop-fresh, byCase, clash, drop-app, fresh-spaces, fresh-eol, not-fresh}
-use Rattle.laws.specs.Stable.{Mode, loose, fresh, any, none, Within, Holds, TurnHolds, loop-holds, Sure, sure-ok}
+use Rattle.syntax.specs.Core.{fields, Entry, asMessage, asComment, getEntry, lineStartsAt, Error, upError, Reading, read, refused, following, isNamed, count, kindOfEntry, entries}
+use Rattle.laws.specs.Bytes.{Whole, Fresh, Stop, byCase, clash, fresh-spaces, fresh-eol}
+use Rattle.laws.specs.File.{junk, entries-first, entries-far}
+use Rattle.laws.specs.Answers.{Holds, TurnHolds, loop-holds, sure-ok}
 use Rattle.laws.specs.Stable.Helper.{block-sure}
-use Rattle.laws.specs.Stable.Pattern.{InsideLaw, block-within, block-same}
-use Rattle.laws.specs.Stable.Entry.{dotted, Cut, entry-ends, entry-stops}
-use Rattle.laws.specs.Stable.Comment.{after-ok, lineRun, lineRun-whole, lineRun-here, lineRun-on, OneLine, starts-add, starts-later}
-use Rattle.syntax.specs.Cut.{oneLine, lastLine, hashes, Joins}
+use Rattle.laws.specs.Stable.Entry.{dotted}
+use Rattle.laws.specs.Lines.{lineRun-here, lineRun-on, starts-add}
+use Rattle.syntax.specs.Bytes.{lineRun}
+use Rattle.laws.specs.Stable.Comment.{after-ok, OneLine}
+use Rattle.syntax.specs.Cut.{oneLine, lastLine}
 
 -- ---- the last line
 
@@ -141,8 +141,14 @@ pub weight-node : (k : ℕ) (ms : List Mark) → weight (node k ms) ≡ k + k + 
 unfolding node
 weight-node k ms = let h = weight-append ms (plain (100 + k) ∷ []) in omega arith
 
+some-error : (ms : List Mark) (x : Error) (k : ℕ) (r : Reading) (ns : List Mark) → following ms (x ∷ []) k r ≡ read ns [] → ⊥
+unfolding following
+some-error ms x k (read os es) ns h = let z : _≡_ {A = ℕ} 0 1 = cc in omega arith
+some-error ms x k (refused j) ns h = let z : _≡_ {A = ℕ} 0 1 = cc in omega arith
+
 module _ (sub : Inside) where
-  pub entries-with : (n b : ℕ) (bs : List ℕ) (e : Entry) (ms : List Mark) (k c u : ℕ) (gs : List Mark) (r : List ℕ) → getEntry sub (b ∷ bs) ≡ ok e ms k → skipBlankBlock (drop k (b ∷ bs)) ≡ ok c gs u → drop (k + u) (b ∷ bs) ≡ r
+  pub entries-with : (n b : ℕ) (bs : List ℕ) (e : Entry) (ms : List Mark) (k c u : ℕ) (gs : List Mark) (r : List ℕ) → getEntry sub (b ∷ bs) ≡ ok e ms k
+      → skipBlankBlock (drop k (b ∷ bs)) ≡ ok c gs u → drop (k + u) (b ∷ bs) ≡ r
       → entries (suc n) sub (b ∷ bs) ≡ following (node (kindOfEntry e (ltb c 2 && isNamed (getEntry sub r))) ms) [] (k + u) (entries n sub r)
   unfolding entries usedBy count
   entries-with n b bs e ms k c u gs r p q d = rw (p, entries)
@@ -150,16 +156,10 @@ module _ (sub : Inside) where
       ∙ ap (λ z. following (node (kindOfEntry e (ltb c 2 && isNamed (getEntry sub z))) ms) [] (k + u) (entries n sub z)) d)
 
   pub junk-free : (n b : ℕ) (bs : List ℕ) (ma : List Mark) (f : ParserError) (k : ℕ) → entries (suc n) sub (b ∷ bs) ≡ read ma [] → getEntry sub (b ∷ bs) ≡ bad f k → ⊥
-  unfolding entries following
-  junk-free n b bs ma f k e p = go (entries n sub (drop (junkEnd k (b ∷ bs) + usedBy (skipBlankBlock (drop (junkEnd k (b ∷ bs)) (b ∷ bs)))) (b ∷ bs))) (rw (p, entries) at e)
-    where
-      go : (r : Reading) → following (textNode 7 0 (junkEnd k (b ∷ bs))) (record { fault = f; junkFrom = 0; junkTill = junkEnd k (b ∷ bs) } ∷ []) (junkEnd k (b ∷ bs) + usedBy (skipBlankBlock (drop (junkEnd k (b ∷ bs)) (b ∷ bs)))) r ≡ read ma [] → ⊥
-      go (read ns es) h = let z : _≡_ {A = ℕ} 0 1 = cc in omega arith
-      go (refused i) h = let z : _≡_ {A = ℕ} 0 1 = cc in omega arith
+  junk-free n b bs ma f k e p = some-error _ _ _ _ ma (sym (entries-first sub n (junk p)) ∙ e)
 
   pub not-deep : (n b : ℕ) (bs : List ℕ) (ma : List Mark) (es : List Error) (k : ℕ) → entries (suc n) sub (b ∷ bs) ≡ read ma es → getEntry sub (b ∷ bs) ≡ deep k → ⊥
-  unfolding entries
-  not-deep n b bs ma es k e p = let h : refused k ≡ read ma es = rw (p, entries) at e in let z : _≡_ {A = ℕ} 0 1 = cc in omega arith
+  not-deep n b bs ma es k e p = let q = entries-far sub n b bs p in let z : _≡_ {A = ℕ} 0 1 = cc in omega arith
 
   -- the first entry of a source that is read without junk
   pub record Step (n : ℕ) (s : List ℕ) (ma : List Mark) : Type 0 where
@@ -183,45 +183,9 @@ module _ (sub : Inside) where
           let (c, gs, u, g) = sure-ok (skipBlankBlock (drop k (b ∷ bs))) (block-sure (drop k (b ∷ bs))) in
           let (mr, er, r, m, x) = following-read (node (kindOfEntry e (ltb c 2 && isNamed (getEntry sub (drop (k + u) (b ∷ bs))))) ms) (k + u) (entries n sub (drop (k + u) (b ∷ bs))) ma []
           (sym (entries-with n b bs e ms k c u gs (drop (k + u) (b ∷ bs)) p g refl) ∙ h) in
-          record { e = e; ms = ms; k = k; c = c; gs = gs; u = u; mr = mr; entry = p; gap = g; rest = r ∙ ap (read mr) (map-nil (k + u) er x); marks = m }
+          record { e = e; ms = ms; k = k; c = c; gs = gs; u = u; mr = mr; entry = p; gap = g; rest = _∙_ {b = read mr er} r (ap (read mr) (map-nil (k + u) er x)); marks = m }
       go (bad f k) p = absurd (junk-free n b bs ma f k h p)
       go (deep k) p = absurd (not-deep n b bs ma [] k h p)
-
-  pub entries-more : (n n′ : ℕ) (s : List ℕ) (ms : List Mark) (es : List Error) → n ≤ n′ → entries n sub s ≡ read ms es → entries n′ sub s ≡ read ms es
-  unfolding entries following
-  entries-more zero n′ s ms es le e = let z : _≡_ {A = ℕ} 0 1 = cc in absurd (omega arith)
-  entries-more (suc n) zero s ms es le e = absurd (not-suc-le-zero le)
-  entries-more (suc n) (suc n′) [] ms es le e = e
-  entries-more (suc n) (suc n′) (b ∷ bs) ms es le e = go (getEntry sub (b ∷ bs)) (λ r ns fs h. entries-more n n′ r ns fs (le-of-suc-le-suc le) h) e
-    where
-      inner : (r r′ : Reading) (ns : List Mark) (xs : List Error) (k : ℕ) → ((os : List Mark) (fs : List Error) → r ≡ read os fs → r′ ≡ read os fs) → following ns xs k r ≡ read ms es → following ns xs k r′ ≡ read ms es
-      inner (read os fs) r′ ns xs k f g = ap (following ns xs k) (f os fs refl) ∙ g
-      inner (refused j) r′ ns xs k f g = let z : _≡_ {A = ℕ} 0 1 = cc in absurd (omega arith)
-
-      body : ℕ → Out Entry → Reading
-      body m o = elim o [
-        | ok e ms k ↦
-            let gap = skipBlankBlock (drop k (b ∷ bs)) in
-            let rest = drop (k + usedBy gap) (b ∷ bs) in
-            following (node (kindOfEntry e (ltb (count gap) 2 && isNamed (getEntry sub rest))) ms) [] (k + usedBy gap) (entries m sub rest)
-        | bad f k ↦
-            let j = junkEnd k (b ∷ bs) in
-            let gap = skipBlankBlock (drop j (b ∷ bs)) in
-            following (textNode 7 0 j) (record { fault = f; junkFrom = 0; junkTill = j } ∷ []) (j + usedBy gap) (entries m sub (drop (j + usedBy gap) (b ∷ bs)))
-        | deep k ↦ refused k
-      ]
-
-      go : (o : Out Entry) → ((r : List ℕ) (ns : List Mark) (fs : List Error) → entries n sub r ≡ read ns fs → entries n′ sub r ≡ read ns fs) → body n o ≡ read ms es → body n′ o ≡ read ms es
-      go (ok d ns k) f h =
-          let gap = skipBlankBlock (drop k (b ∷ bs)) in
-          let r = drop (k + usedBy gap) (b ∷ bs) in
-          inner (entries n sub r) (entries n′ sub r) (node (kindOfEntry d (ltb (count gap) 2 && isNamed (getEntry sub r))) ns) [] (k + usedBy gap) (f r) h
-      go (bad x k) f h =
-          let j = junkEnd k (b ∷ bs) in
-          let gap = skipBlankBlock (drop j (b ∷ bs)) in
-          let r = drop (j + usedBy gap) (b ∷ bs) in
-          inner (entries n sub r) (entries n′ sub r) (textNode 7 0 j) (record { fault = x; junkFrom = 0; junkTill = j } ∷ []) (j + usedBy gap) (f r) h
-      go (deep k) f h = h
 
 -- ---- blank blocks
 

@@ -1,12 +1,11 @@
 -- A file's entries, one by one. `First`: the entry or junk at the start of a rest, with the blank lines after it. `Passed`: some first entries of a
 -- rest. What a reading has, it has part way: its marks, its errors and where it stands are bounded by the bytes passed.
-use Prim.Native.Nat.{ℕ, zero, suc, _+_, _-_, _*_, _≤_, _<_}
-use native.Mathlib.Nat.{not-suc-le-zero, add-assoc}
+use Prim.Native.Nat.{ℕ, zero, suc, _+_, _≤_, _<_}
+use native.Mathlib.Nat.{not-suc-le-zero, le-of-suc-le-suc}
 use native.Mathlib.Omega.{arith}
-use mathlib.Core.Path.{_≡_, refl, sym, ap, ap₂, _∙_, subst}
-use mathlib.Core.Logic.{_⊎_, inl, inr}
+use mathlib.Core.Path.{_≡_, refl, sym, ap, _∙_, subst}
 use mathlib.Core.Bool.{Bool, true, false, _&&_, _||_, not}
-use mathlib.Core.List.{List, [], _∷_, _++_, map, append-nil}
+use mathlib.Core.List.{List, [], _∷_, _++_, map}
 use lib.ListN.{drop, length, length-append, length-drop, length-map}
 use lib.Seq.{drop-drop}
 use lib.Dec.{eqb, ltb}
@@ -17,12 +16,12 @@ use Rattle.syntax.specs.Marks.{Mark, moveUp, node, textNode}
 use Rattle.syntax.specs.declared.errors.ParserError.{ParserError}
 use Rattle.syntax.specs.Reader.{Out, ok, bad, deep, repeat}
 use Rattle.syntax.specs.Helper.{skipBlankBlock}
-use Rattle.syntax.specs.Comment.{levelOf, getComment, commentTurn}
+use Rattle.syntax.specs.Comment.{levelOf, getComment}
 use Rattle.syntax.specs.Pattern.{Inside, usedBy}
 use Rattle.syntax.specs.Expression.{level}
 use Rattle.syntax.specs.Core.{Fields, fields, termFields, Entry, comment, message, term, asMessage, asTerm, asComment, getEntry, junkEnd, Error, upError, Reading, read, refused, following, isNamed, count, kindOfEntry, entries, parse}
-use Rattle.laws.specs.Bytes.{byCase, pick}
-use Rattle.laws.specs.Stable.{Holds, holds-map}
+use Rattle.laws.specs.Bytes.{pick}
+use Rattle.laws.specs.Answers.{Holds, holds-map}
 use Rattle.laws.specs.Lines.Join.{Levelled, levelled}
 use Rattle.laws.specs.Balanced.{Kind, forest-more}
 use Rattle.laws.specs.Bounds.{Uses, uses-nil, uses-text, uses-less, uses-after, uses-node, ok-uses, bad-within, deep-within}
@@ -126,6 +125,20 @@ module _ {n : ℕ} {sub : Inside} (law : InsideBounds n sub) where
 
 -- ---- the whole
 
+-- a reading that is not refused is kept
+pub data ReadKept (r : Reading) : Reading → Type 0 where
+  sameReading : ReadKept r r
+  lostReading : {r′ : Reading} (k : ℕ) → r ≡ refused k → ReadKept r r′
+
+pub following-kept : {r r′ : Reading} (ms : List Mark) (es : List Error) (k : ℕ) → ReadKept r r′ → ReadKept (following ms es k r) (following ms es k r′)
+unfolding following
+following-kept ms es k sameReading = sameReading
+following-kept ms es k (lostReading j e) = lostReading (k + j) (ap (following ms es k) e)
+
+pub read-kept : {r r′ : Reading} {ms : List Mark} {es : List Error} → ReadKept r r′ → r ≡ read ms es → r′ ≡ read ms es
+read-kept sameReading e = e
+read-kept (lostReading k d) e = let z : _≡_ {A = ℕ} 0 1 = cc in absurd (omega arith)
+
 module _ (sub : Inside) where
   pub entries-first : (m : ℕ) {b : ℕ} {bs : List ℕ} {ms : List Mark} {es : List Error} {k : ℕ} → First sub (b ∷ bs) ms es k
       → entries (suc m) sub (b ∷ bs) ≡ following ms es k (entries m sub (drop k (b ∷ bs)))
@@ -150,6 +163,20 @@ module _ (sub : Inside) where
   unfolding entries
   entries-far m b bs h = rw (h, entries)
 
+  -- a reading that is not refused is the same with more entries allowed
+  pub entries-more : (m m′ : ℕ) (s : List ℕ) (ms : List Mark) (es : List Error) → m ≤ m′ → entries m sub s ≡ read ms es → entries m′ sub s ≡ read ms es
+  entries-more m m′ s ms es l e = read-kept (go m m′ s l) e
+    where
+      go : (m m′ : ℕ) (s : List ℕ) → m ≤ m′ → ReadKept (entries m sub s) (entries m′ sub s)
+      go zero m′ s l = unfold entries in (lostReading 0 refl)
+      go (suc m) zero s l = absurd (not-suc-le-zero l)
+      go (suc m) (suc m′) [] l = unfold entries in sameReading
+      go (suc m) (suc m′) (b ∷ bs) l = by (begins b bs) (λ r. go m m′ r (le-of-suc-le-suc l))
+        where
+          by : Begins b bs → ((r : List ℕ) → ReadKept (entries m sub r) (entries m′ sub r)) → ReadKept (entries (suc m) sub (b ∷ bs)) (entries (suc m′) sub (b ∷ bs))
+          by (first {ms} {es} {k} f) ih = rw (entries-first m f, entries-first m′ f) (following-kept ms es k (ih (drop k (b ∷ bs))))
+          by (far {k} h) ih = rw (entries-far m b bs h, entries-far m′ b bs h) sameReading
+
   -- a reading: all entries are passed, or the one after those passed is too deep
   pub data Result (s : List ℕ) : Reading → Type 0 where
     all : {ms : List Mark} {es : List Error} → Passed sub s ms es (length s) → Result s (read ms es)
@@ -167,7 +194,8 @@ module _ {n : ℕ} {sub : Inside} (law : InsideBounds n sub) where
   entries-fuel (suc m) (suc m′) [] l l′ = refl
   entries-fuel (suc m) (suc m′) (b ∷ bs) l l′ = go (begins sub b bs) (λ r h h′. entries-fuel m m′ r h h′)
     where
-      go : Begins sub b bs → ((r : List ℕ) → length r < m → length r < m′ → entries m sub r ≡ entries m′ sub r) → entries (suc m) sub (b ∷ bs) ≡ entries (suc m′) sub (b ∷ bs)
+      go : Begins sub b bs → ((r : List ℕ) → length r < m → length r < m′ → entries m sub r ≡ entries m′ sub r)
+          → entries (suc m) sub (b ∷ bs) ≡ entries (suc m′) sub (b ∷ bs)
       go (first {ms} {es} {k} f) ih = entries-first sub m f ∙ ap (following ms es k) (ih (drop k (b ∷ bs)) (shorter m f l) (shorter m′ f l′)) ∙ sym (entries-first sub m′ f)
       go (far h) ih = entries-far sub m b bs h ∙ sym (entries-far sub m′ b bs h)
 
@@ -177,7 +205,8 @@ module _ {n : ℕ} {sub : Inside} (law : InsideBounds n sub) where
   entries-result (suc m) [] l = all none
   entries-result (suc m) (b ∷ bs) l = go (begins sub b bs) (λ r h. entries-result m r h)
     where
-      step : {ms : List Mark} {es : List Error} {k : ℕ} → First sub (b ∷ bs) ms es k → (r : Reading) → Result sub (drop k (b ∷ bs)) r → Result sub (b ∷ bs) (following ms es k r)
+      step : {ms : List Mark} {es : List Error} {k : ℕ} → First sub (b ∷ bs) ms es k → (r : Reading) → Result sub (drop k (b ∷ bs)) r
+          → Result sub (b ∷ bs) (following ms es k r)
       step {ms} {es} {k} f (read ns fs) (all p) =
           let u = first-uses law f .0 in
           let e : k + length (drop k (b ∷ bs)) ≡ length (b ∷ bs) = omega (arith, u .within, length-drop k (b ∷ bs)) in

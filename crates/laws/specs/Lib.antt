@@ -1,16 +1,36 @@
--- Laws of the definitions.
+-- Laws of the definitions, for the proofs of code and of theorems to cite. All that a file's reading has is stated in File.
+
+-- tests on bytes; sources that end in a newline, and what follows a cut
 pub mod Bytes
+-- moving up composes and distributes; sequencing associates
 pub mod Moving
+-- what holds of an answer, by its parts
+pub mod Answers
+-- which values inline expressions have
+pub mod Values
+-- `repeat` is a turn, and then `repeat`
 pub mod Loop
-pub mod Stable
-pub mod Entries
-pub mod Progress
-pub mod File
+-- marks make nodes; T kinds alone have places
 pub mod Balanced
+-- every answer is within the bytes there are, with eight marks at most for each, and too deep only past as many openings as are allowed
 pub mod Bounds
+-- junk uses a byte
+pub mod Progress
+-- a file's entries one by one, and its reading
+pub mod File
+-- with more openings allowed, what was not too deep is the same
 pub mod Limit
+-- where lines start; that entries start there
 pub mod Lines
+-- what readers answer at a cut
+pub mod Stable
+-- readings without junk, and the last line, at a cut
+pub mod Entries
+-- what stands in the words of a tree and of a list of errors is read back from them
 pub mod Layout
+-- a reading call that is accepted
 pub mod Call
+-- mark lists that are well formed, and the value of refusal 6
 pub mod Shape
+-- the marks of a reading are well formed
 pub mod Formed

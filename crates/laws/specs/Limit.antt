@@ -1,7 +1,7 @@
 -- With more openings allowed a reading that is not too deep is the same. (That a limit of the file's length is enough is `parse-reads` of File.)
 pub mod Readers
 pub mod Readings
-use Prim.Native.Nat.{ℕ, zero, suc, _+_, _≤_}
+use Prim.Native.Nat.{ℕ, zero, suc, _+_}
 use native.Mathlib.Omega.{arith}
 use mathlib.Core.Path.{_≡_, refl, ap, _∙_}
 use mathlib.Core.List.{List}

@@ -1,9 +1,9 @@
 -- Loops: `repeat` is one turn and then `repeat` from where it ends. As each turn uses a byte, the turns that are allowed never run out.
 pub mod Turns
-use Prim.Native.Nat.{ℕ, zero, suc, _+_, _≤_, _<_}
-use native.Mathlib.Nat.{not-suc-le-zero, le-of-suc-le-suc}
+use Prim.Native.Nat.{ℕ, zero, suc, _≤_, _<_}
+use native.Mathlib.Nat.{not-suc-le-zero}
 use native.Mathlib.Omega.{arith}
-use mathlib.Core.Path.{_≡_, refl, ap, _∙_, subst}
+use mathlib.Core.Path.{_≡_, refl, ap, subst}
 use mathlib.Core.List.{List}
 use lib.ListN.{drop, length, length-drop}
 use Rattle.syntax.specs.Marks.{Mark}
@@ -33,7 +33,8 @@ module _ {S A : Type 0} {turn : S → List ℕ → Turn S A} where
       go (again st′ ms k) h f = ap (after ms k) (f st′ (drop k s) (omega (arith, length-drop k s)) (omega (arith, length-drop k s)))
       go (done o) h f = refl
 
-  pub repeat-again : Moves turn → (st : S) (s : List ℕ) {st′ : S} {ms : List Mark} {k : ℕ} → turn st s ≡ again st′ ms k → repeat turn st s ≡ after ms k (repeat turn st′ (drop k s))
+  pub repeat-again : Moves turn → (st : S) (s : List ℕ) {st′ : S} {ms : List Mark} {k : ℕ} → turn st s ≡ again st′ ms k
+      → repeat turn st s ≡ after ms k (repeat turn st′ (drop k s))
   unfolding repeat loop
   repeat-again m st s {st′} {ms} {k} e =
       let h = turn-moves m st s e in

@@ -1,9 +1,8 @@
 -- Moving up composes and distributes over marks, errors, answers and readings; sequencing of readers associates.
-use Prim.Native.Nat.{ℕ, zero, suc, _+_}
-use native.Mathlib.Omega.{arith}
-use native.Mathlib.Nat.{add-assoc, zero-add, add-zero}
-use mathlib.Core.Path.{_≡_, refl, sym, ap, ap₂, _∙_, subst}
-use mathlib.Core.List.{List, [], _∷_, _++_, map, append-nil, append-assoc}
+use Prim.Native.Nat.{ℕ, _+_}
+use native.Mathlib.Nat.{add-assoc, zero-add}
+use mathlib.Core.Path.{_≡_, refl, sym, ap, ap₂, _∙_}
+use mathlib.Core.List.{List, [], _∷_, _++_, map, append-assoc}
 use lib.ListN.{drop, length, length-map}
 use lib.Seq.{drop-drop}
 use Rattle.syntax.specs.declared.errors.ErrorKind.the-variants as Errors
@@ -11,7 +10,7 @@ use Rattle.syntax.specs.Marks.{Mark, plain, placed, up, moveUp}
 use Rattle.syntax.specs.declared.errors.ErrorKind.{ErrorKind}
 use Rattle.syntax.specs.declared.errors.ParserError.{ParserError}
 use Rattle.syntax.specs.Errors.{upKind, upFault}
-use Rattle.syntax.specs.Reader.{Out, ok, bad, deep, Reader, after, next, _>>=_, _>>_, pure}
+use Rattle.syntax.specs.Reader.{Out, ok, bad, deep, Reader, after, next, _>>=_, _>>_}
 use Rattle.syntax.specs.Core.{Error, upError, Reading, read, refused, following}
 
 pub map-append : {A B : Type 0} (f : A → B) (xs ys : List A) → map f (xs ++ ys) ≡ map f xs ++ map f ys
@@ -131,7 +130,8 @@ after-none (ok a ms k) = ap₂ (ok a) (moveUp-zero ms) (zero-add k)
 after-none (bad f k) = ap₂ bad (upFault-zero f) (zero-add k)
 after-none (deep k) = ap deep (zero-add k)
 
-errors-after : (es : List Error) (k : ℕ) (fs : List Error) (j : ℕ) (gs : List Error) → es ++ map (upError k) (fs ++ map (upError j) gs) ≡ (es ++ map (upError k) fs) ++ map (upError (k + j)) gs
+errors-after : (es : List Error) (k : ℕ) (fs : List Error) (j : ℕ) (gs : List Error)
+    → es ++ map (upError k) (fs ++ map (upError j) gs) ≡ (es ++ map (upError k) fs) ++ map (upError (k + j)) gs
 errors-after es k fs j gs = ap (λ r. es ++ r) (map-append (upError k) fs (map (upError j) gs) ∙ ap (λ r. map (upError k) fs ++ r) (upErrors-twice k j gs)) ∙ sym (append-assoc es (map (upError k) fs) (map (upError (k + j)) gs))
 
 pub following-twice : (ms : List Mark) (es : List Error) (k : ℕ) (ns : List Mark) (fs : List Error) (j : ℕ) (r : Reading)

@@ -1,29 +1,26 @@
 -- Reading that fails where an entry may start stops past the first byte, so that junk uses a byte.
-use Prim.Native.Nat.{ℕ, zero, suc, _+_, _-_, _≤_, _<_, min}
-use native.Mathlib.Nat.{not-suc-le-zero, le-of-suc-le-suc}
+use Prim.Native.Nat.{ℕ, zero, suc, _<_}
+use native.Mathlib.Nat.{not-suc-le-zero}
 use native.Mathlib.Omega.{arith}
-use mathlib.Core.Path.{_≡_, refl, sym, ap, _∙_, subst}
-use mathlib.Core.Logic.{_⊎_, inl, inr}
-use mathlib.Core.Bool.{Bool, true, false, _&&_, _||_, not}
-use mathlib.Core.List.{List, [], _∷_, _++_}
-use lib.ListN.{drop, length, length-drop}
+use mathlib.Core.Path.{_≡_, refl, subst}
+use mathlib.Core.Bool.{true, false, _||_, not}
+use mathlib.Core.List.{List, [], _∷_}
+use lib.ListN.{drop}
 use lib.Dec.{eqb, ltb}
 use borrow.Author.Tests.{ne-eqb}
-use Rattle.syntax.specs.Bytes.{startsWith, starts, isLetter, isDigit, isNamePart, run, eol}
-use Rattle.syntax.specs.Marks.{Mark, node, textNode}
+use Rattle.syntax.specs.Bytes.{startsWith, starts, isLetter, eol}
+use Rattle.syntax.specs.Marks.{Mark}
 use Rattle.syntax.specs.declared.errors.ParserError.{ParserError}
-use Rattle.syntax.specs.Reader.{Out, ok, bad, deep, Reader, fail, next, _>>=_, _>>_, after, Turn, again, done, loop, repeat}
-use Rattle.syntax.specs.Helper.{skipBlankBlock, expectByte, getIdentifier}
-use Rattle.syntax.specs.Comment.{levelOf, lineRead, lineTurn, commentTurn, getComment, lineLength, lineEndUsed}
-use Rattle.syntax.specs.Pattern.{Inside, usedBy}
-use Rattle.syntax.specs.Expression.{level}
-use Rattle.syntax.specs.Core.{Fields, fields, termFields, Entry, asMessage, asTerm, asComment, getEntry, toNextEntry, lineStartsAt, junkEnd, Error, Reading, read, refused, following, isNamed, count, kindOfEntry, entries, parse}
+use Rattle.syntax.specs.Reader.{Out, ok, bad, deep, Reader, fail, next, _>>=_, _>>_, after, Turn, again, done, repeat}
+use Rattle.syntax.specs.Helper.{expectByte, getIdentifier}
+use Rattle.syntax.specs.Comment.{levelOf, lineRead, lineTurn, commentTurn, getComment}
+use Rattle.syntax.specs.Pattern.{Inside}
+use Rattle.syntax.specs.Core.{Fields, fields, termFields, asMessage, asTerm, asComment, getEntry, toNextEntry, lineStartsAt, junkEnd}
 use Rattle.laws.specs.Bytes.{isFresh, byCase, clash, pick}
 use Rattle.laws.specs.Loop.{turn-moves, repeat-again, repeat-done}
 use Rattle.laws.specs.Loop.Turns.{commentTurn-moves}
 use Rattle.laws.specs.Bounds.Helper.{name-some}
 use Rattle.laws.specs.Bounds.Comment.{levelOf-some}
-use Rattle.laws.specs.Entries.{no-entry}
 
 -- an answer, or an error, past the first byte
 abbrev Moved : {A : Type 0} → Out A → Type 0

@@ -9,22 +9,18 @@ pub mod Argument
 pub mod Expression
 pub mod Entry
 pub mod Comment
-use Prim.Native.Nat.{ℕ, zero, suc, _+_, _-_, _≤_, _<_, suc-le-suc}
+use Prim.Native.Nat.{ℕ, zero, suc, _+_, _-_, _≤_, _<_}
 use native.Mathlib.Nat.{le-of-suc-le-suc, not-suc-le-zero}
 use native.Mathlib.Omega.{arith}
 use mathlib.Core.Path.{_≡_, refl, sym, ap, _∙_, subst}
-use mathlib.Core.Bool.{Bool, true, false, _&&_, _||_, not}
 use mathlib.Core.List.{List, [], _∷_, _++_, append-nil}
-use lib.ListN.{drop, length, take, length-drop, length-append}
-use lib.Dec.{eqb, ltb}
-use borrow.Author.Tests.{eqb-true, eqb-false, ltb-true, ltb-false}
-use Rattle.syntax.specs.Bytes.{startsWith}
-use Rattle.syntax.specs.Marks.{Mark, moveUp, node}
+use lib.ListN.{drop, length, length-drop, length-append}
+use Rattle.syntax.specs.Marks.{Mark, node}
 use Rattle.syntax.specs.declared.errors.ErrorKind.{ErrorKind}
 use Rattle.syntax.specs.declared.errors.ParserError.{ParserError}
-use Rattle.syntax.specs.Errors.{upFault}
 use Rattle.syntax.specs.Reader.{Out, ok, bad, deep, Reader, after, next, _>>=_, _>>_, pure, fail, wrap, inNode, Turn, again, done, turnOf, loop, repeat}
-use Rattle.laws.specs.Bytes.{Whole, whole-drop, Fresh, Stop, byCase, clash, drop-app}
+use Rattle.laws.specs.Answers.{Holds, holds-map, holds-after, Takes, takes-next}
+use Rattle.laws.specs.Bytes.{Whole, whole-drop, Fresh, Stop, drop-app}
 
 pub data Mode : Type 0 where
   loose fresh any none : Mode
@@ -54,23 +50,6 @@ upto-rest fresh y x k j u = (rw length-drop (omega arith), u .1)
 upto-rest any y x k j u = rw length-drop (omega arith)
 upto-rest none y x k j u = u
 
--- what holds of an answer, if it is ok
-abbrev pub Holds : {A : Type 0} → (A → List Mark → ℕ → Type 0) → Out A → Type 0
-Holds P (ok a ms k) = P a ms k
-Holds P (bad f k) = Unit {0}
-Holds P (deep k) = Unit {0}
-
-pub holds-map : {A : Type 0} (P Q : A → List Mark → ℕ → Type 0) → ((a : A) (ms : List Mark) (k : ℕ) → P a ms k → Q a ms k) → (o : Out A) → Holds P o → Holds Q o
-holds-map P Q f (ok a ms k) h = f a ms k h
-holds-map P Q f (bad e k) h = tt
-holds-map P Q f (deep k) h = tt
-
-holds-after : {A : Type 0} (P Q : A → List Mark → ℕ → Type 0) (ms : List Mark) (k : ℕ) → ((a : A) (ns : List Mark) (j : ℕ) → P a ns j → Q a (ms ++ moveUp k ns) (k + j)) → (o : Out A) → Holds P o → Holds Q (after ms k o)
-unfolding after
-holds-after P Q ms k f (ok a ns j) h = f a ns j h
-holds-after P Q ms k f (bad e j) h = tt
-holds-after P Q ms k f (deep j) h = tt
-
 abbrev pub Within : {A : Type 0} → ℕ → Out A → Type 0
 Within n o = Holds (λ a ms k. k ≤ n) o
 
@@ -78,10 +57,6 @@ abbrev pub Carries : {A : Type 0} → (ℕ → Type 0) → Out A → Out A → T
 Carries N (ok a ms k) o = N k → o ≡ ok a ms k
 Carries N (bad f k) o = Unit {0}
 Carries N (deep k) o = Unit {0}
-
--- an answer that used some bytes
-abbrev pub Takes : {A : Type 0} → Out A → Type 0
-Takes o = Holds (λ a ms k. 0 < k) o
 
 abbrev pub KeepsAt : {A : Type 0} → Mode → Reader A → List ℕ → List ℕ → Type 0
 KeepsAt m p x y = Carries (Upto m y (length x)) (p x) (p (x ++ y))
@@ -111,9 +86,6 @@ from-any m {p} r = record { stops = r .stops; keeps = λ x y w. weaker (Upto any
 pub after-within : {A : Type 0} (n k : ℕ) (ms : List Mark) (o : Out A) → k ≤ n → Within (n - k) o → Within n (after ms k o)
 after-within n k ms o h w = holds-after (λ a ns j. j ≤ n - k) (λ a ns j. j ≤ n) ms k (λ a ns j g. omega arith) o w
 
-takes-after : {A : Type 0} (k : ℕ) (ms : List Mark) (o : Out A) → Takes o → Takes (after ms k o)
-takes-after k ms o t = holds-after (λ a ns j. 0 < j) (λ a ns j. 0 < j) ms k (λ a ns j g. omega arith) o t
-
 takes-upto : {B : Type 0} (y : List ℕ) (n k j : ℕ) (b : B) (ns : List Mark) (o : Out B) → Takes o → o ≡ ok b ns j → k + j ≤ n → k < n
 takes-upto y n k j b ns (ok a ms i) t e u = let h : i ≡ j = cc in omega arith
 takes-upto y n k j b ns (bad f i) t e u = let z : _≡_ {A = ℕ} 0 1 = cc in absurd (omega arith)
@@ -128,7 +100,8 @@ module _ {A B : Type 0} where
   next-within x y q (deep k) h g = tt
 
   pub next-ok : (N : ℕ → Type 0) (x y : List ℕ) (q : A → Reader B) (a : A) (ms : List Mark) (k : ℕ) (o′ : Out A) (w : Out B)
-      → ((j : ℕ) → N (k + j) → k ≤ length x) → Carries (λ j. N (k + j)) w (q a (drop k x ++ y)) → ((b : B) (ns : List Mark) (j : ℕ) → w ≡ ok b ns j → N (k + j) → o′ ≡ ok a ms k)
+      → ((j : ℕ) → N (k + j) → k ≤ length x) → Carries (λ j. N (k + j)) w (q a (drop k x ++ y))
+      → ((b : B) (ns : List Mark) (j : ℕ) → w ≡ ok b ns j → N (k + j) → o′ ≡ ok a ms k)
       → Carries N (after ms k w) (next (x ++ y) q o′)
   unfolding next after
   next-ok N x y q a ms k o′ (ok b ns j) le c e =
@@ -159,12 +132,6 @@ module _ {A B : Type 0} where
   pub then : {m : Mode} {p : Reader A} {q : Reader B} → Reads m p → Reads m q → Reads m (p >> q)
   unfolding _>>=_ _>>_
   then {m} {p} {q} r f = bind {q = λ _. q} r (λ _. f)
-
-  pub takes-next : (s : List ℕ) (q : A → Reader B) (o : Out A) → ((a : A) (r : List ℕ) → Takes (q a r)) → Takes (next s q o)
-  unfolding next
-  takes-next s q (ok a ms k) t = takes-after k ms (q a (drop k s)) (t a (drop k s))
-  takes-next s q (bad f k) t = tt
-  takes-next s q (deep k) t = tt
 
   pub bind-closes : {p : Reader A} {q : A → Reader B} → Reads loose p → ((a : A) → Closes (q a)) → Closes (p >>= q)
   unfolding _>>=_
@@ -383,7 +350,8 @@ module _ {A B : Type 0} {m : Mode} {p : Reader A} {q : A → Reader B} where
       go x y w s (bad e k) h = tt
       go x y w s (deep k) h = tt
 
-      keep : (x y : List ℕ) → Whole x → (o o′ : Out A) → Short (length x) o → Carries (Upto m y (length x)) o o′ → Carries (Upto m y (length x)) (next x q o) (next (x ++ y) q o′)
+      keep : (x y : List ℕ) → Whole x → (o o′ : Out A) → Short (length x) o → Carries (Upto m y (length x)) o o′
+          → Carries (Upto m y (length x)) (next x q o) (next (x ++ y) q o′)
       keep x y w (ok a ms k) o′ h c =
           next-ok (Upto m y (length x)) x y q a ms k o′ (q a (drop k x)) (λ j u. upto-le m y (length x) k (upto-down m y (length x) k j u))
           (weaker (Upto m y (length (drop k x))) (λ j. Upto m y (length x) (k + j)) (λ j u. upto-rest m y x k j u) (q a (drop k x)) (q a (drop k x ++ y)) (inner-keeps (f a) (drop k x) y (rw length-drop (omega arith)) (whole-drop k x w)))
@@ -403,64 +371,6 @@ module _ {A B : Type 0} {m : Mode} {p : Reader A} {q : Reader B} where
   pub inner-then : Inner m p → Reads m q → Inner m (p >> q)
   unfolding _>>=_ _>>_
   inner-then r f = inner-bind {q = λ _. q} r (λ _. f)
-
--- what holds of a loop's answers, by its turns
-module _ {S A : Type 0} (t : S → List ℕ → Turn S A) (G : S → List ℕ → A → List Mark → ℕ → Type 0) where
-  abbrev pub TurnHolds : S → List ℕ → Turn S A → Type 0
-  TurnHolds st s (again st′ ms k) = (a : A) (ns : List Mark) (j : ℕ) → G st′ (drop k s) a ns j → G st s a (ms ++ moveUp k ns) (k + j)
-  TurnHolds st s (done o) = Holds (G st s) o
-
-  step-holds : (st : S) (s : List ℕ) (n : ℕ) (w : Turn S A) → TurnHolds st s w → ((st′ : S) (r : List ℕ) → Holds (G st′ r) (loop n t st′ r))
-      → Holds {A = A} (G st s) (elim w [ again st′ ms k ↦ after ms k (loop n t st′ (drop k s)) | done o ↦ o ])
-  unfolding after
-  step-holds st s n (again st′ ms k) h f = go (loop n t st′ (drop k s)) (f st′ (drop k s))
-    where
-      go : (o : Out A) → Holds (G st′ (drop k s)) o → Holds (G st s) (after ms k o)
-      go (ok a ns j) g = h a ns j g
-      go (bad e j) g = tt
-      go (deep j) g = tt
-  step-holds st s n (done o) h f = h
-
-  pub loop-holds : ((st : S) (s : List ℕ) → TurnHolds st s (t st s)) → (n : ℕ) (st : S) (s : List ℕ) → Holds (G st s) (loop n t st s)
-  unfolding loop
-  loop-holds h zero st s = tt
-  loop-holds h (suc n) st s = step-holds st s n (t st s) (h st s) (λ st′ r. loop-holds h n st′ r)
-
--- loops that end
-abbrev pub Sure : {A : Type 0} → Out A → Type 0
-Sure (ok a ms k) = Unit {0}
-Sure (bad f k) = ⊥
-Sure (deep k) = ⊥
-
-abbrev pub TurnSure : {S A : Type 0} → List ℕ → Turn S A → Type 0
-TurnSure s (again st ms k) = length (drop k s) < length s
-TurnSure s (done o) = Sure o
-
-pub sure-after : {A : Type 0} (ms : List Mark) (k : ℕ) (o : Out A) → Sure o → Sure (after ms k o)
-unfolding after
-sure-after ms k (ok a ns j) h = tt
-sure-after ms k (bad f j) h = absurd h
-sure-after ms k (deep j) h = absurd h
-
-module _ {S A : Type 0} (t : S → List ℕ → Turn S A) (h : (st : S) (s : List ℕ) → TurnSure s (t st s)) where
-  step-sure : (n : ℕ) (s : List ℕ) (w : Turn S A) → TurnSure s w → length s ≤ n → ((st : S) (r : List ℕ) → length r < n → Sure (loop n t st r))
-      → Sure {A = A} (elim w [ again st′ ms k ↦ after ms k (loop n t st′ (drop k s)) | done o ↦ o ])
-  step-sure n s (again st ms k) g l f = sure-after ms k (loop n t st (drop k s)) (f st (drop k s) (omega arith))
-  step-sure n s (done o) g l f = g
-
-  pub loop-sure : (n : ℕ) (st : S) (s : List ℕ) → length s < n → Sure (loop n t st s)
-  unfolding loop
-  loop-sure zero st s l = absurd (not-suc-le-zero l)
-  loop-sure (suc n) st s l = step-sure n s (t st s) (h st s) (omega arith) (λ st′ r k. loop-sure n st′ r k)
-
-  pub repeat-sure : (st : S) (s : List ℕ) → Sure (repeat t st s)
-  unfolding repeat
-  repeat-sure st s = loop-sure (suc (length s)) st s (omega arith)
-
-pub sure-ok : {A : Type 0} (o : Out A) → Sure o → (a : A) × (ms : List Mark) × (k : ℕ) × (o ≡ ok a ms k)
-sure-ok (ok a ms k) h = (a, ms, k, refl)
-sure-ok (bad f k) h = absurd h
-sure-ok (deep k) h = absurd h
 
 -- what follows k bytes and some marks
 module _ {A : Type 0} (p : Reader A) (r : Reads loose p) (x y : List ℕ) (w : Whole x) (ms : List Mark) (k : ℕ) where
@@ -501,13 +411,3 @@ pub beyond : {A : Type 0} (y : List ℕ) (n k : ℕ) (o o′ : Out A) → n ≤ 
 beyond y n k (ok a ms j) o′ l h = λ u. absurd (omega arith)
 beyond y n k (bad f j) o′ l h = tt
 beyond y n k (deep j) o′ l h = tt
-
--- what holds of every answer, whatever the marks and the bytes
-plain-after : {A : Type 0} (P : A → Type 0) (ms : List Mark) (k : ℕ) (o : Out A) → Holds (λ a ns j. P a) o → Holds (λ a ns j. P a) (after ms k o)
-plain-after P ms k o h = holds-after (λ a ns j. P a) (λ a ns j. P a) ms k (λ a ns j g. g) o h
-
-pub plain-next : {A B : Type 0} (P : B → Type 0) (s : List ℕ) (q : A → Reader B) (o : Out A) → ((a : A) (r : List ℕ) → Holds (λ b ns j. P b) (q a r)) → Holds (λ b ns j. P b) (next s q o)
-unfolding next
-plain-next P s q (ok a ms k) h = plain-after P ms k (q a (drop k s)) (h a (drop k s))
-plain-next P s q (bad f k) h = tt
-plain-next P s q (deep k) h = tt

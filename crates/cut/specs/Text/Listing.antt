@@ -18,7 +18,7 @@ use Rattle.syntax.specs.Pattern.{Inside, usedBy}
 use Rattle.syntax.specs.Core.{Entry, comment, message, term, getEntry, junkEnd, Error, upError, Reading, read, refused, following, isNamed, kindOfEntry, entries}
 use Rattle.syntax.specs.Serializer.{Node, nodes, nodesFrom}
 use Rattle.laws.specs.Bytes.{Whole, whole-drop, Fresh, byCase, clash}
-use Rattle.laws.specs.Stable.{Holds, sure-ok}
+use Rattle.laws.specs.Answers.{Holds, sure-ok}
 use Rattle.laws.specs.Stable.Helper.{block-sure}
 use Rattle.laws.specs.Entries.{following-read, entries-with, not-deep, Step, step-of, nil-named}
 use Rattle.cut.specs.Tree.Join.{and-false}

@@ -19,15 +19,18 @@ use Rattle.syntax.specs.Comment.{getComment, commentTurn}
 use Rattle.syntax.specs.Pattern.{Inside, usedBy}
 use Rattle.syntax.specs.Core.{Fields, fields, termFields, Entry, comment, message, term, asMessage, asTerm, asComment, getEntry, lineStartsAt, Error, upError, Reading, read, refused, following, isNamed, kindOfEntry, entries}
 use Rattle.laws.specs.Bytes.{Whole, whole-tail, whole-drop, Fresh, isFresh, Stop, stop-fresh, byCase, clash, drop-app}
-use Rattle.laws.specs.Stable.{Mode, loose, fresh, Within, Carries, Holds, Sure, sure-ok}
+use Rattle.laws.specs.Answers.{Holds, Sure, sure-ok}
+use Rattle.laws.specs.Stable.{Mode, loose, fresh, Within, Carries}
 use Rattle.laws.specs.Stable.Pattern.{InsideLaw, block-within, block-same}
 use Rattle.laws.specs.Stable.Helper.{block-sure}
 use Rattle.laws.specs.Stable.Entry.{dotted, Cut, entry-ends, entry-stops}
 use Rattle.laws.specs.Moving.{moveUp-append, moveUp-twice, moveUp-zero, upErrors-twice, upErrors-zero}
-use Rattle.laws.specs.Stable.Comment.{after-ok, OneLine, starts-add, starts-later, Cutting, before, newline, end, Goes, GoesBy, cutting}
+use Rattle.laws.specs.Lines.{starts-add, starts-later}
+use Rattle.laws.specs.Stable.Comment.{after-ok, OneLine, Cutting, before, newline, end, Goes, GoesBy, cutting}
 use Rattle.laws.specs.Lines.Join.{Own, Other, own-or-other}
 use Rattle.laws.specs.Lines.Lands.{Lands, whole-lands, block-lands, entry-lands}
-use Rattle.laws.specs.Entries.{lastLine-at, lastLine-drop, Tail, tail-of, following-read, read-read, map-nil, weight, weight-append, weight-up, weight-node, entries-with, junk-free, not-deep, Step, step-of, entries-more, block-fresh, block-ten, block-two, block-one, entry-comment, hash-named, nil-named, nil-entry, not-dotted}
+use Rattle.laws.specs.File.{entries-more}
+use Rattle.laws.specs.Entries.{lastLine-at, lastLine-drop, Tail, tail-of, following-read, read-read, map-nil, weight, weight-append, weight-up, weight-node, entries-with, junk-free, not-deep, Step, step-of, block-fresh, block-ten, block-two, block-one, entry-comment, hash-named, nil-named, nil-entry, not-dotted}
 use Rattle.syntax.specs.Cut.{lastLine, hashes, Joins}
 
 pub asComment-ok : (o : Out ℕ) (e : Entry) (ms : List Mark) (k : ℕ) → asComment o ≡ ok e ms k → (l : ℕ) × (e ≡ comment l) × (o ≡ ok l ms k)
@@ -117,7 +120,7 @@ module _ (sub : Inside) (law : InsideLaw sub) (y : List ℕ) (f : Fresh y) where
   named-way n b bs ma t w q =
       let le : t .k ≤ suc (length bs) = fits (suc (length bs)) (getEntry sub (b ∷ bs)) (t .e) (t .ms) (t .k) (t .entry) (subst (λ z. Within (suc (length bs)) (getEntry sub z)) (append-nil (b ∷ bs)) (entry-stops sub law b bs [] w tt q)) in
       kept (carried (Cut sub law (b ∷ bs)) (getEntry sub (b ∷ bs)) (getEntry sub ((b ∷ bs) ++ y)) (t .e) (t .ms) (t .k) (t .entry) (entry-ends sub law b bs y w f q) (le, not-dotted sub n (b ∷ bs) ma t))
-      le (inl (whole-lands b bs (t .k) w le (subst (Holds (λ e ms k. Lands (b ∷ bs) k)) (t .entry) (entry-lands sub (λ c cs. law .braced .takes (c ∷ cs)) (b ∷ bs) (unfold startsWith in q)))))
+      le (inl (whole-lands b bs (t .k) w le (subst (Holds (λ e ms k. Lands (b ∷ bs) k)) (t .entry) (entry-lands sub (law .bounds) (b ∷ bs) (unfold startsWith in q)))))
       (λ z. (λ h. apart (tail-of (b ∷ bs) w h) z, λ v w. settled sub b bs (t .e) (t .ms) (t .k) q (t .entry) (ltb (t .c) 2 && v) (ltb (t .c) 2 && w)))
     where
       go : (x z : List ℕ) → b ∷ bs ≡ x ++ z → Whole x → Stop z → 0 < length z → t .k + t .u ≡ length (b ∷ bs) → ⊥

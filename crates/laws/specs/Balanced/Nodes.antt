@@ -1,18 +1,16 @@
 -- Marks split into nodes.
-use Prim.Native.Nat.{ℕ, zero, suc, _+_, _-_, _≤_, _<_}
-use native.Mathlib.Nat.{not-suc-le-zero, zero-add, add-zero}
+use Prim.Native.Nat.{ℕ, suc, _+_, _-_, _<_}
+use native.Mathlib.Nat.{add-zero}
 use native.Mathlib.Omega.{arith}
 use mathlib.Core.Path.{_≡_, refl, sym, ap, ap₂, _∙_, subst}
-use mathlib.Core.Bool.{Bool, true, false, _&&_, _||_, not}
+use mathlib.Core.Bool.{Bool, true, false}
 use mathlib.Core.List.{List, [], _∷_, _++_, map, append-nil, append-assoc}
-use lib.ListN.{drop, length, take}
 use lib.Dec.{eqb, ltb}
-use borrow.Author.Tests.{eqb-true, eqb-false, ltb-true, ltb-false, le-ltb, lt-ltb, ne-eqb}
+use borrow.Author.Tests.{eqb-true, eqb-false, le-ltb, ne-eqb}
 use Rattle.syntax.specs.Marks.{Mark, plain, placed, kindOf, up, moveUp, node, textNode}
 use Rattle.syntax.specs.Serializer.{Node, outside, opened, into, closed, nodesFrom, nodes}
-use Rattle.laws.specs.Bytes.{byCase, clash}
-use Rattle.laws.specs.Moving.{map-append, moveUp-append}
-use Rattle.laws.specs.Balanced.{Levels}
+use Rattle.laws.specs.Moving.{moveUp-append}
+use Rattle.laws.specs.Balanced.{Levels, Opened}
 
 into-nil : (o : Node) → into o [] ≡ o
 into-nil o i = record { kind = o .kind; opening = o .opening; closing = o .closing; inner = append-nil (o .inner) i }
@@ -33,7 +31,7 @@ absorb : (ms xs : List Mark) (o : Node) (d j : ℕ) → 0 < d → Levels j ms �
 absorb [] xs o d j h l = ap (λ i. nodesFrom o (d + i) xs) l ∙ ap₂ (λ i z. nodesFrom z i xs) (add-zero d) (sym (into-nil o))
 absorb (m ∷ ms) xs o d j h l = go (ltb (kindOf m) 100) refl l (λ o i. absorb ms xs o d i h)
   where
-    go : (v : Bool) → ltb (kindOf m) 100 ≡ v → (elim v as (λ x. Type 0) [ true ↦ Levels (suc j) ms | false ↦ (0 < j) × Levels (j - 1) ms ]) → ((o : Node) (i : ℕ) → Levels i ms → nodesFrom o (d + i) (ms ++ xs) ≡ nodesFrom (into o ms) d xs)
+    go : (v : Bool) → ltb (kindOf m) 100 ≡ v → Opened v j ms → ((o : Node) (i : ℕ) → Levels i ms → nodesFrom o (d + i) (ms ++ xs) ≡ nodesFrom (into o ms) d xs)
         → nodesFrom o (d + j) (m ∷ (ms ++ xs)) ≡ nodesFrom (into o (m ∷ ms)) d xs
     go true q l f = let z : suc (d + j) ≡ d + suc j = omega arith in
         from-open o (d + j) m (ms ++ xs) q (omega arith) ∙ ap (λ i. nodesFrom (into o (m ∷ [])) i (ms ++ xs)) z ∙ f (into o (m ∷ [])) (suc j) l ∙ ap (λ z. nodesFrom z d xs) (into-into o m ms)
@@ -44,7 +42,8 @@ absorb (m ∷ ms) xs o d j h l = go (ltb (kindOf m) 100) refl l (λ o i. absorb 
 abbrev pub nodeOf : ℕ → List Mark → Node
 nodeOf k ms = record { kind = k; opening = plain k; closing = plain (100 + k); inner = ms }
 
-top : (m c : Mark) (ms xs : List Mark) → ltb (kindOf m) 100 ≡ true → ltb (kindOf c) 100 ≡ false → Levels 0 ms → nodes (m ∷ (ms ++ (c ∷ xs))) ≡ closed (into (opened m) ms) c ∷ nodes xs
+top : (m c : Mark) (ms xs : List Mark) → ltb (kindOf m) 100 ≡ true → ltb (kindOf c) 100 ≡ false → Levels 0 ms
+    → nodes (m ∷ (ms ++ (c ∷ xs))) ≡ closed (into (opened m) ms) c ∷ nodes xs
 unfolding nodes nodesFrom
 top m c ms xs p q l = rw (p, nodes, nodesFrom) (absorb ms (c ∷ xs) (opened m) 1 0 (omega arith) l ∙ rw (q, nodesFrom) refl)
 
@@ -52,7 +51,8 @@ pub nodes-node : (k : ℕ) (ms xs : List Mark) → ltb k 100 ≡ true → Levels
 unfolding node
 nodes-node k ms xs q l = ap (λ z. nodes (plain k ∷ z)) (append-assoc ms (plain (100 + k) ∷ []) xs) ∙ top (plain k) (plain (100 + k)) ms xs q (le-ltb (100 + k) 100 (omega arith)) l
 
-pub nodes-text : (k a e : ℕ) (xs : List Mark) → ltb k 100 ≡ true → nodes (textNode k a e ++ xs) ≡ record { kind = k; opening = placed k a; closing = placed (100 + k) e; inner = [] } ∷ nodes xs
+pub nodes-text : (k a e : ℕ) (xs : List Mark) → ltb k 100 ≡ true
+    → nodes (textNode k a e ++ xs) ≡ record { kind = k; opening = placed k a; closing = placed (100 + k) e; inner = [] } ∷ nodes xs
 unfolding textNode
 nodes-text k a e xs q = top (placed k a) (placed (100 + k) e) [] xs q (le-ltb (100 + k) 100 (omega arith)) refl
 
@@ -70,7 +70,8 @@ pickFrom u v w o d m ms = elim u [
   | false ↦ elim w [ true ↦ closed o m ∷ nodesFrom outside 0 ms | false ↦ nodesFrom (into o (m ∷ [])) (d - 1) ms ]
 ]
 
-from-step : (u v w : Bool) (o : Node) (d : ℕ) (m : Mark) (k : ℕ) (ms : List Mark) → ((z : Node) (i : ℕ) → nodesFrom (upNode k z) i (moveUp k ms) ≡ map (upNode k) (nodesFrom z i ms)) → opened (up k m) ≡ upNode k (opened m)
+from-step : (u v w : Bool) (o : Node) (d : ℕ) (m : Mark) (k : ℕ) (ms : List Mark)
+    → ((z : Node) (i : ℕ) → nodesFrom (upNode k z) i (moveUp k ms) ≡ map (upNode k) (nodesFrom z i ms)) → opened (up k m) ≡ upNode k (opened m)
     → pickFrom u v w (upNode k o) d (up k m) (moveUp k ms) ≡ map (upNode k) (pickFrom u v w o d m ms)
 unfolding moveUp
 from-step true true w o d m k ms f e = ap (λ z. nodesFrom z 1 (moveUp k ms)) e ∙ f (opened m) 1
@@ -109,7 +110,8 @@ module _ (P : ℕ → Type 0) where
   ok-snoc [] m a b = (b, tt)
   ok-snoc (x ∷ xs) m a b = (a .0, ok-snoc xs m (a .1) b)
 
-  ok-pick : (u v w : Bool) (o : Node) (d : ℕ) (m : Mark) (ms : List Mark) → OkNode o → OkMark m → ((z : Node) (i : ℕ) → OkNode z → OkNodes (nodesFrom z i ms)) → OkNodes (pickFrom u v w o d m ms)
+  ok-pick : (u v w : Bool) (o : Node) (d : ℕ) (m : Mark) (ms : List Mark) → OkNode o → OkMark m → ((z : Node) (i : ℕ) → OkNode z → OkNodes (nodesFrom z i ms))
+      → OkNodes (pickFrom u v w o d m ms)
   ok-pick true true w o d m ms a b f = f (opened m) 1 (b, tt, tt)
   ok-pick true false w o d m ms a b f = f (into o (m ∷ [])) (suc d) (a .0, a .1, ok-snoc (o .inner) m (a .2) b)
   ok-pick false v true o d m ms a b f = ((a .0, b, a .2), f outside 0 (tt, tt, tt))
@@ -125,7 +127,7 @@ module _ (P : ℕ → Type 0) where
   ok-nodes ms a = ok-from outside 0 ms (tt, tt, tt) a
 
 -- the nodes of marks that close all they open, and of what follows them
-split-pick : (u v w : Bool) (o : Node) (d : ℕ) (m : Mark) (ms xs : List Mark) → eqb d 0 ≡ v → eqb d 1 ≡ w → (elim u as (λ x. Type 0) [ true ↦ Levels (suc d) ms | false ↦ (0 < d) × Levels (d - 1) ms ])
+split-pick : (u v w : Bool) (o : Node) (d : ℕ) (m : Mark) (ms xs : List Mark) → eqb d 0 ≡ v → eqb d 1 ≡ w → Opened u d ms
     → ((z : Node) (i : ℕ) → Levels i ms → (i ≡ 0 → z ≡ outside) → nodesFrom z i (ms ++ xs) ≡ nodesFrom z i ms ++ nodes xs)
     → pickFrom u v w o d m (ms ++ xs) ≡ pickFrom u v w o d m ms ++ nodes xs
 split-pick true true w o d m ms xs p q l f = f (opened m) 1 (subst (λ i. Levels (suc i) ms) (eqb-true d 0 p) l) (λ e. absurd (omega arith))

@@ -1,12 +1,12 @@
 -- comment.rs within bounds.
-use Prim.Native.Nat.{ℕ, zero, suc, _+_, _-_, _≤_, _<_, suc-le-suc}
+use Prim.Native.Nat.{ℕ, suc, _+_, _-_, _≤_, _<_, suc-le-suc}
 use native.Mathlib.Omega.{arith}
 use mathlib.Core.Path.{_≡_, refl}
-use mathlib.Core.Bool.{true, false, _&&_, _||_, not}
+use mathlib.Core.Bool.{Bool, _||_, true, false, _&&_, not}
 use mathlib.Core.List.{List, [], _∷_}
 use lib.ListN.{drop, length, length-drop}
 use lib.Dec.{eqb, ltb}
-use borrow.Author.Tests.{eqb-true, eqb-false, ltb-true}
+use borrow.Author.Tests.{eqb-true, eqb-false}
 use Rattle.syntax.specs.Bytes.{startsWith, run, eol}
 use Rattle.syntax.specs.Kind.{isText}
 use Rattle.syntax.specs.Reader.{ok, after, fail, done}
@@ -35,6 +35,10 @@ pub levelOf-some : (s : List ℕ) → startsWith 35 s ≡ true → 0 < levelOf s
 unfolding levelOf run startsWith
 levelOf-some [] h = clash h refl
 levelOf-some (b ∷ bs) h = let e : run (λ c. eqb c 35) (b ∷ bs) ≡ suc (run (λ c. eqb c 35) bs) = rw (h, run) refl in omega arith
+
+-- no comment line of the level is here, or of any where there is none yet
+abbrev pub isOver : ℕ → List ℕ → Bool
+isOver level s = eqb (levelOf s) 0 || (not (eqb level 0) && not (eqb (levelOf s) level))
 
 module _ {n : ℕ} where
   -- a line of a comment: six marks to spare, also where it is the last and the comment's first

@@ -1,17 +1,17 @@
 -- core.rs within bounds: attributes, entries, and the ends of junk.
-use Prim.Native.Nat.{ℕ, zero, suc, _+_, _≤_, _<_, suc-le-suc}
+use Prim.Native.Nat.{ℕ, suc, _+_, _≤_, suc-le-suc}
 use native.Mathlib.Omega.{arith}
-use mathlib.Core.Path.{_≡_, refl}
-use mathlib.Core.Bool.{Bool, true, false, _&&_, _||_, not}
+use mathlib.Core.Path.{refl}
+use mathlib.Core.Bool.{Bool, _&&_, _||_, not}
 use mathlib.Core.List.{List, [], _∷_}
 use lib.ListN.{drop, length, length-drop}
 use lib.Dec.{eqb}
 use Rattle.syntax.specs.Bytes.{startsWith, isLetter, spaces}
 use Rattle.syntax.specs.Kind.{isText}
-use Rattle.syntax.specs.Reader.{Out, ok, bad, deep}
+use Rattle.syntax.specs.Reader.{Out}
 use Rattle.syntax.specs.Pattern.{Inside}
-use Rattle.syntax.specs.Core.{getAttribute, attributeBy, attributeTurn, getAttributes, Fields, fields, termFields, Entry, asMessage, asTerm, asComment, getEntry, toNextEntry, lineStartsAt, junkEnd}
-use Rattle.laws.specs.Bytes.{pick, spaces-le, startsWith-some}
+use Rattle.syntax.specs.Core.{getAttribute, attributeBy, attributeTurn, getAttributes, Fields, fields, termFields, asMessage, asTerm, asComment, getEntry, toNextEntry, lineStartsAt, junkEnd}
+use Rattle.laws.specs.Bytes.{pick, startsWith-some}
 use Rattle.laws.specs.Bounds.{uses-nil, uses-less, uses-after, Bounded, used, stopped, tooDeep, bounded-less, Bounds, bind, then, less, pure-bounds, node-bounds, TurnBounded, goes, ends, TurnBounds, repeat-bounds}
 use Rattle.laws.specs.Bounds.Helper.{inline-bounds, block-bounds, expectByte-bounds}
 use Rattle.laws.specs.Bounds.Comment.{comment-bounded}

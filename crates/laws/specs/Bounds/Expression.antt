@@ -1,26 +1,26 @@
 -- expression.rs, with get_variants and get_placeable, within bounds.
-use Prim.Native.Nat.{ℕ, zero, suc, _+_, _-_, _*_, _≤_, _<_}
+use Prim.Native.Nat.{ℕ, zero, suc, _+_, _-_, _≤_}
 use native.Mathlib.Omega.{arith}
-use mathlib.Core.Path.{_≡_, refl}
+use mathlib.Core.Path.{refl}
 use mathlib.Core.Bool.{Bool, true, false, _&&_, _||_}
 use mathlib.Core.List.{List, [], _∷_}
 use lib.ListN.{drop, length, take, length-drop}
 use lib.Dec.{eqb}
 use Rattle.syntax.specs.Bytes.{startsWith, starts, second, all, isLetter, isDigit, isCalleePart}
 use Rattle.syntax.specs.Kind.{isText}
-use Rattle.syntax.specs.Marks.{Mark, textNode}
-use Rattle.syntax.specs.Reader.{Out, ok, bad, deep, Reader, after, next, _>>=_, _>>_, pure, fail, wrap, Turn, again, done, turnOf, repeat}
-use Rattle.syntax.specs.Helper.{skipBlank, expectByte, skipUnicodeEscapeSequence, getNumberLiteral, getIdentifier}
+use Rattle.syntax.specs.Marks.{Mark}
+use Rattle.syntax.specs.Reader.{Out, ok, bad, deep, after, _>>=_, _>>_, pure, Turn, turnOf}
+use Rattle.syntax.specs.Helper.{skipBlank, skipUnicodeEscapeSequence, getIdentifier}
 use Rattle.syntax.specs.Pattern.{Inside, getPattern}
 use Rattle.syntax.specs.Expression.{Inline, string, number, variable, function, inner, message, term, inlineKind, asInline, escapeTurn, stringTurn, stringLiteral, asString, numberLiteral, callArguments, getCallArguments, getAttributeAccessor, termReference, variableReference, messageReference, functionReference, referenceBy, reference, nestedPlaceable, noInline, nonLiteral, getInlineExpression, isAmong, isNone, separator, positional, namedValue, namedArgument, afterReference, pastBlank, argumentBy, argumentTurn, parenthesised, keyText, getVariantKey, needsValue, variant, variantKind, endVariants, variantWith, afterStar, turnAfter, variantTurn, getVariants, selector, alone, needsLineEnd, selectFrom, afterInline, inSelect, inlineOrSelect, getExpression, braced, tooDeep, level}
 use Rattle.laws.specs.Bytes.{pick, startsWith-some}
-use Rattle.laws.specs.Stable.{Holds}
-use Rattle.laws.specs.Stable.Argument.{Fits, inline-fits, variable-value, term-value, nested-value, reference-value}
+use Rattle.laws.specs.Answers.{Holds}
+use Rattle.laws.specs.Values.{Fits, inline-fits, variable-value, term-value, nested-value, reference-value}
 use Rattle.laws.specs.Balanced.{Kind, forest-more}
 use Rattle.laws.specs.Bounds as Bounds
 use Rattle.laws.specs.Bounds.{Uses, uses-nil, uses-text, uses-less, uses-after, uses-node, Bounded, used, stopped, bounded-less, after-bounded, wrap-bounded, next-bounded, Bounds, bind-by, bind, then, then-inside, less, pure-bounds, fail-bounds, node-bounds, TurnBounded, goes, ends, turnOf-bounded, turn-less, TurnBounds, repeat-bounds}
 use Rattle.laws.specs.Bounds.Helper.{inline-bounds, eol-bounds, blank-bounds, takeByteIf-bounds, expectByte-bounds, numberLiteral-bounds, identifier-bounds, escape-bounds}
-use Rattle.laws.specs.Bounds.Pattern.{InsideBounds, spare, pattern-bounds, used-le}
+use Rattle.laws.specs.Bounds.Pattern.{InsideBounds, spare, pattern-bounds}
 
 text-kinds : Kind true 9 × Kind true 17 × Kind true 18 × Kind true 19 × Kind true 20
 unfolding isText
@@ -137,7 +137,8 @@ module _ {n : ℕ} where
 
   -- ---- what an inline expression is put in
 
-  asInline-bounded : {c : ℕ} {s : List ℕ} {o : Out Inline} → 2 ≤ c → Bounded n (λ _. c) s o → Holds (λ a ms k. Kind false (inlineKind a)) o → Bounded n (λ _. c - 2) s (asInline o)
+  asInline-bounded : {c : ℕ} {s : List ℕ} {o : Out Inline} → 2 ≤ c → Bounded n (λ _. c) s o → Holds (λ a ms k. Kind false (inlineKind a)) o
+      → Bounded n (λ _. c - 2) s (asInline o)
   unfolding asInline
   asInline-bounded l (used {a} u) h = used (uses-node (inlineKind a) h l u)
   asInline-bounded l (stopped k h) _ = stopped k h
@@ -176,17 +177,23 @@ kinds true = (refl, refl)
 kinds false = (refl, refl)
 
 -- bytes used, and blanks after them
-pub pastBlank-within : (k : ℕ) (s : List ℕ) → k ≤ length s → (k ≤ pastBlank k s) × (pastBlank k s ≤ length s)
+pub pastBlank-least : (k : ℕ) (s : List ℕ) → k ≤ pastBlank k s
+unfolding pastBlank
+pastBlank-least k s = go (skipBlank (drop k s))
+  where
+    go : (o : Out (Unit {0})) → k ≤ (elim o [ ok u ms j ↦ k + j | bad f j ↦ k | deep j ↦ k ])
+    go (ok a ms j) = omega arith
+    go (bad f j) = omega arith
+    go (deep j) = omega arith
+
+pub pastBlank-within : (k : ℕ) (s : List ℕ) → k ≤ length s → pastBlank k s ≤ length s
 unfolding pastBlank
 pastBlank-within k s h = go (skipBlank (drop k s)) (blank-bounds {n = 0} .on (drop k s))
   where
-    past : Out (Unit {0}) → ℕ
-    past o = elim o [ ok u ms j ↦ k + j | bad f j ↦ k | deep j ↦ k ]
-
-    go : (o : Out (Unit {0})) → Bounded 0 (λ _. 0) (drop k s) o → (k ≤ past o) × (past o ≤ length s)
-    go (ok u ms j) (used v) = (omega arith, omega (arith, v .within, length-drop k s))
-    go (bad f j) (stopped i g) = (omega arith, h)
-    go (deep j) (Bounds.tooDeep i g l) = (omega arith, h)
+    go : (o : Out (Unit {0})) → Bounded 0 (λ _. 0) (drop k s) o → (elim o [ ok u ms j ↦ k + j | bad f j ↦ k | deep j ↦ k ]) ≤ length s
+    go (ok u ms j) (used v) = omega (arith, v .within, length-drop k s)
+    go (bad f j) b = h
+    go (deep j) b = h
 
 -- ---- readers of nesting
 
@@ -261,7 +268,8 @@ module _ {n : ℕ} {sub : Inside} (law : InsideBounds n sub) where
   argumentBy-bounded : {s : List ℕ} (names : List (List ℕ)) (o : Out Inline) → Bounded n (λ _. 4) s o → Fits o → Bounded n (λ _. 4) s (argumentBy sub names s o)
   unfolding argumentBy afterReference
   argumentBy-bounded {s} names (ok (message i false) ms k) (used u) f =
-      let (l, h) = pastBlank-within k s (u .within) in
+      let l = pastBlank-least k s in
+      let h = pastBlank-within k s (u .within) in
       let p = pastBlank k s in
       pick (Bounded n (λ _. 4) s) (startsWith 58 (drop p s)) _ _ (λ q. bounded-less (λ _. omega arith) (named-bounded names i p s (omega arith) h (omega (arith, u .room))))
       (λ q. positional-bounded names (record { within = h; room = omega (arith, u .room); forest = forest-more l (u .forest) }))

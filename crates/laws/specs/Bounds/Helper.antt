@@ -1,20 +1,19 @@
 -- helper.rs, and the identifier, within bounds.
-use Prim.Native.Nat.{ℕ, zero, suc, _+_, _≤_, _<_, min}
+use Prim.Native.Nat.{ℕ, suc, _+_, _≤_, _<_, min}
 use native.Mathlib.Omega.{arith}
 use mathlib.Core.Path.{_≡_, refl}
-use mathlib.Core.Bool.{Bool, true, false, _||_}
+use mathlib.Core.Bool.{Bool, true, false}
 use mathlib.Core.List.{List, [], _∷_}
 use lib.ListN.{drop, length, length-drop}
 use lib.Dec.{eqb, ltb}
 use borrow.Author.Tests.{eqb-false, ltb-true}
 use Rattle.syntax.specs.declared.errors.ErrorKind.the-variants.{ExpectedToken, ExpectedCharRange}
 use Rattle.syntax.specs.Bytes.{startsWith, starts, isLetter, isDigit, isNamePart, isHex, spaces, eol, run}
-use Rattle.syntax.specs.Marks.{textNode}
-use Rattle.syntax.specs.Reader.{Out, ok, bad, Reader, fail, _>>=_, _>>_, pure, again, done, repeat}
+use Rattle.syntax.specs.Reader.{Out, ok, again, done}
 use Rattle.syntax.specs.Helper.{skipBlankInline, skipEol, blankTurn, skipBlank, blockTurn, skipBlankBlock, takeByteIf, expectByte, skipDigits, fraction, number, asText, getNumberLiteral, getIdentifier, skipUnicodeEscapeSequence}
-use Rattle.laws.specs.Bytes.{byCase, clash, pick, run-le, spaces-le, eol-le, startsWith-some}
+use Rattle.laws.specs.Bytes.{clash, pick, run-le, spaces-le, eol-le, startsWith-some}
 use Rattle.laws.specs.Balanced.{Kind}
-use Rattle.laws.specs.Bounds.{Uses, uses-nil, uses-text, Bounded, used, stopped, tooDeep, bounded-less, Bounds, bind, then, less, pure-bounds, fail-bounds, TurnBounded, goes, ends, TurnBounds, repeat-bounds}
+use Rattle.laws.specs.Bounds.{uses-nil, uses-text, Bounded, used, stopped, tooDeep, Bounds, bind, then, less, pure-bounds, fail-bounds, TurnBounded, goes, ends, TurnBounds, repeat-bounds}
 
 pub name-some : (s : List ℕ) → starts isLetter s ≡ true → 0 < run isNamePart s
 unfolding starts run isNamePart
@@ -45,7 +44,8 @@ module _ {n : ℕ} where
   unfolding blockTurn
   blockTurn-bounds = record { on = λ i s. go i s (eol (drop (spaces s) s)) (eol-le (drop (spaces s) s)) }
     where
-      go : (i : ℕ) (s : List ℕ) (e : ℕ) → e ≤ length (drop (spaces s) s) → TurnBounded {S = ℕ} {A = ℕ} n 1 0 s (elim (ltb 0 e) [ true ↦ again (suc i) [] (spaces s + e) | false ↦ done (ok i [] 0) ])
+      go : (i : ℕ) (s : List ℕ) (e : ℕ) → e ≤ length (drop (spaces s) s)
+          → TurnBounded {S = ℕ} {A = ℕ} n 1 0 s (elim (ltb 0 e) [ true ↦ again (suc i) [] (spaces s + e) | false ↦ done (ok i [] 0) ])
       go i s e h = pick (TurnBounded n 1 0 s) (ltb 0 e) _ _ (λ l. goes (uses-nil (spaces s + e) (omega (arith, length-drop (spaces s) s, spaces-le s)) (omega (arith, ltb-true 0 e l)))) (λ l. ends (used (uses-nil 0 (omega arith) (omega arith))))
 
   pub block-bounds : Bounds n (λ _. 0) skipBlankBlock

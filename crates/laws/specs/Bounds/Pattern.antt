@@ -1,7 +1,7 @@
 -- pattern.rs within bounds.
-use Prim.Native.Nat.{ℕ, zero, suc, _+_, _-_, _*_, _≤_, _<_, min}
+use Prim.Native.Nat.{ℕ, zero, suc, _+_, _-_, _*_, _≤_, _<_}
 use native.Mathlib.Omega.{arith}
-use mathlib.Core.Path.{_≡_, refl, sym, ap, subst}
+use mathlib.Core.Path.{_≡_, refl, sym, subst}
 use mathlib.Core.Bool.{Bool, true, false, _&&_, _||_, not}
 use mathlib.Core.List.{List, [], _∷_, _++_}
 use mathlib.Core.Option.{Option, some, none}
@@ -11,15 +11,14 @@ use borrow.Author.Tests.{eqb-true, eqb-false, ltb-true}
 use Rattle.syntax.specs.Bytes.{run, eol, spaces}
 use Rattle.syntax.specs.Kind.{isText}
 use Rattle.syntax.specs.Marks.{Mark, plain, moveUp, textNode, node}
-use Rattle.syntax.specs.Reader.{Out, ok, bad, deep, after, Turn, again, done, repeat}
+use Rattle.syntax.specs.Reader.{Out, ok, bad, deep, after, Turn, repeat}
 use Rattle.syntax.specs.Helper.{skipBlankBlock}
 use Rattle.syntax.specs.Pattern.{Inside, Role, initialLineStart, lineStart, continuation, Slice, isTextByte, endsInCr, lineSlice, sliceBy, getTextSlice, Element, placeable, text, State, isLineStart, roleAfter, withPlaceable, commonAfter, isElement, withText, goesOn, lineTurn, textTurn, patternTurn, trimmed, dedented, textMarks, elementMarks, finish, stateAt, usedBy, firstState, getPattern}
 use Rattle.laws.specs.Bytes.{byCase, clash, pick, run-le, spaces-le, eol-le}
 use Rattle.laws.specs.Moving.{moveUp-length}
-use Rattle.laws.specs.Stable.{Holds, TurnHolds, loop-holds}
-use Rattle.laws.specs.Stable.Pattern.{Sized, slice-sized}
+use Rattle.laws.specs.Answers.{Holds, TurnHolds, loop-holds}
 use Rattle.laws.specs.Balanced.{Forest, empty, forest-text, forest-node, forest-join, forest-more, forest-up}
-use Rattle.laws.specs.Bounds.{Uses, uses-nil, Bounded, used, stopped, tooDeep, bounded-less, after-bounded, Bounds, TurnBounded, goes, ends, TurnBounds, repeat-bounds}
+use Rattle.laws.specs.Bounds.{uses-nil, Bounded, used, stopped, tooDeep, after-bounded, Bounds, TurnBounded, goes, ends, TurnBounds, repeat-bounds}
 use Rattle.laws.specs.Bounds.Helper.{block-bounds}
 
 -- the readers inside: they are called at an opening byte
@@ -60,7 +59,8 @@ module _ {n : ℕ} where
 
   -- ---- turns
 
-  withText-bounded : {c : ℕ} {s : List ℕ} {o : Out Slice} (st : State) (indent : ℕ) → indent ≤ length s → 1 ≤ c + indent → Bounded n (λ _. c) (drop indent s) o → TurnBounded n 1 0 s (withText st indent o)
+  withText-bounded : {c : ℕ} {s : List ℕ} {o : Out Slice} (st : State) (indent : ℕ) → indent ≤ length s → 1 ≤ c + indent → Bounded n (λ _. c) (drop indent s) o
+      → TurnBounded n 1 0 s (withText st indent o)
   unfolding withText after
   withText-bounded {s = s} st indent h l (used {k = k} u) = goes (uses-nil (indent + k) (omega (arith, u .within, length-drop indent s)) (omega (arith, u .room)))
   withText-bounded {s = s} st indent h l (stopped k g) = ends (stopped (indent + k) (omega (arith, length-drop indent s)))
@@ -107,12 +107,12 @@ marksOf (placeable ms ∷ es) = 2 + length ms + marksOf es
 marksOf (text a e i l ∷ es) = 2 + marksOf es
 
 -- placeables are good, and texts in order, up to k
-abbrev Els : ℕ → List Element → Type 0
+abbrev pub Els : ℕ → List Element → Type 0
 Els k [] = Unit {0}
 Els k (placeable ms ∷ es) = Forest k ms × Els k es
 Els k (text a e i l ∷ es) = (a + i ≤ e) × (e ≤ k) × Els k es
 
-els-more : (k j : ℕ) → k ≤ j → (es : List Element) → Els k es → Els j es
+pub els-more : (k j : ℕ) → k ≤ j → (es : List Element) → Els k es → Els j es
 els-more k j h [] p = tt
 els-more k j h (placeable ms ∷ es) p = (forest-more h (p .0), els-more k j h es (p .1))
 els-more k j h (text a e i l ∷ es) p = (p .0, omega (arith, p .1), els-more k j h es (p .2))
@@ -171,6 +171,23 @@ elementMarks-length s c (suc m) (placeable ms ∷ es) =
 elementMarks-length s c (suc m) (text a e i l ∷ es) =
     let t = textMarks s (eqb m 0) (dedented c a i l) e in
     omega (arith, elementMarks-length s c m es, length-append t (elementMarks s c m es), textMarks-length s (eqb m 0) (dedented c a i l) e)
+
+-- a text is in what was used
+abbrev Sized : Out Slice → Type 0
+Sized o = Holds (λ t ms k. t .size ≤ k) o
+
+lineSlice-sized : (t : List ℕ) → Sized (lineSlice t)
+unfolding lineSlice
+lineSlice-sized t = byCase (endsInCr t) (λ q. rw (q, lineSlice) (omega arith)) (λ q. rw (q, lineSlice) (omega arith))
+
+sliceBy-sized : (t r : List ℕ) → Sized (sliceBy t r)
+unfolding sliceBy
+sliceBy-sized t [] = omega arith
+sliceBy-sized t (d ∷ ds) = byCase (eqb d 125) (λ q. rw (q, sliceBy) tt) (λ q. rw (q, sliceBy) (byCase (eqb d 123) (λ r. rw r (omega arith)) (λ r. rw r (lineSlice-sized t))))
+
+slice-sized : (s : List ℕ) → Sized (getTextSlice s)
+unfolding getTextSlice
+slice-sized s = sliceBy-sized (take (run isTextByte s) s) (drop (run isTextByte s) s)
 
 -- the elements grow with what is used
 abbrev Grows : State → List ℕ → State → List Mark → ℕ → Type 0
@@ -303,18 +320,20 @@ module _ {n : ℕ} {sub : Inside} (law : InsideBounds n sub) where
       (λ q. pick (Turned sub st (b ∷ bs)) (isLineStart (st .role)) _ _ (λ l. line-grows sub st (b ∷ bs) (spaces (b ∷ bs)) (drop (spaces (b ∷ bs)) (b ∷ bs)))
       (λ l. withText-grows sub st (b ∷ bs) 0 (getTextSlice (b ∷ bs)) (slice-sized (b ∷ bs))))
 
-  pub loop-grows : (st : State) (s : List ℕ) → Holds (Grows st s) (repeat (patternTurn sub) st s)
-  unfolding repeat
-  loop-grows st s = loop-holds (patternTurn sub) Grows turn-grows (suc (length s)) st s
+  -- at the end of a pattern's loop, as its source counts
+  pub pattern-grown : (s : List ℕ)
+      → let st = firstState s in Holds (λ st′ ms k. Grown st′ × (st′ .used ≤ k)) (after [] (st .used) (repeat (patternTurn sub) st (drop (st .used) s)))
+  unfolding repeat after
+  pattern-grown s = let st = firstState s in let r = drop (st .used) s in go st r (repeat (patternTurn sub) st r) (first-grown s .0) (loop-holds (patternTurn sub) Grows turn-grows (suc (length r)) st r)
+    where
+      go : (st : State) (r : List ℕ) (o : Out State) → Grown st → Holds (Grows st r) o → Holds (λ st′ ms k. Grown st′ × (st′ .used ≤ k)) (after [] (st .used) o)
+      go st r (ok st′ ms k) g h = h g
+      go st r (bad f k) g h = tt
+      go st r (deep k) g h = tt
 
   pub pattern-bounds : Bounds n spare (getPattern sub)
   unfolding getPattern
   pattern-bounds = record {
-    on = λ s. let st = firstState s in let (g, l) = first-grown s in
-        finish-bounded s _ (after-bounded {c = 0} (uses-nil (st .used) l (omega arith)) (repeat-bounds (patternTurn-bounds law) st .on (drop (st .used) s))) (after-grows st (drop (st .used) s) (repeat (patternTurn sub) st (drop (st .used) s)) g (loop-grows st (drop (st .used) s)));
+    on = λ s. let st = firstState s in
+        finish-bounded s _ (after-bounded {c = 0} (uses-nil (st .used) (first-grown s .1) (omega arith)) (repeat-bounds (patternTurn-bounds law) st .on (drop (st .used) s))) (pattern-grown s);
   }
-    where
-      after-grows : (st : State) (s : List ℕ) (o : Out State) → Grown st → Holds (Grows st s) o → Holds (λ st′ ms k. Grown st′ × (st′ .used ≤ k)) (after [] (st .used) o)
-      after-grows st s (ok st′ ms k) g h = unfold after in (h g)
-      after-grows st s (bad f k) g h = unfold after in tt
-      after-grows st s (deep k) g h = unfold after in tt

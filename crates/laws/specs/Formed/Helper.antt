@@ -16,7 +16,7 @@ use Rattle.syntax.specs.Helper.{skipBlankInline, skipEol, blankTurn, skipBlank,
 use Rattle.syntax.specs.Pattern.{usedBy}
 use Rattle.syntax.specs.Shape.{step}
 use Rattle.laws.specs.Bytes.{byCase, pick}
-use Rattle.laws.specs.Stable.{Sure}
+use Rattle.laws.specs.Answers.{Sure}
 use Rattle.laws.specs.Stable.Helper.{block-sure}
 use Rattle.laws.specs.Shape.Run.{otherwise, run-text}
 use Rattle.laws.specs.Formed.Edge.{ascii, edge, edge-add, edge-run, ascii-of, edge-byte, edge-spaces, edge-eol}

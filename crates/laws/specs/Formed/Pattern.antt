@@ -19,7 +19,7 @@ use Rattle.syntax.specs.Shape.{stepIn, stepBy, finalBy, models, among, step, fi
 use Rattle.syntax.specs.Pattern.{Inside, Role, lineStart, initialLineStart, continuation, Slice, isTextByte, endsInCr, lineSlice, sliceBy, getTextSlice, Element, placeable, text, State, isLineStart, roleAfter, withPlaceable, commonAfter, isElement, withText, goesOn, lineTurn, textTurn, patternTurn, trimmed, dedented, textMarks, elementMarks, finish, stateAt, usedBy, firstState, getPattern}
 use Rattle.laws.specs.Bytes.{byCase, clash, pick, run-le}
 use Rattle.laws.specs.Moving.{moveUp-append}
-use Rattle.laws.specs.Stable.{Holds, TurnHolds, loop-holds}
+use Rattle.laws.specs.Answers.{Holds, TurnHolds, loop-holds}
 use Rattle.laws.specs.Bounds.Pattern.{trimmed-le, dedented-le}
 use Rattle.laws.specs.Shape.Run.{run-append, run-moved, run-text}
 use Rattle.laws.specs.Formed.Edge.{ascii, clear, edge, edge-le, edge-add, edge-past, edge-clear, edge-first, ascii-of, edge-spaces, edge-eol}

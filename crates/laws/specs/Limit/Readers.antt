@@ -2,16 +2,16 @@
 use Prim.Native.Nat.{ℕ, zero, suc, _+_, _≤_}
 use native.Mathlib.Nat.{not-suc-le-zero, le-of-suc-le-suc}
 use mathlib.Core.Path.{refl, ap}
-use mathlib.Core.Bool.{Bool, true, false, _&&_, _||_}
+use mathlib.Core.Bool.{Bool, true, false, _&&_}
 use mathlib.Core.List.{List, [], _∷_}
 use lib.ListN.{drop, take}
 use lib.Dec.{eqb}
 use Rattle.syntax.specs.Bytes.{startsWith, starts, second, isLetter, isDigit, spaces}
 use Rattle.syntax.specs.Marks.{textNode}
-use Rattle.syntax.specs.Reader.{Out, ok, bad, deep, Reader, after, next, _>>=_, _>>_, pure, fail, wrap, inNode, Turn, again, done, turnOf, repeat}
-use Rattle.syntax.specs.Pattern.{Inside, State, isLineStart, withPlaceable, textTurn, patternTurn, finish, firstState, getPattern}
-use Rattle.syntax.specs.Expression.{Inline, string, number, variable, function, inner, message, term, asInline, callArguments, getCallArguments, termReference, reference, nestedPlaceable, noInline, nonLiteral, getInlineExpression, isAmong, separator, positional, namedValue, namedArgument, afterReference, pastBlank, argumentBy, argumentTurn, parenthesised, needsValue, variant, variantKind, endVariants, variantWith, afterStar, turnAfter, variantTurn, getVariants, selectFrom, afterInline, inSelect, inlineOrSelect, getExpression, braced, tooDeep, level}
-use Rattle.syntax.specs.Core.{getAttribute, attributeBy, attributeTurn, getAttributes, Fields, fields, termFields, Entry, asMessage, asTerm, getEntry}
+use Rattle.syntax.specs.Reader.{Out, ok, bad, deep, after, _>>_, wrap, Turn}
+use Rattle.syntax.specs.Pattern.{Inside, State, withPlaceable, patternTurn, finish, firstState, getPattern}
+use Rattle.syntax.specs.Expression.{Inline, string, number, variable, function, inner, message, term, asInline, callArguments, getCallArguments, termReference, reference, nestedPlaceable, nonLiteral, getInlineExpression, isAmong, namedValue, namedArgument, afterReference, pastBlank, argumentBy, argumentTurn, parenthesised, variant, variantKind, variantWith, afterStar, turnAfter, variantTurn, getVariants, selectFrom, afterInline, inSelect, inlineOrSelect, getExpression, braced, tooDeep, level}
+use Rattle.syntax.specs.Core.{getAttribute, attributeBy, attributeTurn, getAttributes, fields, termFields, asMessage, asTerm, getEntry}
 use Rattle.laws.specs.Bytes.{pick₂}
 use Rattle.laws.specs.Limit.{Kept, same, lost, Keeps, keeps, kept-after, kept-by, kept-next, bind, then, node-keeps, TurnKept, sameTurn, lostTurn, turnOf-kept, repeat-keeps}
 

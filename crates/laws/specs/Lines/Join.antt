@@ -1,25 +1,25 @@
 -- A comment that goes on past a cut.
-use Prim.Native.Nat.{ℕ, zero, suc, _+_, _-_, _≤_, _<_, min}
-use native.Mathlib.Nat.{not-suc-le-zero, le-of-suc-le-suc}
+use Prim.Native.Nat.{ℕ, zero, suc, _+_, _<_}
+use native.Mathlib.Nat.{not-suc-le-zero}
 use native.Mathlib.Omega.{arith}
 use mathlib.Core.Path.{_≡_, refl, sym, ap, _∙_, subst}
 use mathlib.Core.Logic.{_⊎_, inl, inr}
-use mathlib.Core.Bool.{Bool, true, false, _&&_, _||_, not}
-use mathlib.Core.List.{List, [], _∷_, _++_}
+use mathlib.Core.Bool.{true, false, _&&_, _||_, not}
+use mathlib.Core.List.{List, [], _∷_}
 use lib.ListN.{drop, length}
 use lib.Dec.{eqb, ltb}
-use borrow.Author.Tests.{eqb-true, eqb-false, ltb-true, ltb-false, eq-eqb, ne-eqb}
-use Rattle.syntax.specs.Bytes.{startsWith, run, eol}
+use borrow.Author.Tests.{eqb-true, eqb-false, eq-eqb, ne-eqb}
+use Rattle.syntax.specs.Bytes.{startsWith, eol}
 use Rattle.syntax.specs.declared.errors.ErrorKind.the-variants as Errors
-use Rattle.syntax.specs.Marks.{Mark, moveUp, textNode}
+use Rattle.syntax.specs.Marks.{Mark}
 use Rattle.syntax.specs.declared.errors.ParserError.{ParserError}
-use Rattle.syntax.specs.Reader.{Out, ok, bad, deep, Reader, fail, after, Turn, again, done, loop, repeat}
-use Rattle.syntax.specs.Comment.{lineLength, levelOf, lineEndUsed, lineRead, lineTurn, commentTurn, getComment}
+use Rattle.syntax.specs.Reader.{Out, ok, bad, deep, fail, after, Turn, again, done, loop, repeat}
+use Rattle.syntax.specs.Comment.{levelOf, lineRead, lineTurn, commentTurn, getComment}
 use Rattle.laws.specs.Bytes.{byCase, clash}
-use Rattle.laws.specs.Stable.{Holds, TurnHolds, loop-holds}
+use Rattle.laws.specs.Answers.{Holds, TurnHolds, loop-holds}
 use Rattle.laws.specs.Loop.{loop-fuel}
 use Rattle.laws.specs.Loop.Turns.{commentTurn-moves}
-use Rattle.laws.specs.Bounds.Comment.{levelOf-some}
+use Rattle.laws.specs.Bounds.Comment.{levelOf-some, isOver}
 
 -- where a comment has started there is no error
 abbrev NotBad : Out ℕ → Type 0
@@ -39,10 +39,10 @@ lineTurn-not-bad st l (b ∷ bs) p q = byCase (ltb 0 (eol (b ∷ bs))) (λ e. rw
 
 turn-not-bad : (st : ℕ) (s : List ℕ) → 0 < st → TurnNotBad (commentTurn st s)
 unfolding commentTurn
-turn-not-bad st s p = byCase (eqb (levelOf s) 0 || (not (eqb st 0) && not (eqb (levelOf s) st))) (λ e. rw (e, TurnNotBad, commentTurn) tt)
+turn-not-bad st s p = byCase (isOver st s) (λ e. rw (e, TurnNotBad, commentTurn) tt)
     (λ e. rw (e, TurnNotBad, commentTurn) (lineTurn-not-bad st (levelOf s) (drop (levelOf s) s) p (level-pos e)))
   where
-    level-pos : (eqb (levelOf s) 0 || (not (eqb st 0) && not (eqb (levelOf s) st))) ≡ false → 0 < levelOf s
+    level-pos : isOver st s ≡ false → 0 < levelOf s
     level-pos e = byCase (eqb (levelOf s) 0) (λ q. clash (rw q refl) e) (λ q. pos (levelOf s) (eqb-false (levelOf s) 0 q))
       where
         pos : (n : ℕ) → (n ≡ 0 → ⊥) → 0 < n
@@ -59,7 +59,8 @@ loop-not-bad (suc n) st s p = go (commentTurn st s) (turn-not-bad st s p) (λ st
     inner ms k (bad f j) h = h
     inner ms k (deep j) h = tt
 
-    go : (w : Turn ℕ ℕ) → TurnNotBad w → ((st′ : ℕ) (r : List ℕ) → 0 < st′ → NotBad (loop n commentTurn st′ r)) → NotBad (elim w [ again st′ ms k ↦ after ms k (loop n commentTurn st′ (drop k s)) | done o ↦ o ])
+    go : (w : Turn ℕ ℕ) → TurnNotBad w → ((st′ : ℕ) (r : List ℕ) → 0 < st′ → NotBad (loop n commentTurn st′ r))
+        → NotBad (elim w [ again st′ ms k ↦ after ms k (loop n commentTurn st′ (drop k s)) | done o ↦ o ])
     go (again st′ ms k) h f = inner ms k (loop n commentTurn st′ (drop k s)) (f st′ (drop k s) h)
     go (done o) h f = h
 
@@ -75,28 +76,28 @@ levelled n st s = loop-holds commentTurn Levelled turns n st s
     same st l p e = byCase (eqb l st) (λ q. eqb-true l st q)
         (λ q. byCase (eqb st 0) (λ r. absurd (omega (arith, eqb-true st 0 r))) (λ r. byCase (eqb l 0) (λ t. clash (rw t refl) e) (λ t. clash (rw t (rw r (rw q refl))) e)))
 
-    ready : (st : ℕ) (s : List ℕ) → (eqb (levelOf s) 0 || (not (eqb st 0) && not (eqb (levelOf s) st))) ≡ false → (a : ℕ) → a ≡ levelOf s → (0 < st → a ≡ st) × (st ≡ 0 → 0 < levelOf s → a ≡ levelOf s)
+    ready : (st : ℕ) (s : List ℕ) → isOver st s ≡ false → (a : ℕ) → a ≡ levelOf s → (0 < st → a ≡ st) × (st ≡ 0 → 0 < levelOf s → a ≡ levelOf s)
     ready st s e a f = (λ p. f ∙ same st (levelOf s) p e, λ z q. f)
 
-    level-pos : (st : ℕ) (s : List ℕ) → (eqb (levelOf s) 0 || (not (eqb st 0) && not (eqb (levelOf s) st))) ≡ false → 0 < levelOf s
+    level-pos : (st : ℕ) (s : List ℕ) → isOver st s ≡ false → 0 < levelOf s
     level-pos st s e = byCase (eqb (levelOf s) 0) (λ q. clash (rw q refl) e) (λ q. pos (levelOf s) (eqb-false (levelOf s) 0 q))
       where
         pos : (n : ℕ) → (n ≡ 0 → ⊥) → 0 < n
         pos zero h = absurd (h refl)
         pos (suc n) h = omega arith
 
-    lines : (st : ℕ) (s r : List ℕ) → (eqb (levelOf s) 0 || (not (eqb st 0) && not (eqb (levelOf s) st))) ≡ false → TurnHolds commentTurn Levelled st s (lineTurn st (levelOf s) r)
+    lines : (st : ℕ) (s r : List ℕ) → isOver st s ≡ false → TurnHolds commentTurn Levelled st s (lineTurn st (levelOf s) r)
     lines st s [] e = ready st s e (levelOf s) refl
     lines st s (b ∷ bs) e = byCase (ltb 0 (eol (b ∷ bs))) (λ q. rw (q, TurnHolds, lineTurn) (λ a ns j g. ready st s e a (g .0 (level-pos st s e))))
         (λ q. rw (q, TurnHolds, lineTurn) (byCase (eqb b 32) (λ r. rw r (λ a ns j g. ready st s e a (g .0 (level-pos st s e))))
         (λ r. rw r (byCase (eqb st 0) (λ t. rw t tt) (λ t. rw t (λ p. refl, λ z p. absurd (eqb-false st 0 t z)))))))
 
     turns : (st : ℕ) (s : List ℕ) → TurnHolds commentTurn Levelled st s (commentTurn st s)
-    turns st s = byCase (eqb (levelOf s) 0 || (not (eqb st 0) && not (eqb (levelOf s) st)))
+    turns st s = byCase (isOver st s)
         (λ q. rw (q, TurnHolds, commentTurn) (λ p. refl, λ z p. absurd (over st s q z p)))
         (λ q. rw (q, TurnHolds, commentTurn) (lines st s (drop (levelOf s) s) q))
       where
-        over : (st : ℕ) (s : List ℕ) → (eqb (levelOf s) 0 || (not (eqb st 0) && not (eqb (levelOf s) st))) ≡ true → st ≡ 0 → 0 < levelOf s → ⊥
+        over : (st : ℕ) (s : List ℕ) → isOver st s ≡ true → st ≡ 0 → 0 < levelOf s → ⊥
         over st s q z p = byCase (eqb (levelOf s) 0) (λ r. omega (arith, eqb-true (levelOf s) 0 r)) (λ r. clash q (rw r (rw (eq-eqb st 0 z) refl)))
 
 -- the rest y of a comment of the level l: y's own comment, if it is of that level, and nothing otherwise
@@ -106,7 +107,11 @@ Own l y = (ms : List Mark) × (k : ℕ) × (getComment y ≡ ok l ms k) × ((m :
 abbrev pub Other : ℕ → List ℕ → Type 0
 Other l y = ((ms : List Mark) (k : ℕ) → getComment y ≡ ok l ms k → ⊥) × ((m : ℕ) → length y < m → loop m commentTurn l y ≡ ok l [] 0)
 
-lineTurn-same : (l : ℕ) (r : List ℕ) → 0 < l → (lineTurn l l r ≡ lineTurn 0 l r) ⊎ ((lineTurn l l r ≡ done (ok l [] 0)) × ((f : ParserError) × (k : ℕ) × (lineTurn 0 l r ≡ done (bad f k))))
+-- a line of the level l reads as a first line, or is none where a first line would be wrong
+abbrev SameLine : ℕ → List ℕ → Type 0
+SameLine l r = (lineTurn l l r ≡ lineTurn 0 l r) ⊎ ((lineTurn l l r ≡ done (ok l [] 0)) × ((f : ParserError) × (k : ℕ) × (lineTurn 0 l r ≡ done (bad f k))))
+
+lineTurn-same : (l : ℕ) (r : List ℕ) → 0 < l → SameLine l r
 unfolding lineTurn after fail
 lineTurn-same l [] p = inl refl
 lineTurn-same l (b ∷ bs) p = byCase (ltb 0 (eol (b ∷ bs))) (λ q. inl (rw (q, lineTurn) refl))
@@ -166,7 +171,7 @@ module _ (l c : ℕ) (cs : List ℕ) (pos : 0 < l) (hash : eqb c 35 ≡ true) (n
   own-or-other = byCase (eqb (levelOf (c ∷ cs)) l)
       (λ q. by (eqb-true (levelOf (c ∷ cs)) l q) (lineTurn-same l (drop l (c ∷ cs)) pos)) (λ q. inr (other-level q))
     where
-      by : levelOf (c ∷ cs) ≡ l → (lineTurn l l (drop l (c ∷ cs)) ≡ lineTurn 0 l (drop l (c ∷ cs))) ⊎ ((lineTurn l l (drop l (c ∷ cs)) ≡ done (ok l [] 0)) × ((f : ParserError) × (k : ℕ) × (lineTurn 0 l (drop l (c ∷ cs)) ≡ done (bad f k))))
+      by : levelOf (c ∷ cs) ≡ l → SameLine l (drop l (c ∷ cs))
           → Own l (c ∷ cs) ⊎ Other l (c ∷ cs)
       by same (inl t) = inl (own same t)
       by same (inr t) = inr (

@@ -1,28 +1,28 @@
 -- Entries end where a line starts, or at the end of the file.
-use Prim.Native.Nat.{ℕ, zero, suc, _+_, _-_, _≤_, _<_}
+use Prim.Native.Nat.{ℕ, suc, _+_, _≤_, _<_}
 use native.Mathlib.Nat.{not-suc-le-zero, add-zero, add-assoc}
 use native.Mathlib.Omega.{arith}
 use mathlib.Core.Path.{_≡_, refl, sym, ap, _∙_, subst}
 use mathlib.Core.Logic.{_⊎_, inl, inr}
-use mathlib.Core.Bool.{Bool, true, false, _&&_, _||_, not}
-use mathlib.Core.List.{List, [], _∷_, _++_}
+use mathlib.Core.Bool.{Bool, true, false, _||_, not}
+use mathlib.Core.List.{List, [], _∷_}
 use lib.ListN.{drop, length, take, length-drop, length-take}
 use lib.Seq.{drop-drop}
 use lib.Dec.{eqb, ltb}
 use borrow.Author.Tests.{eqb-true, eq-eqb, ltb-true, ltb-false}
 use Rattle.syntax.specs.Bytes.{startsWith, spaces, eol, run}
 use Rattle.syntax.specs.Marks.{Mark}
-use Rattle.syntax.specs.Reader.{Out, ok, bad, deep, Reader, _>>=_, _>>_, pure, fail, wrap, inNode, next, after, Turn, again, done, loop, repeat}
+use Rattle.syntax.specs.Reader.{Out, ok, bad, deep, Reader, _>>=_, _>>_, pure, fail, wrap, inNode, next, after, Turn, repeat}
 use Rattle.syntax.specs.Helper.{skipBlankBlock, blockTurn}
-use Rattle.syntax.specs.Pattern.{Inside, Ending, lineFeed, crlf, placeableStart, eof, Role, initialLineStart, lineStart, continuation, Slice, isTextByte, endsInCr, lineSlice, sliceBy, getTextSlice, State, isLineStart, roleAfter, withPlaceable, withText, goesOn, lineTurn, textTurn, patternTurn, finish, stateAt, usedBy, firstState, getPattern}
+use Rattle.syntax.specs.Pattern.{Inside, initialLineStart, Slice, isTextByte, endsInCr, lineSlice, sliceBy, getTextSlice, State, isLineStart, roleAfter, withPlaceable, withText, goesOn, lineTurn, textTurn, patternTurn, finish, stateAt, usedBy, firstState, getPattern}
 use Rattle.syntax.specs.Expression.{needsValue}
-use Rattle.syntax.specs.Core.{getAttribute, attributeBy, attributeTurn, getAttributes, Fields, fields, termFields, Entry, asMessage, asTerm, getEntry, toNextEntry, lineStartsAt, junkEnd}
+use Rattle.syntax.specs.Core.{getAttribute, attributeBy, attributeTurn, getAttributes, Fields, fields, termFields, asMessage, asTerm, getEntry, lineStartsAt}
 use Rattle.laws.specs.Bytes.{Whole, byCase, clash, pick, run-le}
-use Rattle.laws.specs.Stable.{Takes, Holds, TurnHolds, loop-holds, Sure}
+use Rattle.laws.specs.Answers.{Takes, Holds, TurnHolds, loop-holds, Sure}
 use Rattle.laws.specs.Stable.Helper.{block-sure}
-use Rattle.laws.specs.Stable.Comment.{starts-later, starts-add}
-use Rattle.laws.specs.Bounds.{TurnBounded, goes, ends}
-use Rattle.laws.specs.Bounds.Pattern.{text-bounded}
+use Rattle.laws.specs.Lines.{starts-later, starts-add, eol-starts}
+use Rattle.laws.specs.Bounds.{Bounded, used, TurnBounded, goes}
+use Rattle.laws.specs.Bounds.Pattern.{InsideBounds, text-bounded}
 
 -- unless all of s is used, a line starts k bytes on: past the start
 abbrev pub Lands : List ℕ → ℕ → Type 0
@@ -114,18 +114,6 @@ whole-lands b bs k w l h = byCase (ltb k (suc (length bs))) (λ q. h (ltb-true k
 
 -- ---- blank lines
 
--- a line end ends where a line starts
-pub eol-starts : (r : List ℕ) → 0 < eol r → lineStartsAt (eol r) r ≡ true
-unfolding eol startsWith lineStartsAt
-eol-starts [] h = absurd (not-suc-le-zero h)
-eol-starts (b ∷ bs) h = byCase (eqb b 10) (λ q. rw (q, eol) q) (λ q. cr bs q (rw (q, eol) at h))
-  where
-    cr : (cs : List ℕ) → eqb b 10 ≡ false → 0 < (elim (eqb b 13 && startsWith 10 cs) [ true ↦ 2 | false ↦ 0 ]) → lineStartsAt (eol (b ∷ cs)) (b ∷ cs) ≡ true
-    cr [] q g = byCase (eqb b 13) (λ r. absurd (not-suc-le-zero (rw r at g))) (λ r. absurd (not-suc-le-zero (rw r at g)))
-    cr (c ∷ cs) q g = byCase (eqb b 13)
-        (λ r. byCase (eqb c 10) (λ t. rw (q, eol) (rw r (rw t t))) (λ t. absurd (not-suc-le-zero (rw t at (rw r at g)))))
-        (λ r. absurd (not-suc-le-zero (rw r at g)))
-
 block-turn-lands : (n : ℕ) (s : List ℕ) → TurnHolds blockTurn (λ st r a ms k. lineStartsAt k r ≡ true) n s (blockTurn n s)
 unfolding blockTurn lineStartsAt
 block-turn-lands n s = byCase (ltb 0 (eol (drop (spaces s) s)))
@@ -174,7 +162,8 @@ lineSlice-ends s i t d ds e q = byCase (endsInCr t)
     (λ r. rw (r, lineSlice) (λ h. inl (rw e q)))
     (λ r. rw (r, lineSlice) (λ h. inr (subst (λ z. lineStartsAt z s ≡ true) (add-assoc i (length t) 1) (starts-later (i + length t) 1 s (omega arith) (rw e q)))))
 
-sliceBy-ends : (s : List ℕ) (i : ℕ) (t r : List ℕ) → drop (i + length t) s ≡ r → ((d : ℕ) (ds : List ℕ) → r ≡ d ∷ ds → isTextByte d ≡ false) → Holds (EndsLine s i) (sliceBy t r)
+sliceBy-ends : (s : List ℕ) (i : ℕ) (t r : List ℕ) → drop (i + length t) s ≡ r → ((d : ℕ) (ds : List ℕ) → r ≡ d ∷ ds → isTextByte d ≡ false)
+    → Holds (EndsLine s i) (sliceBy t r)
 unfolding sliceBy isLineStart roleAfter
 sliceBy-ends s i t [] e f = λ h. clash h refl
 sliceBy-ends s i t (d ∷ ds) e f = byCase (eqb d 125) (λ q. rw (q, sliceBy) tt)
@@ -191,8 +180,11 @@ text-ends s i r at =
 -- ---- patterns
 
 -- a pattern's turns, from the state st on
+abbrev LandedBy : Bool → List ℕ → ℕ → Type 0
+LandedBy starts s k = ((0 < k) × (lineStartsAt k s ≡ true)) ⊎ ((k ≡ 0) × (starts ≡ true) × (startsWith 10 s ≡ false))
+
 abbrev Landed : State → List ℕ → State → List Mark → ℕ → Type 0
-Landed st s st′ ms k = k < length s → ((0 < k) × (lineStartsAt k s ≡ true)) ⊎ ((k ≡ 0) × (isLineStart (st .role) ≡ true) × (startsWith 10 s ≡ false))
+Landed st s st′ ms k = k < length s → LandedBy (isLineStart (st .role)) s k
 
 module _ (sub : Inside) where
   abbrev Turned : State → List ℕ → Turn State State → Type 0
@@ -202,7 +194,7 @@ module _ (sub : Inside) where
   unfolding withText after
   withText-lands st s i (ok t ms k) (goes u) e = λ st′ ns j h l. inl (by j (h (omega (arith, length-drop (i + k) s))))
     where
-      by : (j : ℕ) → ((0 < j) × (lineStartsAt j (drop (i + k) s) ≡ true)) ⊎ ((j ≡ 0) × (isLineStart (roleAfter (t .ending)) ≡ true) × (startsWith 10 (drop (i + k) s) ≡ false)) → (0 < i + k + j) × (lineStartsAt (i + k + j) s ≡ true)
+      by : (j : ℕ) → LandedBy (isLineStart (roleAfter (t .ending))) (drop (i + k) s) j → (0 < i + k + j) × (lineStartsAt (i + k + j) s ≡ true)
       by j (inl (p, q)) = (omega arith, starts-later (i + k) j s p q)
       by j (inr (z, a, b)) = (omega (arith, u .room), rw z (rw (add-zero (i + k)) (from (e a))))
         where
@@ -216,13 +208,14 @@ module _ (sub : Inside) where
   unfolding withPlaceable isLineStart
   withPlaceable-lands st s (ok u ms k) p = λ st′ ns j h l. inl (by j (h (omega (arith, length-drop k s))))
     where
-      by : (j : ℕ) → ((0 < j) × (lineStartsAt j (drop k s) ≡ true)) ⊎ ((j ≡ 0) × (false ≡ true) × (startsWith 10 (drop k s) ≡ false)) → (0 < k + j) × (lineStartsAt (k + j) s ≡ true)
+      by : (j : ℕ) → LandedBy false (drop k s) j → (0 < k + j) × (lineStartsAt (k + j) s ≡ true)
       by j (inl (p, q)) = (omega arith, starts-later k j s p q)
       by j (inr (z, a, b)) = clash refl (sym a)
   withPlaceable-lands st s (bad f k) p = tt
   withPlaceable-lands st s (deep k) p = tt
 
-  line-lands : (st : State) (b : ℕ) (bs : List ℕ) (i : ℕ) (r : List ℕ) → isLineStart (st .role) ≡ true → spaces (b ∷ bs) ≡ i → drop i (b ∷ bs) ≡ r → TurnBounded 0 1 0 (b ∷ bs) (lineTurn st i r) → Turned st (b ∷ bs) (lineTurn st i r)
+  line-lands : (st : State) (b : ℕ) (bs : List ℕ) (i : ℕ) (r : List ℕ) → isLineStart (st .role) ≡ true → spaces (b ∷ bs) ≡ i → drop i (b ∷ bs) ≡ r
+      → TurnBounded 0 1 0 (b ∷ bs) (lineTurn st i r) → Turned st (b ∷ bs) (lineTurn st i r)
   unfolding lineTurn goesOn spaces run startsWith
   line-lands st b bs i [] l e d t = λ h. absurd (omega (arith, ap length d, length-drop i (b ∷ bs)))
   line-lands st b bs i (c ∷ cs) l e d t =
@@ -239,8 +232,16 @@ module _ (sub : Inside) where
           clash {v = goesOn i c} (rw i0 (rw (← bc) (rw (eqb-true b 10 z) refl))) g)
           (λ z. z)
 
-  -- what stands in braces uses a byte
-  module _ (takes : (b : ℕ) (bs : List ℕ) → Takes (sub .braced (b ∷ bs))) where
+  module _ {n : ℕ} (law : InsideBounds n sub) where
+    -- what stands in braces uses a byte
+    takes : (b : ℕ) (bs : List ℕ) → Takes (sub .braced (b ∷ bs))
+    takes b bs = go (sub .braced (b ∷ bs)) (law .braced b bs)
+      where
+        go : (o : Out (Unit {0})) → Bounded n (λ _. 20) (b ∷ bs) o → Takes o
+        go (ok a ms k) (used u) = omega (arith, u .room)
+        go (bad f k) h = tt
+        go (deep k) h = tt
+
     turn-lands : (st : State) (s : List ℕ) → Turned st s (patternTurn sub st s)
     unfolding patternTurn textTurn
     turn-lands st [] = λ h. absurd (not-suc-le-zero h)
@@ -273,11 +274,13 @@ module _ (sub : Inside) where
         finished s (bad f k) h = unfold finish in tt
         finished s (deep k) h = unfold finish in tt
 
-        started : (s : List ℕ) (o : Out State) → Holds (Landed (firstState s) (drop (firstState s .used) s)) o → Holds (λ a ms k. Lands s k) (after [] (firstState s .used) o)
+        started : (s : List ℕ) (o : Out State) → Holds (Landed (firstState s) (drop (firstState s .used) s)) o
+            → Holds (λ a ms k. Lands s k) (after [] (firstState s .used) o)
         started s (ok st ms k) h = unfold after in (λ l. by k (h (omega (arith, length-drop (firstState s .used) s))) (first-lands s))
           where
-            by : (k : ℕ) → ((0 < k) × (lineStartsAt k (drop (firstState s .used) s) ≡ true)) ⊎ ((k ≡ 0) × (isLineStart (firstState s .role) ≡ true) × (startsWith 10 (drop (firstState s .used) s) ≡ false))
-                → (firstState s .role ≡ initialLineStart) ⊎ ((0 < firstState s .used) × (lineStartsAt (firstState s .used) s ≡ true)) → (0 < firstState s .used + k) × (lineStartsAt (firstState s .used + k) s ≡ true)
+            by : (k : ℕ) → LandedBy (isLineStart (firstState s .role)) (drop (firstState s .used) s) k
+                → (firstState s .role ≡ initialLineStart) ⊎ ((0 < firstState s .used) × (lineStartsAt (firstState s .used) s ≡ true))
+                → (0 < firstState s .used + k) × (lineStartsAt (firstState s .used + k) s ≡ true)
             by k (inl (p, q)) f = (omega arith, starts-later (firstState s .used) k s p q)
             by k (inr (z, a, b)) (inl e) = clash a (ap isLineStart e ∙ (unfold isLineStart in refl))
             by k (inr (z, a, b)) (inr (p, q)) = (omega arith, rw z (rw (add-zero (firstState s .used)) q))
@@ -304,7 +307,8 @@ module _ (sub : Inside) where
     unfolding getAttributes repeat
     attributes-stay = record { on = λ s. loop-holds (attributeTurn sub) (λ n r a ms k. Stays r k) turns (suc (length s)) 0 s }
       where
-        by : (n : ℕ) (s : List ℕ) (k : ℕ) (o : Out (Unit {0})) → Holds (λ a ms j. Lands (drop k s) j) o → TurnHolds (attributeTurn sub) (λ n r a ms k. Stays r k) n s (attributeBy n k o)
+        by : (n : ℕ) (s : List ℕ) (k : ℕ) (o : Out (Unit {0})) → Holds (λ a ms j. Lands (drop k s) j) o
+            → TurnHolds (attributeTurn sub) (λ n r a ms k. Stays r k) n s (attributeBy n k o)
         by n s k (ok u ms j) h = unfold attributeBy in (λ a ns i g. stays-stay (k + j) i s (λ l. lands-after k j s h l .1) g)
         by n s k (bad f j) h = unfold attributeBy lineStartsAt in (λ l. refl)
         by n s k (deep j) h = unfold attributeBy in tt

@@ -1,36 +1,37 @@
 -- Every entry of a file starts where a line starts.
-use Prim.Native.Nat.{ℕ, zero, suc, _+_, _-_, _≤_, _<_}
+use Prim.Native.Nat.{ℕ, zero, suc, _+_, _-_, _<_}
 use native.Mathlib.Nat.{not-suc-le-zero, le-of-suc-le-suc, add-zero}
 use native.Mathlib.Omega.{arith}
 use mathlib.Core.Path.{_≡_, refl, sym, ap, _∙_, subst}
 use mathlib.Core.Logic.{_⊎_, inl, inr}
-use mathlib.Core.Bool.{Bool, true, false, _&&_, _||_, not}
+use mathlib.Core.Bool.{Bool, true, false, _&&_, _||_}
 use mathlib.Core.List.{List, [], _∷_}
 use lib.ListN.{drop, length, length-drop}
 use lib.Seq.{drop-drop}
 use lib.Dec.{eqb, ltb}
 use borrow.Author.Tests.{eqb-true, ltb-true}
-use Rattle.syntax.specs.Bytes.{startsWith, isLetter, spaces, run, eol}
+use Rattle.syntax.specs.Bytes.{startsWith, isLetter, eol}
 use Rattle.syntax.specs.Marks.{Mark}
-use Rattle.syntax.specs.Reader.{Out, ok, bad, deep, after, fail, Turn, again, done, loop, repeat}
+use Rattle.syntax.specs.Reader.{Out, ok, bad, deep, after, fail, Turn, loop, repeat}
 use Rattle.syntax.specs.Helper.{skipBlankBlock, blockTurn}
 use Rattle.syntax.specs.Comment.{lineLength, levelOf, lineEndUsed, lineRead, lineTurn, commentTurn, getComment}
 use Rattle.syntax.specs.Pattern.{Inside, usedBy}
 use Rattle.syntax.specs.Expression.{level}
 use Rattle.syntax.specs.Core.{Entry, asComment, getEntry, toNextEntry, lineStartsAt, junkEnd, Error}
 use Rattle.laws.specs.Bytes.{byCase, clash, pick}
-use Rattle.laws.specs.Stable.{Takes, Holds, TurnHolds, loop-holds}
-use Rattle.laws.specs.Stable.Comment.{starts-later, starts-add}
-use Rattle.laws.specs.Bounds.{Bounded, used}
+use Rattle.laws.specs.Answers.{Holds, TurnHolds, loop-holds}
+use Rattle.laws.specs.Lines.{starts-later, starts-add, eol-starts}
+use Rattle.laws.specs.Bounds.{used}
+use Rattle.laws.specs.Bounds.Comment.{isOver}
 use Rattle.laws.specs.Bounds.Pattern.{InsideBounds}
 use Rattle.laws.specs.Bounds.Expression.{level-bounds}
-use Rattle.laws.specs.Lines.Lands.{Lands, Stays, stays-stay, eol-starts, block-starts, entry-lands}
+use Rattle.laws.specs.Lines.Lands.{Lands, Stays, stays-stay, block-starts, entry-lands}
 use Rattle.laws.specs.Entries.{block-ten}
-use Rattle.laws.specs.File.{First, entry, junk, Passed, none, more, first-uses, leading}
+use Rattle.laws.specs.File.{First, entry, junk, Passed, none, more, leading}
 
 -- ---- junk
 
-next-starts : (fresh : Bool) (s : List ℕ) → toNextEntry fresh s < length s → (0 < toNextEntry fresh s → lineStartsAt (toNextEntry fresh s) s ≡ true) × (toNextEntry fresh s ≡ 0 → fresh ≡ true)
+next-starts : (fresh : Bool) (s : List ℕ) → let k = toNextEntry fresh s in k < length s → (0 < k → lineStartsAt k s ≡ true) × (k ≡ 0 → fresh ≡ true)
 unfolding toNextEntry lineStartsAt
 next-starts fresh [] l = absurd (not-suc-le-zero l)
 next-starts fresh (b ∷ bs) l = byCase (fresh && (isLetter b || (eqb b 45 || eqb b 35)))
@@ -52,14 +53,17 @@ junk-stays k s l = by (toNextEntry (lineStartsAt k s) (drop k s)) (next-starts (
 -- ---- comments
 
 -- a comment ends at a line feed, or where a line starts, or at the end
+abbrev LineEnd : List ℕ → ℕ → Type 0
+LineEnd s k = (startsWith 10 (drop k s) ≡ true) ⊎ (lineStartsAt k s ≡ true)
+
 abbrev Leaves : List ℕ → ℕ → Type 0
-Leaves s k = k < length s → (startsWith 10 (drop k s) ≡ true) ⊎ (lineStartsAt k s ≡ true)
+Leaves s k = k < length s → LineEnd s k
 
 leaves-after : (k j : ℕ) (s : List ℕ) → Leaves s k → Leaves (drop k s) j → Leaves s (k + j)
 leaves-after k zero s h g l = rw (add-zero k) (h (omega arith))
 leaves-after k (suc j) s h g l = by (g (omega (arith, length-drop k s)))
   where
-    by : (startsWith 10 (drop (suc j) (drop k s)) ≡ true) ⊎ (lineStartsAt (suc j) (drop k s) ≡ true) → (startsWith 10 (drop (k + suc j) s) ≡ true) ⊎ (lineStartsAt (k + suc j) s ≡ true)
+    by : LineEnd (drop k s) (suc j) → LineEnd s (k + suc j)
     by (inl a) = inl (subst (λ z. startsWith 10 z ≡ true) (drop-drop (suc j) k s) a)
     by (inr a) = inr (starts-later k (suc j) s (omega arith) a)
 
@@ -99,7 +103,7 @@ line-ended r h = go (drop (eol r) r) refl
 ended-leaves : (k u : ℕ) (s r : List ℕ) → drop k s ≡ r → Ended r u → Leaves s (k + u)
 ended-leaves k u s r e h l = by (h (omega (arith, ap length e, length-drop k s)))
   where
-    by : (startsWith 10 (drop u r) ≡ true) ⊎ ((0 < u) × (lineStartsAt u r ≡ true)) → (startsWith 10 (drop (k + u) s) ≡ true) ⊎ (lineStartsAt (k + u) s ≡ true)
+    by : (startsWith 10 (drop u r) ≡ true) ⊎ ((0 < u) × (lineStartsAt u r ≡ true)) → LineEnd s (k + u)
     by (inl a) = inl (subst (λ z. startsWith 10 z ≡ true) (ap (drop u) (sym e) ∙ drop-drop u k s) a)
     by (inr (p, a)) = inr (starts-later k u s p (rw e a))
 
@@ -123,7 +127,7 @@ comment-leaves s = loop-holds commentTurn (λ st s a ms k. Leaves s k) turns (su
   where
     turns : (st : ℕ) (s : List ℕ) → Turned st s (commentTurn st s)
     turns st s = unfold commentTurn lineStartsAt in
-        (pick (Turned st s) (eqb (levelOf s) 0 || (not (eqb st 0) && not (eqb (levelOf s) st))) _ _ (λ q h. inr refl) (λ q. line-leaves st s (levelOf s) (drop (levelOf s) s) refl))
+        (pick (Turned st s) (isOver st s) _ _ (λ q h. inr refl) (λ q. line-leaves st s (levelOf s) (drop (levelOf s) s) refl))
 
 -- ---- entries
 
@@ -140,16 +144,8 @@ block-some (b ∷ bs) h = rw (eqb-true b 10 h) (rw (block-ten bs) (past (loop (s
 
 module _ {n : ℕ} {sub : Inside} (law : InsideBounds n sub) where
   entry-leaves : (s : List ℕ) → Holds (λ e ms k. Leaves s k) (getEntry sub s)
-  entry-leaves s = byCase (startsWith 35 s) (λ q. unfold getEntry in (rw (q, getEntry) (commented (getComment s) (comment-leaves s)))) (λ q. named (getEntry sub s) (entry-lands sub takes s q))
+  entry-leaves s = byCase (startsWith 35 s) (λ q. unfold getEntry in (rw (q, getEntry) (commented (getComment s) (comment-leaves s)))) (λ q. named (getEntry sub s) (entry-lands sub law s q))
     where
-      takes : (b : ℕ) (bs : List ℕ) → Takes (sub .braced (b ∷ bs))
-      takes b bs = go (sub .braced (b ∷ bs)) (law .braced b bs)
-        where
-          go : (o : Out (Unit {0})) → Bounded n (λ _. 20) (b ∷ bs) o → Takes o
-          go (ok a ms k) (used u) = omega (arith, u .room)
-          go (bad f k) h = tt
-          go (deep k) h = tt
-
       commented : (o : Out ℕ) → Holds (λ l ms k. Leaves s k) o → Holds (λ e ms k. Leaves s k) (asComment o)
       commented (ok l ms k) h = unfold asComment in h
       commented (bad f k) h = unfold asComment in tt
@@ -169,7 +165,7 @@ module _ {n : ℕ} {sub : Inside} (law : InsideBounds n sub) where
       u : ℕ
       u = usedBy (skipBlankBlock (drop k s))
 
-      by : (startsWith 10 (drop k s) ≡ true) ⊎ (lineStartsAt k s ≡ true) → lineStartsAt (k + u) s ≡ true
+      by : LineEnd s k → lineStartsAt (k + u) s ≡ true
       by (inl a) = starts-later k u s (block-some (drop k s) a) (block-starts (drop k s))
       by (inr a) = starts-add k u s a (block-starts (drop k s))
   first-stays {b} {bs} (junk {k = k} h) = let j = junkEnd k (b ∷ bs) in stays-stay j (usedBy (skipBlankBlock (drop j (b ∷ bs)))) (b ∷ bs) (junk-stays k (b ∷ bs)) (λ _. block-starts (drop j (b ∷ bs)))
@@ -180,5 +176,6 @@ module _ {n : ℕ} {sub : Inside} (law : InsideBounds n sub) where
   passed-stays (more {b} {bs} {k = k} {j} f p) = stays-stay k j (b ∷ bs) (first-stays f) (passed-stays p)
 
 -- every entry that is reached starts where a line starts
-pub entry-starts : (n : ℕ) (s : List ℕ) {ms : List Mark} {es : List Error} {k : ℕ} → Passed (level n) (drop (leading s) s) ms es k → leading s + k < length s → lineStartsAt (leading s + k) s ≡ true
+pub entry-starts : (n : ℕ) (s : List ℕ) {ms : List Mark} {es : List Error} {k : ℕ} → Passed (level n) (drop (leading s) s) ms es k → leading s + k < length s
+    → lineStartsAt (leading s + k) s ≡ true
 entry-starts n s {k = k} p = stays-stay (leading s) k s (λ _. block-starts s) (passed-stays (level-bounds n) p)

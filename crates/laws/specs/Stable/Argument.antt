@@ -1,135 +1,29 @@
 -- Call arguments at a cut.
-use Prim.Native.Nat.{ℕ, zero, suc, _+_, _-_, _≤_, _<_}
+use Prim.Native.Nat.{ℕ, suc, _+_, _≤_, _<_}
 use native.Mathlib.Nat.{not-suc-le-zero}
 use native.Mathlib.Omega.{arith}
 use mathlib.Core.Path.{_≡_, refl, sym, ap, _∙_, subst}
-use mathlib.Core.Bool.{Bool, true, false, _&&_, _||_, not}
-use mathlib.Core.List.{List, [], _∷_, _++_, append-nil}
-use lib.ListN.{drop, length, take, length-drop, length-append, drop-of-length-le}
+use mathlib.Core.Bool.{true, false}
+use mathlib.Core.List.{List, [], _∷_, _++_}
+use lib.ListN.{drop, length, take, length-drop}
 use lib.Seq.{take-append-le}
 use lib.Dec.{eqb, ltb}
-use borrow.Author.Tests.{eqb-true, eqb-false, ltb-true, ltb-false}
-use Rattle.syntax.specs.Bytes.{startsWith, starts, all, isLetter, isDigit, isCalleePart}
+use borrow.Author.Tests.{ltb-true, ltb-false}
+use Rattle.syntax.specs.Bytes.{startsWith}
 use Rattle.syntax.specs.declared.errors.ErrorKind.the-variants as Errors
-use Rattle.syntax.specs.Marks.{Mark, textNode, node}
-use Rattle.syntax.specs.Reader.{Out, ok, bad, deep, Reader, fail, _>>=_, _>>_, pure, next, after, wrap, Turn, again, done, turnOf, repeat}
-use Rattle.syntax.specs.Helper.{skipBlank, takeByteIf, expectByte, getIdentifier, getNumberLiteral}
+use Rattle.syntax.specs.Marks.{Mark, textNode}
+use Rattle.syntax.specs.Reader.{Out, ok, bad, deep, Reader, fail, _>>_, next, after, wrap}
+use Rattle.syntax.specs.Helper.{skipBlank}
 use Rattle.syntax.specs.Pattern.{Inside}
-use Rattle.syntax.specs.Expression.{Inline, string, number, variable, function, inner, message, term, asInline, stringLiteral, asString, numberLiteral, getCallArguments, getAttributeAccessor, termReference, variableReference, messageReference, functionReference, referenceBy, reference, nestedPlaceable, noInline, nonLiteral, getInlineExpression, isAmong, isNone, separator, positional, namedValue, namedArgument, afterReference, pastBlank, argumentBy, argumentTurn}
-use Rattle.laws.specs.Bytes.{Whole, whole-tail, whole-drop, nonempty, Fresh, Stop, byCase, clash, drop-app, pick, pick₂}
-use Rattle.laws.specs.Stable.{Mode, loose, any, Upto, upto-le, Within, Carries, Reads, Closes, from-any, bind, then, pure-reads, fail-reads, Holds, TurnWithin, TurnCarries, Turns, Any, Free, turnOf-carries, turnOf-within, next-within, next-keeps, wrap-relabels, Sure, sure-ok, cont-within, cont-keeps, carries-trans, after-least, holds-map, least-next, least-wrap, beyond, plain-after, plain-next}
-use Rattle.laws.specs.Stable.Helper.{expectByte-reads, takeByteIf-reads, identifier-reads, identifier-named, blank-reads, blank-sure, loose-nil}
+use Rattle.syntax.specs.Expression.{Inline, string, number, variable, function, inner, message, term, getInlineExpression, isAmong, isNone, separator, positional, namedValue, namedArgument, afterReference, pastBlank, argumentBy, argumentTurn}
+use Rattle.laws.specs.Bytes.{Whole, whole-drop, Stop, byCase, drop-app, pick, pick₂}
+use Rattle.laws.specs.Answers.{Holds, Sure, holds-map}
+use Rattle.laws.specs.Bounds.Expression.{pastBlank-least}
+use Rattle.laws.specs.Stable.{loose, Upto, Within, Carries, Reads, from-any, then, pure-reads, TurnWithin, TurnCarries, Turns, Any, Free, turnOf-carries, turnOf-within, next-within, next-keeps, wrap-relabels, cont-within, cont-keeps, carries-trans, after-least, least-next, least-wrap, beyond}
+use Rattle.laws.specs.Stable.Helper.{expectByte-reads, takeByteIf-reads, blank-reads, blank-sure}
 use Rattle.laws.specs.Stable.Pattern.{InsideLaw}
+use Rattle.laws.specs.Values.{Fits, inline-fits}
 use Rattle.laws.specs.Stable.Inline.{inline-reads}
-
--- a message reference's name is in what was used
-abbrev pub NameUpto : ℕ → Inline → Type 0
-NameUpto n string = Unit {0}
-NameUpto n number = Unit {0}
-NameUpto n variable = Unit {0}
-NameUpto n function = Unit {0}
-NameUpto n inner = Unit {0}
-NameUpto n (message i a) = i ≤ n
-NameUpto n (term a) = Unit {0}
-
-abbrev Nameless : Inline → Type 0
-Nameless sh = (n : ℕ) → NameUpto n sh
-
-abbrev pub Fits : Out Inline → Type 0
-Fits o = Holds (λ sh ms k. NameUpto k sh) o
-
-nameless-fits : (o : Out Inline) → Holds (λ sh ms k. Nameless sh) o → Fits o
-nameless-fits o h = holds-map (λ sh ms k. Nameless sh) (λ sh ms k. NameUpto k sh) (λ sh ms k f. f k) o h
-
-asInline-fits : (o : Out Inline) → Fits o → Fits (asInline o)
-unfolding asInline
-asInline-fits (ok a ms k) h = h
-asInline-fits (bad f k) h = tt
-asInline-fits (deep k) h = tt
-
-asString-fits : (o : Out (Unit {0})) → Fits (asString o)
-unfolding asString
-asString-fits (ok a ms k) = tt
-asString-fits (bad f k) = tt
-asString-fits (deep k) = tt
-
--- what holds of the values that references can have
-module _ (P : Inline → Type 0) where
-  pure-value : (sh : Inline) → P sh → (s : List ℕ) → Holds (λ a ms k. P a) (pure sh s)
-  unfolding pure
-  pure-value sh h s = h
-
-  pub number-value : P number → (s : List ℕ) → Holds (λ a ms k. P a) (numberLiteral s)
-  unfolding numberLiteral _>>_
-  number-value h s = plain-next P s (λ _. pure number) (getNumberLiteral 20 s) (λ a r. pure-value number h r)
-
-  pub variable-value : P variable → (s : List ℕ) → Holds (λ a ms k. P a) (variableReference s)
-  unfolding variableReference _>>_
-  variable-value h s = plain-next P s (λ _. getIdentifier 9 >> pure variable) (expectByte 36 s) (λ a r. plain-next P r (λ _. pure variable) (getIdentifier 9 r) (λ a r. pure-value variable h r))
-
-  pub term-value : (sub : Inside) → ((t : Bool) → P (term t)) → (s : List ℕ) → Holds (λ a ms k. P a) (termReference sub s)
-  unfolding termReference _>>_ _>>=_
-  term-value sub h s = plain-next P s (λ _. getIdentifier 9 >> (getAttributeAccessor >>= λ t. getCallArguments sub >> pure (term t))) (expectByte 45 s)
-      (λ a r. plain-next P r (λ _. getAttributeAccessor >>= λ t. getCallArguments sub >> pure (term t)) (getIdentifier 9 r)
-      (λ a r. plain-next P r (λ t. getCallArguments sub >> pure (term t)) (getAttributeAccessor r)
-      (λ t r. plain-next P r (λ _. pure (term t)) (getCallArguments sub r) (λ a r. pure-value (term t) (h t) r))))
-
-  pub nested-value : (sub : Inside) → P inner → (s : List ℕ) → Holds (λ a ms k. P a) (nestedPlaceable sub s)
-  unfolding nestedPlaceable _>>_
-  nested-value sub h s = plain-next P s (λ _. pure inner) (sub .braced s) (λ a r. pure-value inner h r)
-
-  referenceBy-value : P function → (n : ℕ) → ((a : Bool) → P (message n a)) → (z : List ℕ) (v : Bool) (s : List ℕ) → Holds (λ a ms k. P a) (referenceBy z n v s)
-  unfolding referenceBy functionReference messageReference pure fail _>>=_
-  referenceBy-value f n h z true s = byCase (all isCalleePart (take n z)) (λ q. rw (q, functionReference) f) (λ q. rw (q, functionReference) tt)
-  referenceBy-value f n h z false s = plain-next P s (λ a. pure (message n a)) (getAttributeAccessor s) (λ a r. h a)
-
-  pub reference-value : (sub : Inside) → P function → ((n : ℕ) (a : Bool) → P (message n a)) → (s : List ℕ) → Holds (λ a ms k. P a) (reference sub s)
-  unfolding reference _>>=_
-  reference-value sub f h s = plain-next P s (λ n. getCallArguments sub >>= (λ call. referenceBy s n call)) (getIdentifier 9 s)
-      (λ n r. plain-next P r (λ call. referenceBy s n call) (getCallArguments sub r) (λ v z. referenceBy-value f n (h n) s v z))
-
-noInline-nameless : (v : Bool) (s : List ℕ) → Holds (λ a ms k. Nameless a) (noInline v s)
-unfolding noInline fail
-noInline-nameless true s = tt
-noInline-nameless false s = tt
-
-module _ (sub : Inside) where
-  after-fits : (n : ℕ) (ms : List Mark) (k : ℕ) (o : Out Inline) → n ≡ k → Holds (λ a ns j. NameUpto n a) o → Fits (after ms k o)
-  unfolding after
-  after-fits n ms k (ok (message i a) ns j) e h = omega arith
-  after-fits n ms k (ok string ns j) e h = tt
-  after-fits n ms k (ok number ns j) e h = tt
-  after-fits n ms k (ok variable ns j) e h = tt
-  after-fits n ms k (ok function ns j) e h = tt
-  after-fits n ms k (ok inner ns j) e h = tt
-  after-fits n ms k (ok (term a) ns j) e h = tt
-  after-fits n ms k (bad f j) e h = tt
-  after-fits n ms k (deep j) e h = tt
-
-  named-fits : (z s : List ℕ) (o : Out ℕ) → Holds (λ n ms k. n ≡ k) o → Fits (next s (λ n. getCallArguments sub >>= (λ call. referenceBy z n call)) o)
-  unfolding next _>>=_
-  named-fits z s (ok n ms k) h = after-fits n ms k ((getCallArguments sub >>= (λ call. referenceBy z n call)) (drop k s)) h
-      (plain-next (NameUpto n) (drop k s) (λ call. referenceBy z n call) (getCallArguments sub (drop k s)) (λ v r. referenceBy-value (NameUpto n) tt n (λ a. omega arith) z v r))
-  named-fits z s (bad f k) h = tt
-  named-fits z s (deep k) h = tt
-
-  reference-fits : (s : List ℕ) → Fits (reference sub s)
-  unfolding reference _>>=_
-  reference-fits s = named-fits s s (getIdentifier 9 s) (identifier-named 9 s)
-
-  pick-fits : (v : Bool) (o u : Out Inline) → Fits o → Fits u → Fits (elim v [ true ↦ o | false ↦ u ])
-  pick-fits true o u f g = f
-  pick-fits false o u f g = g
-
-  pub inline-fits : (v : Bool) (s : List ℕ) → Fits (getInlineExpression sub v s)
-  unfolding getInlineExpression nonLiteral
-  inline-fits v [] = nameless-fits (noInline v []) (noInline-nameless v [])
-  inline-fits v (b ∷ bs) =
-      pick-fits (eqb b 34) _ _ (asString-fits (stringLiteral (b ∷ bs))) (pick-fits (isDigit b) _ _ (nameless-fits (numberLiteral (b ∷ bs)) (number-value Nameless (λ n. tt) (b ∷ bs)))
-      (pick-fits (isLetter b) _ _ (asInline-fits (reference sub (b ∷ bs)) (reference-fits (b ∷ bs))) (pick-fits v _ _ (nameless-fits (noInline true (b ∷ bs)) (noInline-nameless true (b ∷ bs)))
-      (pick-fits (eqb b 45) _ _ (pick-fits (starts isLetter bs) _ _ (asInline-fits (termReference sub (b ∷ bs)) (nameless-fits (termReference sub (b ∷ bs)) (term-value Nameless sub (λ t n. tt) (b ∷ bs)))) (nameless-fits (numberLiteral (b ∷ bs)) (number-value Nameless (λ n. tt) (b ∷ bs))))
-      (pick-fits (eqb b 36) _ _ (asInline-fits (variableReference (b ∷ bs)) (nameless-fits (variableReference (b ∷ bs)) (variable-value Nameless (λ n. tt) (b ∷ bs))))
-      (pick-fits (eqb b 123) _ _ (asInline-fits (nestedPlaceable sub (b ∷ bs)) (nameless-fits (nestedPlaceable sub (b ∷ bs)) (nested-value Nameless sub (λ n. tt) (b ∷ bs)))) (nameless-fits (noInline false (b ∷ bs)) (noInline-nameless false (b ∷ bs)))))))))
 
 separator-reads : (names : List (List ℕ)) → Reads loose (separator names)
 unfolding separator
@@ -199,7 +93,8 @@ module _ (sub : Inside) (law : InsideLaw sub) where
         go [] e = absurd (omega (arith, ap length e, length-drop k x))
         go (c ∷ cs) e = refl
 
-    afterReference-keeps : (n : ℕ) (ms : List Mark) (k : ℕ) → n ≤ k → Carries (Upto loose y (length x)) (afterReference sub names n ms k x) (afterReference sub names n ms k (x ++ y))
+    afterReference-keeps : (n : ℕ) (ms : List Mark) (k : ℕ) → n ≤ k
+        → Carries (Upto loose y (length x)) (afterReference sub names n ms k x) (afterReference sub names n ms k (x ++ y))
     unfolding afterReference
     afterReference-keeps n ms k h =
         byCase (ltb k (length x))
@@ -220,22 +115,14 @@ module _ (sub : Inside) (law : InsideLaw sub) where
       go (bad f j) g = h
       go (deep j) g = h
 
-  pub pastBlank-least : (k : ℕ) (s : List ℕ) → k ≤ pastBlank k s
-  unfolding pastBlank past-of
-  pastBlank-least k s = go (skipBlank (drop k s))
-    where
-      go : (o : Out (Unit {0})) → k ≤ past-of k o
-      go (ok a ms j) = omega arith
-      go (bad f j) = omega arith
-      go (deep j) = omega arith
-
   pastBlank-same : (x y : List ℕ) → Whole x → (k : ℕ) → pastBlank k x < length x → pastBlank k (x ++ y) ≡ pastBlank k x
   unfolding pastBlank past-of
   pastBlank-same x y w k h =
       ap (λ r. past-of k (skipBlank r)) (drop-app k x y (omega (arith, pastBlank-least k x)))
       ∙ ap (past-of k) (go (skipBlank (drop k x)) (blank-sure (drop k x)) (blank-reads loose tt .keeps (drop k x) y (whole-drop k x w)) h)
     where
-      go : (o : Out (Unit {0})) → Sure o → Carries (Upto loose y (length (drop k x))) o (skipBlank (drop k x ++ y)) → past-of k o < length x → skipBlank (drop k x ++ y) ≡ o
+      go : (o : Out (Unit {0})) → Sure o → Carries (Upto loose y (length (drop k x))) o (skipBlank (drop k x ++ y)) → past-of k o < length x
+          → skipBlank (drop k x ++ y) ≡ o
       go (ok a ms j) s c g = c (rw length-drop (omega arith))
       go (bad f j) s c g = absurd s
       go (deep j) s c g = absurd s
@@ -254,14 +141,16 @@ module _ (sub : Inside) (law : InsideLaw sub) where
     argumentBy-within s (bad f k) h = tt
     argumentBy-within s (deep k) h = tt
 
-    by-positional : (sh : Inline) (ms : List Mark) (k : ℕ) (o′ : Out Inline) → (k < length x → o′ ≡ ok sh ms k) → argumentBy sub names (x ++ y) (ok sh ms k) ≡ positional names ms k (x ++ y)
+    by-positional : (sh : Inline) (ms : List Mark) (k : ℕ) (o′ : Out Inline) → (k < length x → o′ ≡ ok sh ms k)
+        → argumentBy sub names (x ++ y) (ok sh ms k) ≡ positional names ms k (x ++ y)
         → Carries (Upto loose y (length x)) (positional names ms k x) (argumentBy sub names (x ++ y) o′)
     by-positional sh ms k o′ c e =
         carries-trans (Upto loose y (length x)) (positional names ms k x) (positional names ms k (x ++ y)) (argumentBy sub names (x ++ y) o′) (positional-keeps x y w names ms k)
         (holds-map (λ b ns j. k ≤ j) (λ b ns j. Upto loose y (length x) j → argumentBy sub names (x ++ y) o′ ≡ positional names ms k (x ++ y))
         (λ b ns j l u. ap (argumentBy sub names (x ++ y)) (c (omega arith)) ∙ e) (positional names ms k x) (positional-least x y w names ms k x))
 
-    argumentBy-keeps : (o o′ : Out Inline) → Fits o → Carries (Upto loose y (length x)) o o′ → Carries (Upto loose y (length x)) (argumentBy sub names x o) (argumentBy sub names (x ++ y) o′)
+    argumentBy-keeps : (o o′ : Out Inline) → Fits o → Carries (Upto loose y (length x)) o o′
+        → Carries (Upto loose y (length x)) (argumentBy sub names x o) (argumentBy sub names (x ++ y) o′)
     unfolding argumentBy
     argumentBy-keeps (ok (message n false) ms k) o′ f c =
         let j = pastBlank k x in
@@ -289,7 +178,8 @@ module _ (sub : Inside) (law : InsideLaw sub) where
       (λ q. turnOf-within (Unit {0}) (suc (length bs)) (argumentBy sub names ((b ∷ bs) ++ y) (getInlineExpression sub false ((b ∷ bs) ++ y)))
       (argumentBy-within (b ∷ bs) y w names s (getInlineExpression sub false ((b ∷ bs) ++ y)) (inline-reads sub law false .stops (b ∷ bs) y w s)))
 
-  argument-keeps : (names : List (List ℕ)) (x y : List ℕ) → Whole x → Unit {0} → TurnCarries Free (Upto loose y (length x)) (argumentTurn sub names x) (argumentTurn sub names (x ++ y))
+  argument-keeps : (names : List (List ℕ)) (x y : List ℕ) → Whole x → Unit {0}
+      → TurnCarries Free (Upto loose y (length x)) (argumentTurn sub names x) (argumentTurn sub names (x ++ y))
   unfolding argumentTurn
   argument-keeps names [] y w i = λ u. absurd (not-suc-le-zero u)
   argument-keeps names (b ∷ bs) y w i = pick₂ (TurnCarries Free (Upto loose y (suc (length bs)))) (eqb b 41) _ _ _ _ (λ q u. refl)

@@ -1,64 +1,24 @@
 -- comment.rs at a cut.
 use Prim.Native.Nat.{ℕ, zero, suc, _+_, _-_, _≤_, _<_, min, suc-le-suc}
-use native.Mathlib.Nat.{not-suc-le-zero, le-of-suc-le-suc, add-zero, zero-add, suc-add, add-suc}
+use native.Mathlib.Nat.{not-suc-le-zero, le-of-suc-le-suc, add-zero, zero-add, suc-add}
 use native.Mathlib.Omega.{arith}
 use mathlib.Core.Path.{_≡_, refl, sym, ap, ap₂, _∙_, subst}
 use mathlib.Core.Bool.{Bool, true, false, _&&_, _||_, not}
 use mathlib.Core.List.{List, [], _∷_, _++_, append-nil}
-use lib.ListN.{drop, length, take, length-drop, length-append, drop-of-length-le}
-use lib.Seq.{drop-drop, drop-append-seam, drop-length}
+use lib.ListN.{drop, length, length-drop, length-append, drop-of-length-le}
+use lib.Seq.{drop-drop}
 use lib.Dec.{eqb, ltb}
-use borrow.Author.Tests.{eqb-true, eqb-false, ltb-true, ltb-false, eq-eqb, lt-ltb}
-unfoldable pub use Rattle.syntax.specs.Bytes.{lineRun}
-use Rattle.syntax.specs.Bytes.{startsWith, starts, run, eol}
+use borrow.Author.Tests.{eqb-true, ltb-true, ltb-false}
+use Rattle.syntax.specs.Bytes.{startsWith, run, eol, lineRun}
 use Rattle.syntax.specs.declared.errors.ErrorKind.the-variants as Errors
 use Rattle.syntax.specs.Marks.{Mark, moveUp, textNode}
 use Rattle.syntax.specs.declared.errors.ParserError.{ParserError}
-use Rattle.syntax.specs.Reader.{Out, ok, bad, deep, Reader, fail, after, Turn, again, done, loop, repeat}
-use Rattle.syntax.specs.Comment.{lineLength, levelOf, lineEndUsed, lineRead, lineTurn, commentTurn, getComment}
+use Rattle.syntax.specs.Reader.{Out, ok, bad, deep, fail, after, Turn, again, done, loop}
+use Rattle.syntax.specs.Comment.{lineLength, levelOf, lineEndUsed, lineRead, lineTurn, commentTurn}
 use Rattle.syntax.specs.Core.{lineStartsAt}
 use Rattle.laws.specs.Moving.{after-after}
-use Rattle.laws.specs.Bytes.{Whole, whole-tail, whole-drop, nonempty, Fresh, isFresh, Stop, stop-fresh, byCase, clash, drop-app, run-whole, eol-whole, not-fresh}
-
-pub lineRun-whole : (b : ℕ) (bs y : List ℕ) → Whole (b ∷ bs) → (lineRun ((b ∷ bs) ++ y) ≡ lineRun (b ∷ bs)) × (lineRun (b ∷ bs) < suc (length bs))
-unfolding lineRun
-lineRun-whole b bs y w = run-whole (λ b. not (eqb b 10)) refl b bs y w
-
-pub lineRun-here : (b : ℕ) (bs : List ℕ) → eqb b 10 ≡ true → lineRun (b ∷ bs) ≡ 0
-unfolding lineRun run
-lineRun-here b bs q = rw (q, run)
-
-pub lineRun-on : (b : ℕ) (bs : List ℕ) → eqb b 10 ≡ false → lineRun (b ∷ bs) ≡ suc (lineRun bs)
-unfolding lineRun run
-lineRun-on b bs q = rw (q, run)
-
--- what stands at the first newline
-pub lineRun-at : (s : List ℕ) → lineRun s < length s → drop (lineRun s) s ≡ 10 ∷ drop (suc (lineRun s)) s
-lineRun-at [] h = absurd (not-suc-le-zero h)
-lineRun-at (b ∷ bs) h =
-    byCase (eqb b 10) (λ q. rw (lineRun-here b bs q) (ap (λ z. z ∷ bs) (eqb-true b 10 q)))
-    (λ q. rw (lineRun-on b bs q) (lineRun-at bs (omega (arith, lineRun-on b bs q))))
-
-pub starts-at : (s : List ℕ) → lineRun s < length s → lineStartsAt (suc (lineRun s)) s ≡ true
-unfolding lineStartsAt
-starts-at [] h = absurd (not-suc-le-zero h)
-starts-at (b ∷ bs) h =
-    byCase (eqb b 10) (λ q. rw (lineRun-here b bs q) q)
-    (λ q. rw (lineRun-on b bs q) (starts-at bs (omega (arith, lineRun-on b bs q))))
-
-starts-on : (k j : ℕ) (s : List ℕ) → lineStartsAt (suc j) (drop k s) ≡ true → lineStartsAt (k + suc j) s ≡ true
-unfolding lineStartsAt
-starts-on zero j s q = rw (zero-add (suc j)) q
-starts-on (suc k) j [] q = clash q refl
-starts-on (suc k) j (b ∷ bs) q = rw (suc-add k (suc j), add-suc k j) (subst (λ z. lineStartsAt z bs ≡ true) (add-suc k j) (starts-on k j bs q))
-
-pub starts-later : (k j : ℕ) (s : List ℕ) → 0 < j → lineStartsAt j (drop k s) ≡ true → lineStartsAt (k + j) s ≡ true
-starts-later k zero s h q = absurd (not-suc-le-zero h)
-starts-later k (suc j) s h q = starts-on k j s q
-
-pub starts-add : (k j : ℕ) (s : List ℕ) → lineStartsAt k s ≡ true → lineStartsAt j (drop k s) ≡ true → lineStartsAt (k + j) s ≡ true
-starts-add k zero s p q = rw (add-zero k) p
-starts-add k (suc j) s p q = starts-on k j s q
+use Rattle.laws.specs.Lines.{lineRun-whole, lineRun-on, lineRun-at, starts-at, starts-add, eol-line}
+use Rattle.laws.specs.Bytes.{Whole, whole-drop, byCase, clash, drop-app, run-whole, eol-whole}
 
 -- a run, after some of it
 run-drop : (t : ℕ → Bool) (k : ℕ) (s : List ℕ) → k ≤ run t s → run t s ≡ k + run t (drop k s)
@@ -76,20 +36,6 @@ hash-line (suc k) [] h = absurd (not-suc-le-zero h)
 hash-line (suc k) (b ∷ bs) h = byCase (eqb b 35)
     (λ q. lineRun-on b bs (rw (eqb-true b 35 q) refl) ∙ ap suc (hash-line k bs (le-of-suc-le-suc (rw (q, run) at h))) ∙ sym (suc-add k (lineRun (drop k bs))))
     (λ q. absurd (not-suc-le-zero (rw (q, run) at h)))
-
--- the line end that a line comes to
-pub eol-line : (s : List ℕ) → 0 < eol s → lineRun s + 1 ≡ eol s
-unfolding eol startsWith
-eol-line [] h = absurd (not-suc-le-zero h)
-eol-line (b ∷ bs) h = byCase (eqb b 10)
-    (λ q. rw (q, eol) (omega (arith, lineRun-here b bs q)))
-    (λ q. cr bs (rw (q, eol) at h) q)
-  where
-    cr : (cs : List ℕ) → 0 < (elim (eqb b 13 && startsWith 10 cs) [ true ↦ 2 | false ↦ 0 ]) → eqb b 10 ≡ false → lineRun (b ∷ cs) + 1 ≡ eol (b ∷ cs)
-    cr [] g q = byCase (eqb b 13) (λ r. absurd (not-suc-le-zero (rw r at g))) (λ r. absurd (not-suc-le-zero (rw r at g)))
-    cr (c ∷ cs) g q = byCase (eqb b 13)
-        (λ r. byCase (eqb c 10) (λ t. rw (q, eol) (rw r (rw t (omega (arith, lineRun-on b (c ∷ cs) q, lineRun-here c cs t))))) (λ t. absurd (not-suc-le-zero (rw t at (rw r at g)))))
-        (λ r. absurd (not-suc-le-zero (rw r at g)))
 
 -- a line's text
 record Text (b : ℕ) (bs : List ℕ) : Type 0 where
@@ -147,7 +93,8 @@ used-at r f h = go (drop (eol r) r)
 pub data Line (level : ℕ) (x : List ℕ) : Type 0 where
   over : ((y : List ℕ) → commentTurn level (x ++ y) ≡ done (ok level [] 0)) → Line level x
   wrong : (f : ParserError) (k : ℕ) → ((y : List ℕ) → commentTurn level (x ++ y) ≡ done (bad f k)) → Line level x
-  line : (l : ℕ) (ms : List Mark) → 0 < l → run (λ b. eqb b 35) x ≡ l → ((y : List ℕ) → commentTurn level (x ++ y) ≡ again l ms (endAt (drop (suc (lineRun x)) x ++ y) (lineRun x))) → Line level x
+  line : (l : ℕ) (ms : List Mark) → 0 < l → run (λ b. eqb b 35) x ≡ l
+      → ((y : List ℕ) → commentTurn level (x ++ y) ≡ again l ms (endAt (drop (suc (lineRun x)) x ++ y) (lineRun x))) → Line level x
 
 -- a line end, f bytes on
 end-at : (x y : List ℕ) (f c : ℕ) (cs : List ℕ) → drop f x ≡ c ∷ cs → Whole (c ∷ cs) → 0 < eol (c ∷ cs) → lineRun x ≡ f + lineRun (c ∷ cs) → f ≤ length x
@@ -239,7 +186,8 @@ module _ (level b : ℕ) (bs : List ℕ) (w : Whole (b ∷ bs)) (hash : eqb b 35
         (end-at (b ∷ bs) y (l + 1 + n) f fs dr (subst Whole g (whole-drop n (d ∷ ds) v)) (subst (λ r. 0 < eol r) g (T .ends))
         (omega (arith, at-line c (d ∷ ds) e v turn, lineRun-on c (d ∷ ds) (not-end c (d ∷ ds) q), T .line, ap lineRun g)) (omega (arith, T .here))))))
       where
-        read-at : (l n f : ℕ) (fs y : List ℕ) → {j : ℕ} → l + 1 + n + lineEndUsed ((f ∷ fs) ++ y) ≡ j → lineRead l (l + 1) n ((f ∷ fs) ++ y) ≡ again l (textNode 8 (l + 1) (l + 1 + n)) j
+        read-at : (l n f : ℕ) (fs y : List ℕ) → {j : ℕ} → l + 1 + n + lineEndUsed ((f ∷ fs) ++ y) ≡ j
+            → lineRead l (l + 1) n ((f ∷ fs) ++ y) ≡ again l (textNode 8 (l + 1) (l + 1 + n)) j
         read-at l n f fs y e = unfold lineRead in ap (again l (textNode 8 (l + 1) (l + 1 + n))) e
 
   line-by : (c : ℕ) (cs : List ℕ) → drop (levelOf (b ∷ bs)) (b ∷ bs) ≡ c ∷ cs → Whole (c ∷ cs)
@@ -252,7 +200,8 @@ module _ (level b : ℕ) (bs : List ℕ) (w : Whole (b ∷ bs)) (hash : eqb b 35
       (λ y. turn y ∙ rw (cut-eol c cs e v turn y ∙ q, lineTurn) (rw t (rw z (unfold after fail in refl)))))
       (λ z. over (λ y. turn y ∙ rw (cut-eol c cs e v turn y ∙ q, lineTurn) (rw t (rw z refl))))))
     where
-      texts : (cs : List ℕ) → drop (levelOf (b ∷ bs)) (b ∷ bs) ≡ c ∷ cs → Whole (c ∷ cs) → ((y : List ℕ) → commentTurn level ((b ∷ bs) ++ y) ≡ lineTurn level (levelOf (b ∷ bs)) ((c ∷ cs) ++ y))
+      texts : (cs : List ℕ) → drop (levelOf (b ∷ bs)) (b ∷ bs) ≡ c ∷ cs → Whole (c ∷ cs)
+          → ((y : List ℕ) → commentTurn level ((b ∷ bs) ++ y) ≡ lineTurn level (levelOf (b ∷ bs)) ((c ∷ cs) ++ y))
           → ltb 0 (eol (c ∷ cs)) ≡ false → eqb c 32 ≡ true → Line level (b ∷ bs)
       texts [] e v turn q t = absurd (omega (arith, eqb-true c 32 t))
       texts (d ∷ ds) e v turn q t = text-line c d ds e v turn q t
@@ -288,13 +237,19 @@ pub data Cutting (st : ℕ) (x : List ℕ) (l : ℕ) (ms : List Mark) (k : ℕ) 
   end : k ≡ length x → (i : ℕ) → lineStartsAt i x ≡ true → OneLine (drop i x) → startsWith 35 (drop i x) ≡ true → run (λ b. eqb b 35) (drop i x) ≡ l
       → ((y : List ℕ) (n : ℕ) → length (x ++ y) < n → Goes y l ms k (loop n commentTurn st (x ++ y))) → Cutting st x l ms k
 
-pub after-ok : {A : Type 0} (ms : List Mark) (k : ℕ) (o : Out A) (a : A) (ns : List Mark) (j : ℕ) → after ms k o ≡ ok a ns j → (ns′ : List Mark) × (j′ : ℕ) × (o ≡ ok a ns′ j′) × (ms ++ moveUp k ns′ ≡ ns) × (k + j′ ≡ j)
+-- all that n turns read
+abbrev Cuttings : ℕ → Type 0
+Cuttings n = (st : ℕ) (x : List ℕ) → Whole x → startsWith 35 x ≡ true → (l : ℕ) (ms : List Mark) (k : ℕ) → loop n commentTurn st x ≡ ok l ms k → Cutting st x l ms k
+
+pub after-ok : {A : Type 0} (ms : List Mark) (k : ℕ) (o : Out A) (a : A) (ns : List Mark) (j : ℕ) → after ms k o ≡ ok a ns j
+    → (ns′ : List Mark) × (j′ : ℕ) × (o ≡ ok a ns′ j′) × (ms ++ moveUp k ns′ ≡ ns) × (k + j′ ≡ j)
 unfolding after
 after-ok ms k (ok b ns′ j′) a ns j e = (ns′, j′, cc, cc, cc)
 after-ok ms k (bad f j′) a ns j e = let z : _≡_ {A = ℕ} 0 1 = cc in absurd (omega arith)
 after-ok ms k (deep j′) a ns j e = let z : _≡_ {A = ℕ} 0 1 = cc in absurd (omega arith)
 
-loop-again : (n st : ℕ) (s : List ℕ) (l : ℕ) (ms : List Mark) (k : ℕ) → commentTurn st s ≡ again l ms k → loop (suc n) commentTurn st s ≡ after ms k (loop n commentTurn l (drop k s))
+loop-again : (n st : ℕ) (s : List ℕ) (l : ℕ) (ms : List Mark) (k : ℕ) → commentTurn st s ≡ again l ms k
+    → loop (suc n) commentTurn st s ≡ after ms k (loop n commentTurn l (drop k s))
 unfolding loop
 loop-again n st s l ms k e = rw (e, loop) refl
 
@@ -335,7 +290,8 @@ drop-rest k j x r e = sym (drop-drop j k x) ∙ ap (drop j) e
 
 module _ (st l₁ : ℕ) (ms₁ : List Mark) (x x₁ : List ℕ) (k₁ : ℕ) (d : drop k₁ x ≡ x₁) (le : k₁ ≤ length x) (pos : 0 < k₁) (ls : lineStartsAt k₁ x ≡ true)
     (turn : (y : List ℕ) → commentTurn st (x ++ y) ≡ again l₁ ms₁ k₁) where
-  lifted : (y : List ℕ) (n : ℕ) → length (x ++ y) < suc n → (loop (suc n) commentTurn st (x ++ y) ≡ after ms₁ k₁ (loop n commentTurn l₁ (x₁ ++ y))) × (length (x₁ ++ y) < n)
+  lifted : (y : List ℕ) (n : ℕ) → length (x ++ y) < suc n
+      → (loop (suc n) commentTurn st (x ++ y) ≡ after ms₁ k₁ (loop n commentTurn l₁ (x₁ ++ y))) × (length (x₁ ++ y) < n)
   lifted y n h = (
     loop-again n st (x ++ y) l₁ ms₁ k₁ (turn y) ∙ ap (λ r. after ms₁ k₁ (loop n commentTurn l₁ r)) (drop-app k₁ x y le ∙ ap (λ r. r ++ y) d),
     omega (arith, length-append x y, length-append x₁ y, ap length d, length-drop k₁ x),
@@ -367,7 +323,8 @@ module _ (n st b : ℕ) (bs : List ℕ) (w : Whole (b ∷ bs)) (hash : eqb b 35 
       let z : 0 ≡ k = ok-ok (loop (suc n) commentTurn st (b ∷ bs)) st l [] ms 0 k (loop-done n st (b ∷ bs) (ok st [] 0) t₀) e .2 in
       before b bs (rw (← z) refl) hash (rw (← z) refl) (by q t)
     where
-      by : ok st [] 0 ≡ ok l ms k → ((y : List ℕ) → commentTurn st ((b ∷ bs) ++ y) ≡ done (ok st [] 0)) → (y : List ℕ) (m : ℕ) → length ((b ∷ bs) ++ y) < m → loop m commentTurn st ((b ∷ bs) ++ y) ≡ ok l ms k
+      by : ok st [] 0 ≡ ok l ms k → ((y : List ℕ) → commentTurn st ((b ∷ bs) ++ y) ≡ done (ok st [] 0)) → (y : List ℕ) (m : ℕ) → length ((b ∷ bs) ++ y) < m
+          → loop m commentTurn st ((b ∷ bs) ++ y) ≡ ok l ms k
       by q t y zero h = absurd (not-suc-le-zero h)
       by q t y (suc m) h = loop-done m st ((b ∷ bs) ++ y) (ok st [] 0) (t y) ∙ q
 
@@ -386,7 +343,7 @@ module _ (n st b : ℕ) (bs : List ℕ) (w : Whole (b ∷ bs)) (hash : eqb b 35 
     turn₀ r g = subst (λ z. commentTurn st z ≡ again l₁ ms₁ (endAt (drop (suc j) (b ∷ bs) ++ []) j)) (append-nil (b ∷ bs)) (t []) ∙ ap (λ z. again l₁ ms₁ (endAt z j)) (append-nil (drop (suc j) (b ∷ bs)) ∙ g)
 
     -- it is followed by another
-    more-cut : (ih : (st′ : ℕ) (x : List ℕ) → Whole x → startsWith 35 x ≡ true → (l : ℕ) (ms : List Mark) (k : ℕ) → loop n commentTurn st′ x ≡ ok l ms k → Cutting st′ x l ms k)
+    more-cut : (ih : Cuttings n)
         (d : ℕ) (ds : List ℕ) → drop (suc j) (b ∷ bs) ≡ d ∷ ds → eqb d 35 ≡ true → Cutting st (b ∷ bs) l ms k
     unfolding j startsWith
     more-cut ih d ds g q =
@@ -412,7 +369,8 @@ module _ (n st b : ℕ) (bs : List ℕ) (w : Whole (b ∷ bs)) (hash : eqb b 35 
         omega-eq : (i k : ℕ) → j + i ≡ k → 0 ≡ i → k ≡ j
         omega-eq i k s u = omega arith
 
-        by : drop j (b ∷ bs) ≡ 10 ∷ d ∷ ds → (ns : List Mark) (i : ℕ) → loop n commentTurn l₁ (10 ∷ d ∷ ds) ≡ ok l ns i → ms₁ ++ moveUp j ns ≡ ms → j + i ≡ k → l₁ ≡ l → [] ≡ ns → 0 ≡ i
+        by : drop j (b ∷ bs) ≡ 10 ∷ d ∷ ds → (ns : List Mark) (i : ℕ) → loop n commentTurn l₁ (10 ∷ d ∷ ds) ≡ ok l ns i → ms₁ ++ moveUp j ns ≡ ms → j + i ≡ k
+            → l₁ ≡ l → [] ≡ ns → 0 ≡ i
             → (y : List ℕ) (m : ℕ) → length ((b ∷ bs) ++ y) < m → loop m commentTurn st ((b ∷ bs) ++ y) ≡ ok l ms k
         by at ns i o m s u₀ u₁ u₂ y zero h = absurd (not-suc-le-zero h)
         by at ns i o m s u₀ u₁ u₂ y (suc n′) h =
@@ -434,7 +392,8 @@ module _ (n st b : ℕ) (bs : List ℕ) (w : Whole (b ∷ bs)) (hash : eqb b 35 
         let mm : ms₁ ≡ ms = sym (append-nil ms₁) ∙ ap (λ z. ms₁ ++ moveUp (suc j) z) u₁ ∙ m in
         end (kj ∙ whole) 0 refl (omega arith) hash (runs ∙ u₀) (goes kj mm u₀ whole)
       where
-        goes : k ≡ suc j → ms₁ ≡ ms → l₁ ≡ l → suc j ≡ length (b ∷ bs) → (y : List ℕ) (m : ℕ) → length ((b ∷ bs) ++ y) < m → Goes y l ms k (loop m commentTurn st ((b ∷ bs) ++ y))
+        goes : k ≡ suc j → ms₁ ≡ ms → l₁ ≡ l → suc j ≡ length (b ∷ bs) → (y : List ℕ) (m : ℕ) → length ((b ∷ bs) ++ y) < m
+            → Goes y l ms k (loop m commentTurn st ((b ∷ bs) ++ y))
         goes kj mm u whole y zero h = absurd (not-suc-le-zero h)
         goes kj mm u whole [] (suc n′) h =
             ap (loop (suc n′) commentTurn st) (append-nil (b ∷ bs)) ∙ loop-again n′ st (b ∷ bs) l₁ ms₁ (suc j) (turn₀ [] g) ∙ ap (λ z. after ms₁ (suc j) (loop n′ commentTurn l₁ z)) g
@@ -442,7 +401,8 @@ module _ (n st b : ℕ) (bs : List ℕ) (w : Whole (b ∷ bs)) (hash : eqb b 35 
             ∙ ap₂ (λ a c. ok l₁ a c) (append-nil ms₁ ∙ mm) (add-zero (suc j) ∙ sym kj) ∙ ap (λ z. ok z ms k) u
         goes kj mm u whole (c ∷ cs) (suc n′) h = by (eqb c 35) refl
           where
-            here : (i : ℕ) → endAt (c ∷ cs) j ≡ i → loop (suc n′) commentTurn st ((b ∷ bs) ++ (c ∷ cs)) ≡ after ms₁ i (loop n′ commentTurn l₁ (drop i ((b ∷ bs) ++ (c ∷ cs))))
+            here : (i : ℕ) → endAt (c ∷ cs) j ≡ i
+                → loop (suc n′) commentTurn st ((b ∷ bs) ++ (c ∷ cs)) ≡ after ms₁ i (loop n′ commentTurn l₁ (drop i ((b ∷ bs) ++ (c ∷ cs))))
             here i z = loop-again n′ st ((b ∷ bs) ++ (c ∷ cs)) l₁ ms₁ i (t (c ∷ cs) ∙ ap (λ r. again l₁ ms₁ (endAt (r ++ (c ∷ cs)) j)) g ∙ ap (again l₁ ms₁) z)
 
             by : (v : Bool) → eqb c 35 ≡ v → GoesBy v (c ∷ cs) l ms k (loop (suc n′) commentTurn st ((b ∷ bs) ++ (c ∷ cs)))
@@ -461,7 +421,7 @@ module _ (n st b : ℕ) (bs : List ℕ) (w : Whole (b ∷ bs)) (hash : eqb b 35 
                 shorter : k ≡ suc j → j + 0 ≡ k - 1
                 shorter z = omega arith
 
-  line-cut : (ih : (st′ : ℕ) (x : List ℕ) → Whole x → startsWith 35 x ≡ true → (l : ℕ) (ms : List Mark) (k : ℕ) → loop n commentTurn st′ x ≡ ok l ms k → Cutting st′ x l ms k)
+  line-cut : (ih : Cuttings n)
       → Line st (b ∷ bs) → Cutting st (b ∷ bs) l ms k
   line-cut ih (over t) = over-cut t
   line-cut ih (wrong f i t) =

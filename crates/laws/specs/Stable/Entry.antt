@@ -1,24 +1,22 @@
 -- Messages and terms at a cut.
-use Prim.Native.Nat.{ℕ, zero, suc, _+_, _-_, _≤_, _<_}
+use Prim.Native.Nat.{ℕ, zero, suc, _+_, _≤_, _<_}
 use native.Mathlib.Nat.{not-suc-le-zero, le-of-suc-le-suc, add-zero}
 use native.Mathlib.Omega.{arith}
 use mathlib.Core.Path.{_≡_, refl, sym, ap, _∙_, subst}
-use mathlib.Core.Bool.{Bool, true, false, _&&_, _||_, not}
+use mathlib.Core.Bool.{Bool, true, false, _||_, not}
 use mathlib.Core.List.{List, [], _∷_, _++_, append-nil}
-use lib.ListN.{drop, length, take, length-drop, length-append}
+use lib.ListN.{drop, length, length-drop, length-append}
 use lib.Seq.{drop-drop}
 use lib.Dec.{eqb}
-use borrow.Author.Tests.{eqb-true, eqb-false}
-use Rattle.syntax.specs.Bytes.{startsWith, starts, isLetter, spaces}
-use Rattle.syntax.specs.declared.errors.ErrorKind.the-variants as Errors
-use Rattle.syntax.specs.Marks.{Mark, moveUp, node}
-use Rattle.syntax.specs.Reader.{Out, ok, bad, deep, Reader, fail, _>>=_, _>>_, pure, inNode, next, after, Turn, again, done, loop, repeat}
+use Rattle.syntax.specs.Bytes.{startsWith, isLetter, spaces}
+use Rattle.syntax.specs.Marks.{Mark}
+use Rattle.syntax.specs.Reader.{Out, ok, bad, deep, Reader, _>>=_, _>>_, pure, next, after, Turn, again, done, loop, repeat}
 use Rattle.syntax.specs.Helper.{skipBlankInline, skipBlankBlock, expectByte, getIdentifier}
 use Rattle.syntax.specs.Pattern.{Inside, getPattern}
-use Rattle.syntax.specs.Expression.{needsValue}
-use Rattle.syntax.specs.Core.{getAttribute, attributeBy, attributeTurn, getAttributes, Fields, fields, termFields, Entry, comment, message, term, asMessage, asTerm, asComment, getEntry}
-use Rattle.laws.specs.Bytes.{Whole, whole-tail, whole-drop, nonempty, Fresh, isFresh, Stop, stop-fresh, byCase, clash, drop-app, spaces-whole, fresh-spaces, not-fresh, pick, pick₂}
-use Rattle.laws.specs.Stable.{Mode, loose, fresh, any, none, Upto, upto-le, Within, Carries, Reads, Closes, Short, Strict, Inner, inner-keeps, from-any, weaker, bind, then, strict-then, inner-bind, inner-then, pure-reads, node-reads, TurnWithin, TurnCarries, Turns, Any, Free, repeat-reads, Holds, holds-map, next-ok}
+use Rattle.syntax.specs.Core.{getAttribute, attributeBy, attributeTurn, getAttributes, Fields, fields, termFields, asMessage, asTerm, getEntry}
+use Rattle.laws.specs.Bytes.{Whole, whole-tail, whole-drop, Fresh, Stop, stop-fresh, byCase, clash, drop-app, spaces-whole, fresh-spaces, not-fresh, pick, pick₂}
+use Rattle.laws.specs.Answers.{Holds, holds-map}
+use Rattle.laws.specs.Stable.{Mode, fresh, none, Upto, Within, Carries, Reads, Short, inner-keeps, from-any, bind, then, strict-then, inner-bind, pure-reads, node-reads, TurnWithin, TurnCarries, Free, repeat-reads, next-ok}
 use Rattle.laws.specs.Stable.Helper.{Soft, past-spaces, expectByte-reads, expectByte-strict, inline-reads, identifier-reads, block-reads}
 use Rattle.laws.specs.Stable.Pattern.{InsideLaw, getPattern-inner}
 use Rattle.laws.specs.Stable.Expression.{needsValue-reads}
@@ -37,7 +35,8 @@ module _ (m : Mode) (soft : Soft m) (sub : Inside) (law : InsideLaw sub) where
 abbrev attributeOf : Inside → ℕ → ℕ → Bool → List ℕ → Turn ℕ ℕ
 attributeOf sub n k v r = elim v [ true ↦ attributeBy n (k + 1) (getAttribute sub r) | false ↦ done (ok n [] 0) ]
 
-attribute-at : (sub : Inside) (n k : ℕ) (r t s : List ℕ) → spaces s ≡ k → drop k s ≡ r → drop (k + 1) s ≡ t → attributeTurn sub n s ≡ attributeOf sub n k (startsWith 46 r) t
+attribute-at : (sub : Inside) (n k : ℕ) (r t s : List ℕ) → spaces s ≡ k → drop k s ≡ r → drop (k + 1) s ≡ t
+    → attributeTurn sub n s ≡ attributeOf sub n k (startsWith 46 r) t
 unfolding attributeTurn
 attribute-at sub n k r t s e d f = ap (λ j. attributeOf sub n j (startsWith 46 (drop j s)) (drop (j + 1) s)) e ∙ ap (λ z. attributeOf sub n k (startsWith 46 z) (drop (k + 1) s)) d ∙ ap (attributeOf sub n k (startsWith 46 r)) f
 
@@ -109,14 +108,16 @@ module _ (sub : Inside) (law : InsideLaw sub) where
   TurnEnds x (done (bad f k)) t = Unit {0}
   TurnEnds x (done (deep k)) t = Unit {0}
 
-  attributeBy-ends : (n k b : ℕ) (bs cs y : List ℕ) (o o′ : Out (Unit {0})) → Fresh y → dotted (b ∷ bs) ≡ true → k + length cs ≡ suc (length bs) → Carries (Upto fresh y (length cs)) o o′
+  attributeBy-ends : (n k b : ℕ) (bs cs y : List ℕ) (o o′ : Out (Unit {0})) → Fresh y → dotted (b ∷ bs) ≡ true → k + length cs ≡ suc (length bs)
+      → Carries (Upto fresh y (length cs)) o o′
       → TurnEnds (b ∷ bs) (attributeBy n k o) (attributeBy n k o′)
   unfolding attributeBy
   attributeBy-ends n k b bs cs y (ok a ms j) o′ f d l c = λ u. ap (attributeBy n k) (c (omega arith, f))
   attributeBy-ends n k b bs cs y (bad e j) o′ f d l c = λ u. clash d (u .1)
   attributeBy-ends n k b bs cs y (deep j) o′ f d l c = tt
 
-  pick-ends : (x : List ℕ) (v : Bool) (o u o′ u′ : Turn ℕ ℕ) → (v ≡ true → TurnEnds x o o′) → (v ≡ false → TurnEnds x u u′) → TurnEnds x (elim v [ true ↦ o | false ↦ u ]) (elim v [ true ↦ o′ | false ↦ u′ ])
+  pick-ends : (x : List ℕ) (v : Bool) (o u o′ u′ : Turn ℕ ℕ) → (v ≡ true → TurnEnds x o o′) → (v ≡ false → TurnEnds x u u′)
+      → TurnEnds x (elim v [ true ↦ o | false ↦ u ]) (elim v [ true ↦ o′ | false ↦ u′ ])
   pick-ends x true o u o′ u′ f g = f refl
   pick-ends x false o u o′ u′ f g = g refl
 
@@ -134,7 +135,8 @@ module _ (sub : Inside) (law : InsideLaw sub) where
   loop-ends (suc n) zero st x y le w f = absurd (not-suc-le-zero le)
   loop-ends (suc n) (suc n′) st x y le w f = go (attributeTurn sub st x) (attributeTurn sub st (x ++ y)) (turn-ends st x y w f) (λ st′ k. loop-ends n n′ st′ (drop k x) y (le-of-suc-le-suc le) (whole-drop k x w) f)
     where
-      inner : (st′ : ℕ) (ms : List Mark) (k : ℕ) (t : Turn ℕ ℕ) → (k ≤ length x → t ≡ again st′ ms k) → (o : Out ℕ) → Carries (Cut (drop k x)) o (loop n′ (attributeTurn sub) st′ (drop k x ++ y))
+      inner : (st′ : ℕ) (ms : List Mark) (k : ℕ) (t : Turn ℕ ℕ) → (k ≤ length x → t ≡ again st′ ms k) → (o : Out ℕ)
+          → Carries (Cut (drop k x)) o (loop n′ (attributeTurn sub) st′ (drop k x ++ y))
           → Carries {A = ℕ} (Cut x) (after ms k o) (elim t [ again st′ ms k ↦ after ms k (loop n′ (attributeTurn sub) st′ (drop k (x ++ y))) | done o ↦ o ])
       inner st′ ms k t e (ok a ns j) c = λ u.
           let l : k ≤ length x = omega (arith, u .0) in
@@ -142,7 +144,8 @@ module _ (sub : Inside) (law : InsideLaw sub) where
       inner st′ ms k t e (bad f j) c = tt
       inner st′ ms k t e (deep j) c = tt
 
-      go : (t t′ : Turn ℕ ℕ) → TurnEnds x t t′ → ((st′ k : ℕ) → Carries (Cut (drop k x)) (loop n (attributeTurn sub) st′ (drop k x)) (loop n′ (attributeTurn sub) st′ (drop k x ++ y)))
+      go : (t t′ : Turn ℕ ℕ) → TurnEnds x t t′
+          → ((st′ k : ℕ) → Carries (Cut (drop k x)) (loop n (attributeTurn sub) st′ (drop k x)) (loop n′ (attributeTurn sub) st′ (drop k x ++ y)))
           → Carries {A = ℕ} (Cut x) (elim t [ again st′ ms k ↦ after ms k (loop n (attributeTurn sub) st′ (drop k x)) | done o ↦ o ]) (elim t′ [ again st′ ms k ↦ after ms k (loop n′ (attributeTurn sub) st′ (drop k (x ++ y))) | done o ↦ o ])
       go (again st′ ms k) t′ e r = inner st′ ms k t′ e (loop n (attributeTurn sub) st′ (drop k x)) (r st′ k)
       go (done (ok a ms k)) t′ e r = λ u. rw (e u) refl
@@ -175,12 +178,8 @@ module _ (sub : Inside) (law : InsideLaw sub) where
   holds-all P f (bad e k) = tt
   holds-all P f (deep k) = tt
 
-  short-holds : {A : Type 0} (n : ℕ) (o : Out A) → Short n o → Holds (λ a ms k. k < n) o
-  short-holds n (ok a ms k) h = h
-  short-holds n (bad f k) h = tt
-  short-holds n (deep k) h = tt
-
-  last-ends : {A B : Type 0} (x y : List ℕ) (g : A → B) (o o′ : Out A) → Carries (Cut x) o o′ → Carries (Cut x) (next x (λ a. pure (g a)) o) (next (x ++ y) (λ a. pure (g a)) o′)
+  last-ends : {A B : Type 0} (x y : List ℕ) (g : A → B) (o o′ : Out A) → Carries (Cut x) o o′
+      → Carries (Cut x) (next x (λ a. pure (g a)) o) (next (x ++ y) (λ a. pure (g a)) o′)
   unfolding next pure after
   last-ends x y g (ok a ms k) o′ c = λ u. ap (next (x ++ y) (λ a. pure (g a))) (c (subst (Cut x) (add-zero k) u))
   last-ends x y g (bad f k) o′ c = tt
@@ -217,8 +216,8 @@ module _ (sub : Inside) (law : InsideLaw sub) where
       where
         byte : (z : List ℕ) → Whole z → EndsAt (expectByte 61 >> tail₂ n) z y
         byte z v = ends-next z y (λ _. tail₂ n) (expectByte 61 z) (expectByte 61 (z ++ y)) f (from-any fresh (expectByte-reads 61 (λ e. omega arith)) .keeps z y v)
-            (holds-map (λ a ms k. k < length z) (λ a ms k. k ≤ length z → EndsAt (tail₂ n) (drop k z) y) (λ a ms k h g. ends₂ n (drop k z) (whole-drop k z v) (rw length-drop (omega arith))) (expectByte 61 z)
-            (short-holds (length z) (expectByte 61 z) (subst (λ t. Short (length z) (expectByte 61 t)) (append-nil z) (expectByte-strict 61 (λ e. omega arith) (λ e. omega arith) .short z [] v tt))))
+            (holds-map (λ a ms k. k < length z) (λ a ms k. k ≤ length z → EndsAt (tail₂ n) (drop k z) y) (λ (a : Unit {0}) ms k h g. ends₂ n (drop k z) (whole-drop k z v) (rw length-drop (omega arith))) (expectByte 61 z)
+            (subst (λ t. Short (length z) (expectByte 61 t)) (append-nil z) (expectByte-strict 61 (λ e. omega arith) (λ e. omega arith) .short z [] v tt)))
 
     fields-ends : (x : List ℕ) → Whole x → EndsAt (fields sub) x y
     unfolding fields _>>=_

@@ -1,23 +1,24 @@
 -- Expressions, variants and placeables at a cut, at every level.
-use Prim.Native.Nat.{ℕ, zero, suc, _+_, _-_, _≤_, _<_}
+use Prim.Native.Nat.{ℕ, zero, suc, _<_}
 use native.Mathlib.Nat.{not-suc-le-zero}
 use native.Mathlib.Omega.{arith}
-use mathlib.Core.Path.{_≡_, refl, sym, ap, _∙_, subst}
-use mathlib.Core.Bool.{Bool, true, false, _&&_, _||_, not}
-use mathlib.Core.List.{List, [], _∷_, _++_, append-nil}
-use lib.ListN.{drop, length, take, length-drop, length-append}
+use mathlib.Core.Path.{_≡_, refl, ap}
+use mathlib.Core.Bool.{Bool, true, false, _&&_, _||_}
+use mathlib.Core.List.{List, [], _∷_, _++_}
+use lib.ListN.{length}
 use lib.Dec.{eqb}
-use borrow.Author.Tests.{eqb-true, eqb-false}
+use borrow.Author.Tests.{eqb-true}
 use Rattle.syntax.specs.Bytes.{startsWith, starts, second, isDigit}
 use Rattle.syntax.specs.declared.errors.ErrorKind.the-variants as Errors
 use Rattle.syntax.specs.Marks.{Mark, node}
-use Rattle.syntax.specs.Reader.{Out, ok, bad, deep, Reader, fail, _>>=_, _>>_, pure, inNode, after, Turn, again, done, turnOf, repeat}
-use Rattle.syntax.specs.Helper.{skipBlank, skipBlankInline, skipEol, expectByte, getIdentifier, getNumberLiteral}
-use Rattle.syntax.specs.Pattern.{Inside, getPattern}
-use Rattle.syntax.specs.Expression.{Inline, string, number, variable, function, inner, message, term, getInlineExpression, argumentTurn, parenthesised, keyText, getVariantKey, needsValue, variant, variantKind, endVariants, variantWith, afterStar, turnAfter, variantTurn, getVariants, selector, alone, needsLineEnd, selectFrom, afterInline, inSelect, inlineOrSelect, getExpression, braced, tooDeep, level}
+use Rattle.syntax.specs.Reader.{ok, bad, deep, fail, after, Turn, again, done}
+use Rattle.syntax.specs.Helper.{skipBlank, expectByte, getIdentifier, getNumberLiteral}
+use Rattle.syntax.specs.Pattern.{Inside}
+use Rattle.syntax.specs.Expression.{Inline, string, number, variable, function, inner, message, term, argumentTurn, parenthesised, keyText, getVariantKey, needsValue, variant, variantKind, endVariants, variantWith, afterStar, turnAfter, variantTurn, getVariants, selector, alone, needsLineEnd, selectFrom, afterInline, inSelect, inlineOrSelect, getExpression, braced, tooDeep, level}
 use Rattle.laws.specs.Bytes.{Whole, whole-tail, nonempty, Stop, byCase, pick, pick₂}
-use Rattle.laws.specs.Stable.{Mode, loose, any, Upto, Within, Carries, Takes, Reads, Closes, Strict, Inner, from-any, bind, then, bind-closes, then-closes, then-strict, strict-then, inner-bind, pure-reads, fail-reads, node-reads, node-closes, Relabels, relabel, relabels, TurnWithin, TurnCarries, Turns, Any, Free, turnOf-carries, turnOf-within, done-carries, repeat-reads}
-use Rattle.laws.specs.Stable.Helper.{expectByte-reads, expectByte-closes, expectByte-strict, inline-reads, eol-reads, blank-reads, identifier-reads, numberLiteral-reads, choose-reads, loose-nil}
+use Rattle.laws.specs.Bounds.Expression.{level-bounds}
+use Rattle.laws.specs.Stable.{Mode, loose, Upto, Reads, Closes, Strict, from-any, bind, then, then-closes, then-strict, strict-then, inner-bind, pure-reads, fail-reads, node-reads, node-closes, Relabels, relabel, relabels, TurnWithin, TurnCarries, Free, turnOf-carries, turnOf-within, done-carries, repeat-reads}
+use Rattle.laws.specs.Stable.Helper.{expectByte-reads, expectByte-closes, expectByte-strict, inline-reads, eol-reads, blank-reads, identifier-reads, numberLiteral-reads, choose-reads}
 use Rattle.laws.specs.Stable.Pattern.{InsideLaw, getPattern-inner}
 use Rattle.laws.specs.Stable.Inline as Inline
 use Rattle.laws.specs.Stable.Argument.{argument-turns}
@@ -78,7 +79,8 @@ unfolding needsLineEnd
 lineEnd-reads true = pure-reads loose tt
 lineEnd-reads false = fail-reads loose (Errors.ExpectedCharRange 2)
 
-arrow-same : (b : ℕ) (bs y : List ℕ) → Whole (b ∷ bs) → (startsWith 45 ((b ∷ bs) ++ y) && second (λ c. eqb c 62) ((b ∷ bs) ++ y)) ≡ (startsWith 45 (b ∷ bs) && second (λ c. eqb c 62) (b ∷ bs))
+arrow-same : (b : ℕ) (bs y : List ℕ) → Whole (b ∷ bs)
+    → (startsWith 45 ((b ∷ bs) ++ y) && second (λ c. eqb c 62) ((b ∷ bs) ++ y)) ≡ (startsWith 45 (b ∷ bs) && second (λ c. eqb c 62) (b ∷ bs))
 unfolding startsWith second starts
 arrow-same b bs y w = byCase (eqb b 45) (λ q. ap (λ t. eqb b 45 && t) (go bs (nonempty b bs w (λ e. omega (arith, eqb-true b 45 q))))) (λ q. rw q refl)
   where
@@ -108,7 +110,8 @@ module _ (sub : Inside) (law : InsideLaw sub) where
   star-within v d x y w s = pick (TurnWithin Free (length x)) (v && d) _ _ (λ q. tt)
       (λ q. pick (TurnWithin Free (length x)) (startsWith 91 (x ++ y)) _ _ (λ r. turnOf-within (Unit {0}) (length x) (variantWith sub v d (x ++ y)) (variantWith-reads v d .stops x y w s)) (λ r. endVariants-reads (v || d) .stops x y w s))
 
-  star-keeps : (v d : Bool) (b : ℕ) (bs y : List ℕ) → Whole (b ∷ bs) → TurnCarries Free (Upto loose y (suc (length bs))) (afterStar sub v d (b ∷ bs)) (afterStar sub v d ((b ∷ bs) ++ y))
+  star-keeps : (v d : Bool) (b : ℕ) (bs y : List ℕ) → Whole (b ∷ bs)
+      → TurnCarries Free (Upto loose y (suc (length bs))) (afterStar sub v d (b ∷ bs)) (afterStar sub v d ((b ∷ bs) ++ y))
   unfolding afterStar fail startsWith
   star-keeps v d b bs y w = pick₂ (TurnCarries Free (Upto loose y (suc (length bs)))) (v && d) _ _ _ _ (λ q. tt)
       (λ q. pick₂ (TurnCarries Free (Upto loose y (suc (length bs)))) (eqb b 91) _ _ _ _
@@ -122,7 +125,8 @@ module _ (sub : Inside) (law : InsideLaw sub) where
   turnAfter-within n (done (bad f k)) h = tt
   turnAfter-within n (done (deep k)) h = tt
 
-  turnAfter-keeps : (y : List ℕ) (n : ℕ) (t t′ : Turn Bool (Unit {0})) → TurnCarries Free (Upto loose y n) t t′ → TurnCarries Free (Upto loose y (suc n)) (turnAfter 1 t) (turnAfter 1 t′)
+  turnAfter-keeps : (y : List ℕ) (n : ℕ) (t t′ : Turn Bool (Unit {0})) → TurnCarries Free (Upto loose y n) t t′
+      → TurnCarries Free (Upto loose y (suc n)) (turnAfter 1 t) (turnAfter 1 t′)
   unfolding turnAfter after
   turnAfter-keeps y n (again st ms k) t′ c = λ u. (ap (turnAfter 1) (c (omega arith) .0), tt)
   turnAfter-keeps y n (done (ok a ms k)) t′ c = λ u. ap (turnAfter 1) (c (omega arith))
@@ -190,5 +194,5 @@ deep-strict = record { short = λ x y w s. tt }
 
 pub level-law : (n : ℕ) → InsideLaw (level n)
 unfolding level
-level-law zero = record { braced = deep-closes; bracedStrict = deep-strict; parenthesised = deep-closes }
-level-law (suc n) = record { braced = braced-closes (level n) (level-law n); bracedStrict = braced-strict (level n) (level-law n); parenthesised = parenthesised-closes (level n) (level-law n) }
+level-law zero = record { braced = deep-closes; bracedStrict = deep-strict; parenthesised = deep-closes; depth = zero; bounds = level-bounds zero }
+level-law (suc n) = record { braced = braced-closes (level n) (level-law n); bracedStrict = braced-strict (level n) (level-law n); parenthesised = parenthesised-closes (level n) (level-law n); depth = suc n; bounds = level-bounds (suc n) }

@@ -1,20 +1,21 @@
 -- helper.rs at a cut.
-use Prim.Native.Nat.{ℕ, zero, suc, _+_, _-_, _≤_, _<_, min}
+use Prim.Native.Nat.{ℕ, suc, _+_, min}
 use native.Mathlib.Nat.{not-suc-le-zero}
 use native.Mathlib.Omega.{arith}
 use mathlib.Core.Path.{_≡_, refl, sym, ap, _∙_, subst}
-use mathlib.Core.Bool.{Bool, true, false, _&&_, _||_, not}
+use mathlib.Core.Bool.{Bool, true, false}
 use mathlib.Core.List.{List, [], _∷_, _++_}
-use lib.ListN.{drop, length, take, length-drop, length-append}
-use lib.Dec.{eqb, ltb, leb}
-use borrow.Author.Tests.{eqb-true, eqb-false, ltb-true, ltb-false}
+use lib.ListN.{drop, length, length-drop}
+use lib.Dec.{eqb, ltb}
+use borrow.Author.Tests.{eqb-true, ltb-true}
 use Rattle.syntax.specs.Bytes.{startsWith, starts, isLetter, isDigit, isNamePart, isHex, spaces, eol, run, firstWidth}
-use Rattle.syntax.specs.Marks.{Mark, textNode}
+use Rattle.syntax.specs.Marks.{textNode}
 use Rattle.syntax.specs.declared.errors.ErrorKind.the-variants.{ExpectedToken, ExpectedCharRange, InvalidUnicodeEscapeSequence}
-use Rattle.syntax.specs.Reader.{Out, ok, bad, deep, Reader, fail, _>>=_, _>>_, pure, Turn, again, done, repeat}
+use Rattle.syntax.specs.Reader.{Out, ok, bad, deep, Reader, fail, Turn, again, done}
 use Rattle.syntax.specs.Helper.{skipBlankInline, skipEol, blankTurn, skipBlank, blockTurn, skipBlankBlock, takeByteIf, expectByte, skipDigits, fraction, number, asText, getNumberLiteral, getIdentifier, skipUnicodeEscapeSequence}
-use Rattle.laws.specs.Bytes.{Whole, whole-drop, Fresh, isFresh, Stop, stop-fresh, byCase, clash, drop-app, run-whole, eol-whole, spaces-whole, fresh-spaces, fresh-eol, not-fresh, stop-run, nonempty, pick, pick₂}
-use Rattle.laws.specs.Stable.{Mode, loose, fresh, any, none, Upto, Within, Carries, Takes, Reads, Closes, same-carries, from-any, bind, then, pure-reads, fail-reads, Relabels, relabel, relabels, TurnWithin, TurnCarries, Turns, Free, Any, repeat-reads, Sure, TurnSure, repeat-sure, Short, Strict, Holds}
+use Rattle.laws.specs.Bytes.{Whole, whole-drop, Fresh, Stop, stop-fresh, byCase, clash, drop-app, run-whole, eol-whole, spaces-whole, fresh-spaces, fresh-eol, not-fresh, stop-run, nonempty, pick, pick₂}
+use Rattle.laws.specs.Answers.{Takes, Sure, TurnSure, repeat-sure}
+use Rattle.laws.specs.Stable.{Mode, loose, fresh, any, none, Upto, Within, Carries, Reads, Closes, same-carries, from-any, bind, then, pure-reads, Relabels, relabel, relabels, TurnWithin, TurnCarries, Turns, Free, Any, repeat-reads, Short, Strict}
 
 -- modes in which what follows an x that is used up is fresh
 abbrev pub Soft : Mode → Type 0
@@ -105,10 +106,13 @@ unfolding skipBlank
 blank-reads m soft = repeat-reads blankTurn (line-turns m soft blankTurn (λ u. tt) blankTurn-same blankTurn-fits blankTurn-calm) tt
 
 -- the rest of a line after its spaces
-pub past-spaces : (b : ℕ) (bs : List ℕ) → Whole (b ∷ bs) → (c : ℕ) × (cs : List ℕ) × (drop (spaces (b ∷ bs)) (b ∷ bs) ≡ c ∷ cs) × Whole (c ∷ cs) × (suc (length cs) + spaces (b ∷ bs) ≡ suc (length bs))
+abbrev PastSpaces : ℕ → List ℕ → Type 0
+PastSpaces b bs = (c : ℕ) × (cs : List ℕ) × (drop (spaces (b ∷ bs)) (b ∷ bs) ≡ c ∷ cs) × Whole (c ∷ cs) × (suc (length cs) + spaces (b ∷ bs) ≡ suc (length bs))
+
+pub past-spaces : (b : ℕ) (bs : List ℕ) → Whole (b ∷ bs) → PastSpaces b bs
 past-spaces b bs w = go (drop (spaces (b ∷ bs)) (b ∷ bs)) refl
   where
-    go : (r : List ℕ) → drop (spaces (b ∷ bs)) (b ∷ bs) ≡ r → (c : ℕ) × (cs : List ℕ) × (drop (spaces (b ∷ bs)) (b ∷ bs) ≡ c ∷ cs) × Whole (c ∷ cs) × (suc (length cs) + spaces (b ∷ bs) ≡ suc (length bs))
+    go : (r : List ℕ) → drop (spaces (b ∷ bs)) (b ∷ bs) ≡ r → PastSpaces b bs
     go [] e = absurd (omega (arith, ap length e, length-drop (spaces (b ∷ bs)) (b ∷ bs), spaces-whole b bs [] w .1))
     go (c ∷ cs) e = (c, cs, e, subst Whole e (whole-drop (spaces (b ∷ bs)) (b ∷ bs) w), omega (arith, ap length e, length-drop (spaces (b ∷ bs)) (b ∷ bs), spaces-whole b bs [] w .1))
 
@@ -173,11 +177,6 @@ pub identifier-same : (kind b : ℕ) (bs y : List ℕ) → Whole (b ∷ bs) → 
 unfolding getIdentifier starts fail
 identifier-same kind b bs y w = ap (identifierOf kind (isLetter b)) (run-whole isNamePart (unfold isNamePart isLetter isDigit in refl) b bs y w .0)
 
-pub identifier-named : (kind : ℕ) (s : List ℕ) → Holds (λ n ms k. n ≡ k) (getIdentifier kind s)
-unfolding getIdentifier starts fail
-identifier-named kind [] = tt
-identifier-named kind (b ∷ bs) = byCase (isLetter b) (λ q. rw (q, getIdentifier) refl) (λ q. rw (q, getIdentifier) tt)
-
 pub identifier-reads : (kind : ℕ) → Reads any (getIdentifier kind)
 unfolding getIdentifier starts fail isLetter
 identifier-reads kind = line-reads any (getIdentifier kind)
@@ -232,7 +231,8 @@ pub escape-within : (len b : ℕ) (bs y : List ℕ) → Whole (b ∷ bs) → Wit
 unfolding skipUnicodeEscapeSequence
 escape-within len b bs y w = pick (Within (length bs)) (eqb (min len (run isHex ((b ∷ bs) ++ y))) len) _ _ (λ q. omega (arith, run-whole isHex isHex-end b bs y w .0, run-whole isHex isHex-end b bs y w .1)) (λ q. tt)
 
-pub escape-carries : (N : ℕ → Type 0) (len b : ℕ) (bs y : List ℕ) → Whole (b ∷ bs) → Carries N (skipUnicodeEscapeSequence len (b ∷ bs)) (skipUnicodeEscapeSequence len ((b ∷ bs) ++ y))
+pub escape-carries : (N : ℕ → Type 0) (len b : ℕ) (bs y : List ℕ) → Whole (b ∷ bs)
+    → Carries N (skipUnicodeEscapeSequence len (b ∷ bs)) (skipUnicodeEscapeSequence len ((b ∷ bs) ++ y))
 unfolding skipUnicodeEscapeSequence
 escape-carries N len b bs y w =
     subst (λ n. Carries N (escapeOf len (run isHex (b ∷ bs)) (firstWidth (drop (min len (run isHex (b ∷ bs))) (b ∷ bs)))) (escapeOf len n (firstWidth (drop (min len n) ((b ∷ bs) ++ y)))))
@@ -265,7 +265,8 @@ expectByte-strict b h g = record { short = expectByte-short b h g }
 
 -- a choice by a test on the first bytes
 module _ {A : Type 0} (t : List ℕ → Bool) (p q : Reader A) (same : (b : ℕ) (bs y : List ℕ) → Whole (b ∷ bs) → t ((b ∷ bs) ++ y) ≡ t (b ∷ bs)) (rp : Reads loose p) (rq : Reads loose q) where
-  choose-keeps : (x y : List ℕ) → Whole x → Carries {A = A} (Upto loose y (length x)) (elim (t x) [ true ↦ p x | false ↦ q x ]) (elim (t (x ++ y)) [ true ↦ p (x ++ y) | false ↦ q (x ++ y) ])
+  choose-keeps : (x y : List ℕ) → Whole x
+      → Carries {A = A} (Upto loose y (length x)) (elim (t x) [ true ↦ p x | false ↦ q x ]) (elim (t (x ++ y)) [ true ↦ p (x ++ y) | false ↦ q (x ++ y) ])
   choose-keeps [] y w = loose-nil {A = A} y (elim (t []) [ true ↦ p [] | false ↦ q [] ]) (elim (t y) [ true ↦ p y | false ↦ q y ])
   choose-keeps (b ∷ bs) y w =
       subst (λ v. Carries {A = A} (Upto loose y (suc (length bs))) (elim (t (b ∷ bs)) [ true ↦ p (b ∷ bs) | false ↦ q (b ∷ bs) ]) (elim v [ true ↦ p ((b ∷ bs) ++ y) | false ↦ q ((b ∷ bs) ++ y) ])) (sym (same b bs y w))

@@ -1,24 +1,26 @@
 -- Inline expressions at a cut.
-use Prim.Native.Nat.{ℕ, zero, suc, _+_, _-_, _≤_, _<_}
+use Prim.Native.Nat.{ℕ, suc, _≤_, _<_}
 use native.Mathlib.Nat.{not-suc-le-zero}
 use native.Mathlib.Omega.{arith}
-use mathlib.Core.Path.{_≡_, refl, sym, ap, _∙_, subst, fun-ext}
-use mathlib.Core.Bool.{Bool, true, false, _&&_, _||_, not}
+use mathlib.Core.Path.{_≡_, refl, sym, ap, subst, fun-ext}
+use mathlib.Core.Bool.{Bool, true, false}
 use mathlib.Core.List.{List, [], _∷_, _++_, append-nil}
-use lib.ListN.{drop, length, take, length-drop, length-append}
+use lib.ListN.{drop, length, take}
 use lib.Seq.{take-append-le}
 use lib.Dec.{eqb}
-use borrow.Author.Tests.{eqb-true, eqb-false}
-use Rattle.syntax.specs.Bytes.{startsWith, starts, second, all, isLetter, isDigit, isCalleePart}
+use borrow.Author.Tests.{eqb-true}
+use Rattle.syntax.specs.Bytes.{startsWith, starts, all, isLetter, isDigit, isCalleePart}
 use Rattle.syntax.specs.declared.errors.ErrorKind.the-variants as Errors
-use Rattle.syntax.specs.Marks.{Mark, textNode, node}
-use Rattle.syntax.specs.Reader.{Out, ok, bad, deep, Reader, fail, _>>=_, _>>_, pure, next, after, Turn, again, done, turnOf, repeat}
-use Rattle.syntax.specs.Helper.{skipBlank, takeByteIf, expectByte, getIdentifier, getNumberLiteral}
+use Rattle.syntax.specs.Marks.{node}
+use Rattle.syntax.specs.Reader.{Out, ok, bad, deep, Reader, fail, _>>=_, _>>_, pure, next, after}
+use Rattle.syntax.specs.Helper.{expectByte, getIdentifier}
 use Rattle.syntax.specs.Pattern.{Inside}
-use Rattle.syntax.specs.Expression.{Inline, string, number, variable, function, inner, message, term, inlineKind, asInline, stringLiteral, asString, numberLiteral, callArguments, getCallArguments, getAttributeAccessor, termReference, variableReference, messageReference, functionReference, referenceBy, reference, nestedPlaceable, noInline, nonLiteral, getInlineExpression}
-use Rattle.laws.specs.Bytes.{Whole, whole-tail, nonempty, Fresh, Stop, byCase, clash, pick, pick₂}
-use Rattle.laws.specs.Stable.{Mode, loose, any, Upto, upto-le, Within, Carries, Reads, Closes, from-any, bind, then, pure-reads, fail-reads, Relabels, relabel, relabels, Holds}
-use Rattle.laws.specs.Stable.Helper.{expectByte-reads, identifier-reads, identifier-same, identifier-named, numberLiteral-reads, blank-reads, choose-reads, loose-nil}
+use Rattle.syntax.specs.Expression.{Inline, number, variable, function, inner, message, term, inlineKind, asInline, stringLiteral, asString, numberLiteral, callArguments, getCallArguments, getAttributeAccessor, termReference, variableReference, messageReference, functionReference, referenceBy, reference, nestedPlaceable, noInline, nonLiteral, getInlineExpression}
+use Rattle.laws.specs.Bytes.{Whole, nonempty, pick, pick₂}
+use Rattle.laws.specs.Answers.{Holds}
+use Rattle.laws.specs.Stable.{loose, Upto, Within, Carries, Reads, from-any, bind, then, pure-reads, fail-reads, Relabels, relabel, relabels}
+use Rattle.laws.specs.Values.{identifier-named}
+use Rattle.laws.specs.Stable.Helper.{expectByte-reads, identifier-reads, identifier-same, numberLiteral-reads, blank-reads, choose-reads, loose-nil}
 use Rattle.laws.specs.Stable.Pattern.{InsideLaw}
 use Rattle.laws.specs.Stable.String.{string-reads}
 
@@ -149,7 +151,8 @@ module _ (sub : Inside) (law : InsideLaw sub) where
       (elim (starts isLetter (bs ++ y)) [ true ↦ asInline (termReference sub ((b ∷ bs) ++ y)) | false ↦ numberLiteral ((b ∷ bs) ++ y) ])
   minus-keeps N b bs y e c = rw e (pick₂ (Carries N) (starts isLetter bs) _ _ _ _ (λ q. c .terms) (λ q. c .numbers))
 
-  inline-kept : (N : ℕ → Type 0) (b : ℕ) (bs y : List ℕ) (v : Bool) → Whole (b ∷ bs) → Choices (λ p. Carries N (p (b ∷ bs)) (p ((b ∷ bs) ++ y))) → Carries N (getInlineExpression sub v (b ∷ bs)) (getInlineExpression sub v ((b ∷ bs) ++ y))
+  inline-kept : (N : ℕ → Type 0) (b : ℕ) (bs y : List ℕ) (v : Bool) → Whole (b ∷ bs) → Choices (λ p. Carries N (p (b ∷ bs)) (p ((b ∷ bs) ++ y)))
+      → Carries N (getInlineExpression sub v (b ∷ bs)) (getInlineExpression sub v ((b ∷ bs) ++ y))
   unfolding getInlineExpression nonLiteral
   inline-kept N b bs y v w c =
       pick₂ (Carries N) (eqb b 34) _ _ _ _ (λ q. c .strings) (λ q. pick₂ (Carries N) (isDigit b) _ _ _ _ (λ q. c .numbers)

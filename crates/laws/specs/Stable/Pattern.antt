@@ -1,22 +1,24 @@
 -- pattern.rs at a cut.
-use Prim.Native.Nat.{ℕ, zero, suc, _+_, _-_, _≤_, _<_, min}
+use Prim.Native.Nat.{ℕ, zero, suc, _+_, _-_, _≤_, _<_}
 use native.Mathlib.Nat.{not-suc-le-zero}
 use native.Mathlib.Omega.{arith}
 use mathlib.Core.Path.{_≡_, refl, sym, ap, _∙_, subst}
-use mathlib.Core.Bool.{Bool, true, false, _&&_, _||_, not}
+use mathlib.Core.Bool.{Bool, true, false}
 use mathlib.Core.List.{List, [], _∷_, _++_, append-nil}
-use mathlib.Core.Option.{Option, some, none}
-use lib.ListN.{drop, length, take, length-drop, length-append, length-take}
+use mathlib.Core.Option.{Option}
+use lib.ListN.{drop, length, take, length-drop, length-take}
 use lib.Seq.{take-append-le}
 use lib.Dec.{eqb, ltb, leb}
-use borrow.Author.Tests.{eqb-true, eqb-false, ltb-true, ltb-false, leb-true, leb-false}
-use Rattle.syntax.specs.Bytes.{startsWith, starts, isLetter, isDigit, spaces, eol, run, all}
-use Rattle.syntax.specs.Marks.{Mark, moveUp, node, textNode}
-use Rattle.syntax.specs.Reader.{Out, ok, bad, deep, Reader, fail, _>>=_, _>>_, pure, Turn, again, done, after, repeat, next, loop}
+use borrow.Author.Tests.{leb-true, leb-false}
+use Rattle.syntax.specs.Bytes.{isLetter, spaces, eol, run}
+use Rattle.syntax.specs.Marks.{Mark, node, textNode}
+use Rattle.syntax.specs.Reader.{Out, ok, bad, deep, Turn, again, done, after, repeat, next}
 use Rattle.syntax.specs.Helper.{skipBlankBlock}
-use Rattle.syntax.specs.Pattern.{Inside, Ending, lineFeed, crlf, placeableStart, eof, Role, initialLineStart, lineStart, continuation, Slice, isTextByte, isBlank, endsInCr, lineSlice, sliceBy, getTextSlice, Element, placeable, text, State, isLineStart, roleAfter, isLineFeed, withPlaceable, commonAfter, isElement, withText, goesOn, lineTurn, textTurn, patternTurn, trimmed, dedented, textMarks, elementMarks, finish, stateAt, usedBy, firstState, getPattern}
-use Rattle.laws.specs.Bytes.{Whole, whole-drop, Fresh, isFresh, Stop, stop-fresh, byCase, clash, drop-app, run-whole, eol-whole, spaces-whole, fresh-spaces, fresh-eol, not-fresh, stop-run, pick, pick₂}
-use Rattle.laws.specs.Stable.{Mode, loose, fresh, any, Upto, upto-le, upto-down, upto-rest, Within, Carries, Takes, Reads, Closes, same-carries, weaker, from-any, bind, then, pure-reads, fail-reads, Relabels, relabel, relabels, next-ok, after-within, TurnWithin, TurnCarries, Turns, Free, Any, repeat-reads, repeat-stops, repeat-keeps, Short, Strict, Inner, Holds, TurnHolds, loop-holds, Sure}
+use Rattle.syntax.specs.Pattern.{Inside, initialLineStart, lineStart, Slice, isTextByte, endsInCr, lineSlice, sliceBy, getTextSlice, Element, placeable, text, State, isLineStart, roleAfter, withPlaceable, withText, goesOn, lineTurn, textTurn, patternTurn, trimmed, dedented, textMarks, elementMarks, finish, stateAt, usedBy, firstState, getPattern}
+use Rattle.laws.specs.Bytes.{Whole, whole-drop, Fresh, Stop, stop-fresh, byCase, clash, drop-app, run-whole, eol-whole, spaces-whole, fresh-spaces, not-fresh, pick, pick₂}
+use Rattle.laws.specs.Answers.{Holds, Sure}
+use Rattle.laws.specs.Bounds.Pattern.{InsideBounds, Els, els-more, Grown, pattern-grown}
+use Rattle.laws.specs.Stable.{Mode, loose, any, Upto, upto-le, upto-down, upto-rest, Within, Carries, Closes, weaker, next-ok, after-within, TurnWithin, TurnCarries, Turns, repeat-stops, repeat-keeps, Short, Strict, Inner}
 use Rattle.laws.specs.Stable.Helper.{Soft, soft-fresh, past-spaces, block-reads, block-sure}
 
 -- the readers of what stands inside
@@ -24,10 +26,15 @@ pub record InsideLaw (sub : Inside) : Type 0 where
   pub braced : Closes (sub .braced)
   pub bracedStrict : Strict (sub .braced)
   pub parenthesised : Closes (sub .parenthesised)
+  pub depth : ℕ
+  pub bounds : InsideBounds depth sub
 
 -- a text that is not at a line's start has a byte before it
 abbrev pub Ready : State → List ℕ → Type 0
 Ready st x = isLineStart (st .role) ≡ false → 0 < length x
+
+abbrev ReadyAfter : List ℕ → State → ℕ → Type 0
+ReadyAfter x st k = Ready st (drop k x)
 
 isTextByte-end : isTextByte 10 ≡ false
 unfolding isTextByte
@@ -76,7 +83,8 @@ slice-fits b bs w =
     rw (slice-at (b ∷ bs) (take n (b ∷ bs)) (d ∷ ds) n refl refl e)
     (sliceBy-fits (take n (b ∷ bs)) d ds (suc (length bs)) (omega (arith, length-take n (b ∷ bs), run-whole isTextByte isTextByte-end b bs [] w .1)))
 
-withText-fits : (st : State) (indent n : ℕ) (x : List ℕ) (o : Out Slice) → Sliced n o → n + indent ≡ length x → TurnWithin (λ st′ k. Ready st′ (drop k x)) (length x) (withText st indent o)
+withText-fits : (st : State) (indent n : ℕ) (x : List ℕ) (o : Out Slice) → Sliced n o → n + indent ≡ length x
+    → TurnWithin (ReadyAfter x) (length x) (withText st indent o)
 unfolding withText after
 withText-fits st indent n x (ok t ms k) h e = (omega (arith, h .0), λ q. rw length-drop (omega (arith, h .1 q)))
 withText-fits st indent n x (bad f k) h e = tt
@@ -90,9 +98,10 @@ lineTurn-same : (st : State) (k c : ℕ) (cs y : List ℕ) → Whole (c ∷ cs) 
 unfolding lineTurn
 lineTurn-same st k c cs y w = ap (λ o. elim (goesOn k c) [ true ↦ withText st k o | false ↦ done (ok st [] 0) ]) (slice-same c cs y w)
 
-lineTurn-fits : (st : State) (k c : ℕ) (cs x : List ℕ) → Whole (c ∷ cs) → isLineStart (st .role) ≡ true → suc (length cs) + k ≡ length x → TurnWithin (λ st′ j. Ready st′ (drop j x)) (length x) (lineTurn st k (c ∷ cs))
+lineTurn-fits : (st : State) (k c : ℕ) (cs x : List ℕ) → Whole (c ∷ cs) → isLineStart (st .role) ≡ true → suc (length cs) + k ≡ length x
+    → TurnWithin (ReadyAfter x) (length x) (lineTurn st k (c ∷ cs))
 unfolding lineTurn
-lineTurn-fits st k c cs x w l e = pick (TurnWithin (λ st′ j. Ready st′ (drop j x)) (length x)) (goesOn k c) _ _
+lineTurn-fits st k c cs x w l e = pick (TurnWithin (ReadyAfter x) (length x)) (goesOn k c) _ _
     (λ q. withText-fits st k (suc (length cs)) x (getTextSlice (c ∷ cs)) (slice-fits c cs w) e) (λ q. omega arith)
 
 textTurn-same : (st : State) (b : ℕ) (bs y : List ℕ) → Whole (b ∷ bs) → textTurn st ((b ∷ bs) ++ y) ≡ textTurn st (b ∷ bs)
@@ -104,7 +113,7 @@ textTurn-same st b bs y w =
     ∙ lineTurn-same st (spaces (b ∷ bs)) c cs y v ∙ sym (lineTurn-at st (spaces (b ∷ bs)) (c ∷ cs) (b ∷ bs) q refl e))
     (λ q. rw (q, textTurn) (ap (withText st 0) (slice-same b bs y w)))
 
-textTurn-fits : (st : State) (b : ℕ) (bs : List ℕ) → Whole (b ∷ bs) → TurnWithin (λ st′ k. Ready st′ (drop k (b ∷ bs))) (suc (length bs)) (textTurn st (b ∷ bs))
+textTurn-fits : (st : State) (b : ℕ) (bs : List ℕ) → Whole (b ∷ bs) → TurnWithin (ReadyAfter (b ∷ bs)) (suc (length bs)) (textTurn st (b ∷ bs))
 unfolding textTurn
 textTurn-fits st b bs w =
     let (c, cs, e, v, l) = past-spaces b bs w in
@@ -126,36 +135,37 @@ pub not-ready : (st : State) → Ready st [] → isLineStart (st .role) ≡ true
 not-ready st r = byCase (isLineStart (st .role)) (λ q. q) (λ q. absurd (not-suc-le-zero (r q)))
 
 module _ (m : Mode) (soft : Soft m) (sub : Inside) (law : InsideLaw sub) where
-  withPlaceable-within : (st : State) (x : List ℕ) (o : Out (Unit {0})) → Short (length x) o → TurnWithin (λ st′ k. Ready st′ (drop k x)) (length x) (withPlaceable st o)
+  withPlaceable-within : (st : State) (x : List ℕ) (o : Out (Unit {0})) → Short (length x) o → TurnWithin (ReadyAfter x) (length x) (withPlaceable st o)
   unfolding withPlaceable
   withPlaceable-within st x (ok a ms k) h = (omega arith, λ q. rw length-drop (omega arith))
   withPlaceable-within st x (bad f k) h = tt
   withPlaceable-within st x (deep k) h = tt
 
   withPlaceable-carries : (st : State) (x y : List ℕ) (o o′ : Out (Unit {0})) → Short (length x) o → Carries (Upto any y (length x)) o o′
-      → TurnCarries (λ st′ k. Ready st′ (drop k x)) (Upto m y (length x)) (withPlaceable st o) (withPlaceable st o′)
+      → TurnCarries (ReadyAfter x) (Upto m y (length x)) (withPlaceable st o) (withPlaceable st o′)
   unfolding withPlaceable
   withPlaceable-carries st x y (ok a ms k) o′ h c = λ u. (ap (withPlaceable st) (c (upto-le m y (length x) k u)), λ q. rw length-drop (omega arith))
   withPlaceable-carries st x y (bad f k) o′ h c = tt
   withPlaceable-carries st x y (deep k) o′ h c = tt
 
-  same-turn : (x : List ℕ) (N : ℕ → Type 0) (w w′ : Turn State State) → w′ ≡ w → TurnWithin (λ st′ k. Ready st′ (drop k x)) (length x) w → TurnCarries (λ st′ k. Ready st′ (drop k x)) N w w′
+  same-turn : (x : List ℕ) (N : ℕ → Type 0) (w w′ : Turn State State) → w′ ≡ w → TurnWithin (ReadyAfter x) (length x) w → TurnCarries (ReadyAfter x) N w w′
   same-turn x N (again st ms k) w′ e h = λ u. (e, h .1)
   same-turn x N (done (ok a ms k)) w′ e h = λ u. e
   same-turn x N (done (bad f k)) w′ e h = tt
   same-turn x N (done (deep k)) w′ e h = tt
 
-  pattern-stops : (st : State) (x y : List ℕ) → Whole x → Ready st x → Stop y → TurnWithin (λ st′ k. Ready st′ (drop k x)) (length x) (patternTurn sub st (x ++ y))
+  pattern-stops : (st : State) (x y : List ℕ) → Whole x → Ready st x → Stop y → TurnWithin (ReadyAfter x) (length x) (patternTurn sub st (x ++ y))
   unfolding patternTurn
   pattern-stops st [] y w r s = rw (patternTurn-calm sub st y (not-ready st r) (stop-fresh y s)) (omega arith)
-  pattern-stops st (b ∷ bs) y w r s = pick (TurnWithin (λ st′ k. Ready st′ (drop k (b ∷ bs))) (suc (length bs))) (eqb b 123) _ _
+  pattern-stops st (b ∷ bs) y w r s = pick (TurnWithin (ReadyAfter (b ∷ bs)) (suc (length bs))) (eqb b 123) _ _
       (λ q. withPlaceable-within st (b ∷ bs) (sub .braced ((b ∷ bs) ++ y)) (law .bracedStrict .short (b ∷ bs) y w s))
-      (λ q. subst (TurnWithin (λ st′ k. Ready st′ (drop k (b ∷ bs))) (suc (length bs))) (sym (textTurn-same st b bs y w)) (textTurn-fits st b bs w))
+      (λ q. subst (TurnWithin (ReadyAfter (b ∷ bs)) (suc (length bs))) (sym (textTurn-same st b bs y w)) (textTurn-fits st b bs w))
 
-  pattern-keeps : (st : State) (x y : List ℕ) → Whole x → Ready st x → TurnCarries (λ st′ k. Ready st′ (drop k x)) (Upto m y (length x)) (patternTurn sub st x) (patternTurn sub st (x ++ y))
+  pattern-keeps : (st : State) (x y : List ℕ) → Whole x → Ready st x
+      → TurnCarries (ReadyAfter x) (Upto m y (length x)) (patternTurn sub st x) (patternTurn sub st (x ++ y))
   unfolding patternTurn
   pattern-keeps st [] y w r = λ u. patternTurn-calm sub st y (not-ready st r) (soft-fresh m soft y 0 u)
-  pattern-keeps st (b ∷ bs) y w r = pick₂ (TurnCarries (λ st′ k. Ready st′ (drop k (b ∷ bs))) (Upto m y (suc (length bs)))) (eqb b 123) _ _ _ _
+  pattern-keeps st (b ∷ bs) y w r = pick₂ (TurnCarries (ReadyAfter (b ∷ bs)) (Upto m y (suc (length bs)))) (eqb b 123) _ _ _ _
       (λ q. withPlaceable-carries st (b ∷ bs) y (sub .braced (b ∷ bs)) (sub .braced ((b ∷ bs) ++ y)) (subst (λ z. Short (suc (length bs)) (sub .braced z)) (append-nil (b ∷ bs)) (law .bracedStrict .short (b ∷ bs) [] w tt)) (law .braced .reads .keeps (b ∷ bs) y w))
       (λ q. same-turn (b ∷ bs) (Upto m y (suc (length bs))) (textTurn st (b ∷ bs)) (textTurn st ((b ∷ bs) ++ y)) (textTurn-same st b bs y w) (textTurn-fits st b bs w))
 
@@ -169,100 +179,19 @@ span-same x y a e h =
     (λ q. rw (drop-app a x y (leb-true a (length x) q)) (take-append-le (e - a) (drop a x) y (rw length-drop (omega (arith, leb-true a (length x) q)))))
     (λ q. let z : e - a ≡ 0 = omega (arith, leb-false a (length x) q) in rw z refl)
 
--- texts that end by n
-abbrev pub Placed : ℕ → List Element → Type 0
-Placed n [] = Unit {0}
-Placed n (placeable ms ∷ es) = Placed n es
-Placed n (text a e i l ∷ es) = (e ≤ n) × Placed n es
-
-placed-more : (n m : ℕ) → n ≤ m → (es : List Element) → Placed n es → Placed m es
-placed-more n m h [] p = tt
-placed-more n m h (placeable ms ∷ es) p = placed-more n m h es p
-placed-more n m h (text a e i l ∷ es) p = (omega (arith, p .0), placed-more n m h es (p .1))
-
-placed-snoc : (n : ℕ) (es : List Element) (e : Element) → Placed n es → Placed n (e ∷ []) → Placed n (es ++ (e ∷ []))
-placed-snoc n [] e p q = q
-placed-snoc n (placeable ms ∷ es) e p q = placed-snoc n es e p q
-placed-snoc n (text a f i l ∷ es) e p q = (p .0, placed-snoc n es e (p .1) q)
-
 textMarks-same : (x y : List ℕ) (v : Bool) (a e : ℕ) → e ≤ length x → textMarks (x ++ y) v a e ≡ textMarks x v a e
 unfolding textMarks
 textMarks-same x y true a e h = ap (λ t. textNode 12 a (a + trimmed t)) (span-same x y a e h)
 textMarks-same x y false a e h = refl
 
-elementMarks-same : (x y : List ℕ) (c : Option ℕ) (n : ℕ) (es : List Element) → Placed (length x) es → elementMarks (x ++ y) c n es ≡ elementMarks x c n es
+elementMarks-same : (x y : List ℕ) (c : Option ℕ) (n : ℕ) (es : List Element) → Els (length x) es → elementMarks (x ++ y) c n es ≡ elementMarks x c n es
 unfolding elementMarks
 elementMarks-same x y c zero es p = refl
 elementMarks-same x y c (suc n) [] p = refl
-elementMarks-same x y c (suc n) (placeable ms ∷ es) p = ap (λ r. node 13 ms ++ r) (elementMarks-same x y c n es p)
+elementMarks-same x y c (suc n) (placeable ms ∷ es) p = ap (λ r. node 13 ms ++ r) (elementMarks-same x y c n es (p .1))
 elementMarks-same x y c (suc n) (text a e i l ∷ es) p =
-    ap (λ r. r ++ elementMarks (x ++ y) c n es) (textMarks-same x y (eqb n 0) (dedented c a i l) e (p .0))
-    ∙ ap (λ r. textMarks x (eqb n 0) (dedented c a i l) e ++ r) (elementMarks-same x y c n es (p .1))
-
--- an answer's texts are in what was used
-abbrev pub Within′ : State → List ℕ → State → List Mark → ℕ → Type 0
-Within′ st s st′ ms k = Placed (st .used) (st .elements) → Placed (st′ .used) (st′ .elements) × (st′ .used ≤ st .used + k)
-
-abbrev pub Sized : Out Slice → Type 0
-Sized o = Holds (λ t ms k. t .size ≤ k) o
-
-lineSlice-sized : (t : List ℕ) → Sized (lineSlice t)
-unfolding lineSlice
-lineSlice-sized t = byCase (endsInCr t) (λ q. rw (q, lineSlice) (omega arith)) (λ q. rw (q, lineSlice) (omega arith))
-
-sliceBy-sized : (t r : List ℕ) → Sized (sliceBy t r)
-unfolding sliceBy
-sliceBy-sized t [] = omega arith
-sliceBy-sized t (d ∷ ds) = byCase (eqb d 125) (λ q. rw (q, sliceBy) tt) (λ q. rw (q, sliceBy) (byCase (eqb d 123) (λ r. rw r (omega arith)) (λ r. rw r (lineSlice-sized t))))
-
-pub slice-sized : (s : List ℕ) → Sized (getTextSlice s)
-unfolding getTextSlice
-slice-sized s = sliceBy-sized (take (run isTextByte s) s) (drop (run isTextByte s) s)
-
-module _ (sub : Inside) where
-  abbrev Turned : State → List ℕ → Turn State State → Type 0
-  Turned st s w = TurnHolds (patternTurn sub) Within′ st s w
-
-  withText-placed : (st : State) (s : List ℕ) (indent : ℕ) (o : Out Slice) → Sized o → Turned st s (withText st indent o)
-  unfolding withText after
-  withText-placed st s indent (ok t ms k) h = λ st′ ns j g p. (g (new p) .0, omega (arith, g (new p) .1))
-    where
-      added : Bool → List Element
-      added v = elim v [ true ↦ st .elements ++ (text (st .used) (st .used + indent + t .size) indent (isLineStart (st .role)) ∷ []) | false ↦ st .elements ]
-
-      by : (v : Bool) → Placed (st .used) (st .elements) → Placed (st .used + (indent + k)) (added v)
-      by true p = placed-snoc (st .used + (indent + k)) (st .elements) (text (st .used) (st .used + indent + t .size) indent (isLineStart (st .role)))
-          (placed-more (st .used) (st .used + (indent + k)) (omega arith) (st .elements) p) (omega arith, tt)
-      by false p = placed-more (st .used) (st .used + (indent + k)) (omega arith) (st .elements) p
-
-      new : Placed (st .used) (st .elements) → Placed (st .used + (indent + k)) (added (isElement st t))
-      new p = by (isElement st t) p
-  withText-placed st s indent (bad f k) h = tt
-  withText-placed st s indent (deep k) h = tt
-
-  withPlaceable-placed : (st : State) (s : List ℕ) (o : Out (Unit {0})) → Turned st s (withPlaceable st o)
-  unfolding withPlaceable
-  withPlaceable-placed st s (ok u ms k) = λ st′ ns j g p.
-      let q = placed-snoc (st .used + k) (st .elements) (placeable (moveUp (st .used) ms)) (placed-more (st .used) (st .used + k) (omega arith) (st .elements) p) tt in
-      (g q .0, omega (arith, g q .1))
-  withPlaceable-placed st s (bad f k) = tt
-  withPlaceable-placed st s (deep k) = tt
-
-  lineTurn-placed : (st : State) (s : List ℕ) (k : ℕ) (r : List ℕ) → Turned st s (lineTurn st k r)
-  unfolding lineTurn
-  lineTurn-placed st s k [] = λ p. (p, omega arith)
-  lineTurn-placed st s k (b ∷ bs) = byCase (goesOn k b) (λ q. rw (q, lineTurn) (withText-placed st s k (getTextSlice (b ∷ bs)) (slice-sized (b ∷ bs)))) (λ q. rw (q, lineTurn) (λ p. (p, omega arith)))
-
-  patternTurn-placed : (st : State) (s : List ℕ) → Turned st s (patternTurn sub st s)
-  unfolding patternTurn textTurn
-  patternTurn-placed st [] = λ p. (p, omega arith)
-  patternTurn-placed st (b ∷ bs) = byCase (eqb b 123) (λ q. rw (q, patternTurn) (withPlaceable-placed st (b ∷ bs) (sub .braced (b ∷ bs))))
-      (λ q. rw (q, patternTurn) (byCase (isLineStart (st .role)) (λ l. rw (l, textTurn) (lineTurn-placed st (b ∷ bs) (spaces (b ∷ bs)) (drop (spaces (b ∷ bs)) (b ∷ bs))))
-      (λ l. rw (l, textTurn) (withText-placed st (b ∷ bs) 0 (getTextSlice (b ∷ bs)) (slice-sized (b ∷ bs))))))
-
-  pub pattern-placed : (st : State) (s : List ℕ) → Holds (Within′ st s) (repeat (patternTurn sub) st s)
-  unfolding repeat
-  pattern-placed st s = loop-holds (patternTurn sub) Within′ patternTurn-placed (suc (length s)) st s
+    ap (λ r. r ++ elementMarks (x ++ y) c n es) (textMarks-same x y (eqb n 0) (dedented c a i l) e (p .1))
+    ∙ ap (λ r. textMarks x (eqb n 0) (dedented c a i l) e ++ r) (elementMarks-same x y c n es (p .2))
 
 -- where a pattern starts
 abbrev firstOf : ℕ → ℕ → ℕ → State
@@ -323,11 +252,13 @@ module _ (b : ℕ) (bs : List ℕ) (w : Whole (b ∷ bs)) where
   unfolding sp en
   first-whole = first-at (b ∷ bs) (drop (sp + en) (b ∷ bs)) sp en refl refl refl
 
-  ready-of : (k e u n : ℕ) → k < n → k + e + u ≤ n → n ≡ suc (length bs) → (firstOf k e u .used ≤ suc (length bs)) × Ready (firstOf k e u) (drop (firstOf k e u .used) (b ∷ bs))
+  ready-of : (k e u n : ℕ) → k < n → k + e + u ≤ n → n ≡ suc (length bs)
+      → (firstOf k e u .used ≤ suc (length bs)) × Ready (firstOf k e u) (drop (firstOf k e u .used) (b ∷ bs))
   unfolding stateAt isLineStart
   ready-of k e u n h l q = byCase (ltb 0 e) (λ r. rw (r, firstOf) (omega arith, λ z. clash refl z)) (λ r. rw (r, firstOf) (omega arith, λ z. rw length-drop (omega arith)))
 
-  pub first-ready : (y : List ℕ) → Stop y → (firstState ((b ∷ bs) ++ y) .used ≤ suc (length bs)) × Ready (firstState ((b ∷ bs) ++ y)) (drop (firstState ((b ∷ bs) ++ y) .used) (b ∷ bs))
+  pub first-ready : (y : List ℕ) → Stop y
+      → (firstState ((b ∷ bs) ++ y) .used ≤ suc (length bs)) × Ready (firstState ((b ∷ bs) ++ y)) (drop (firstState ((b ∷ bs) ++ y) .used) (b ∷ bs))
   unfolding sp en
   first-ready y s = rw (first-cut y)
       (ready-of sp en (usedBy (skipBlankBlock (drop (sp + en) (b ∷ bs) ++ y))) (suc (length bs)) (start-of b bs w .short)
@@ -354,17 +285,18 @@ module _ (m : Mode) (soft : Soft m) (sub : Inside) (law : InsideLaw sub) where
   finish-within s n (bad f k) h = tt
   finish-within s n (deep k) h = tt
 
-  finish-same : (x y : List ℕ) (st : State) (ms : List Mark) (k : ℕ) → Placed (st .used) (st .elements) → st .used ≤ length x → finish (x ++ y) (ok st ms k) ≡ finish x (ok st ms k)
+  finish-same : (x y : List ℕ) (st : State) (ms : List Mark) (k : ℕ) → Els (st .used) (st .elements) → st .used ≤ length x
+      → finish (x ++ y) (ok st ms k) ≡ finish x (ok st ms k)
   unfolding finish
   finish-same x y st ms k p h = ap (λ ns. elim (eqb (st .kept) 0) [ true ↦ ok false [] k | false ↦ ok true (node 11 ns) k ])
-      (elementMarks-same x y (st .common) (st .kept) (st .elements) (placed-more (st .used) (length x) h (st .elements) p))
+      (elementMarks-same x y (st .common) (st .kept) (st .elements) (els-more (st .used) (length x) h (st .elements) p))
 
-  finish-carries : (x y : List ℕ) (o o′ : Out State) → Carries (Upto m y (length x)) o o′ → Holds (λ st ms k. Placed (st .used) (st .elements) × (st .used ≤ k)) o
+  finish-carries : (x y : List ℕ) (o o′ : Out State) → Carries (Upto m y (length x)) o o′ → Holds (λ st ms k. Grown st × (st .used ≤ k)) o
       → Carries (Upto m y (length x)) (finish x o) (finish (x ++ y) o′)
   unfolding finish
   finish-carries x y (ok st ms k) o′ c h =
       pickOk (eqb (st .kept) 0) (node 11 (elementMarks x (st .common) (st .kept) (st .elements)))
-      (λ u. ap (finish (x ++ y)) (c u) ∙ finish-same x y st ms k (h .0) (omega (arith, h .1, upto-le m y (length x) k u)))
+      (λ u. ap (finish (x ++ y)) (c u) ∙ finish-same x y st ms k (h .0 .els) (omega (arith, h .1, upto-le m y (length x) k u)))
     where
       pickOk : (v : Bool) (ns : List Mark) → (Upto m y (length x) k → finish (x ++ y) o′ ≡ (elim v [ true ↦ ok false [] k | false ↦ ok true ns k ]))
           → Carries {A = Bool} (Upto m y (length x)) (elim v [ true ↦ ok false [] k | false ↦ ok true ns k ]) (finish (x ++ y) o′)
@@ -372,16 +304,6 @@ module _ (m : Mode) (soft : Soft m) (sub : Inside) (law : InsideLaw sub) where
       pickOk false ns f = f
   finish-carries x y (bad f k) o′ c h = tt
   finish-carries x y (deep k) o′ c h = tt
-
-  after-placed : (st : State) (s : List ℕ) (o : Out State) → st .elements ≡ [] → Holds (Within′ st s) o → Holds (λ st′ ms k. Placed (st′ .used) (st′ .elements) × (st′ .used ≤ k)) (after [] (st .used) o)
-  unfolding after
-  after-placed st s (ok st′ ms k) e h = h (subst (Placed (st .used)) (sym e) tt)
-  after-placed st s (bad f k) e h = tt
-  after-placed st s (deep k) e h = tt
-
-  first-empty : (s : List ℕ) → firstState s .elements ≡ []
-  unfolding firstState stateAt
-  first-empty s = byCase (ltb 0 (eol (drop (spaces s) s))) (λ q. rw (q, firstState)) (λ q. rw (q, firstState))
 
   pub getPattern-inner : Inner m (getPattern sub)
   unfolding getPattern next
@@ -404,5 +326,5 @@ module _ (m : Mode) (soft : Soft m) (sub : Inside) (law : InsideLaw sub) where
         (weaker (Upto m y (length (drop k (b ∷ bs)))) (λ j. Upto m y (suc (length bs)) (k + j)) (λ j u. upto-rest m y (b ∷ bs) k j u) (repeat t st (drop k (b ∷ bs))) (repeat t st (drop k (b ∷ bs) ++ y))
         (repeat-keeps t (pattern-turns m soft sub law) st (drop k (b ∷ bs)) y (whole-drop k (b ∷ bs) w) (f .1)))
         (λ c ns j e u. ap (λ z. ok z [] (z .used)) (first-same b bs w m soft y (upto-down m y (suc (length bs)) k j u))))
-        (after-placed st (drop k (b ∷ bs)) (repeat t st (drop k (b ∷ bs))) (first-empty (b ∷ bs)) (pattern-placed sub st (drop k (b ∷ bs))));
+        (pattern-grown (law .bounds) (b ∷ bs));
   }
