@@ -4,6 +4,8 @@ pub mod Reader
 pub mod Helper
 pub mod Comment
 pub mod Pattern
+pub mod String
+pub mod Inline
 use Prim.Native.Nat.{ℕ, _+_, _-_, _≤_, _<_}
 use native.Mathlib.Omega.{arith}
 use mathlib.Core.Path.{_≡_, refl, _∙_}

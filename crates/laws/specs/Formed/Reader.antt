@@ -44,6 +44,9 @@ module _ {boundary : ℕ → Bool} {n k : ℕ} where
   leads-append over unsaid = unsaid
   leads-append unsaid unsaid = unsaid
 
+  leads-end : {t : ℕ} {g : Stand} {ms : List Mark} → final k t ≡ true → Leads boundary n k g (at t) ms → Leads boundary n k g ended ms
+  leads-end f (by w) = closes w f
+
   pub leads-content : {q : ℕ} {ms : List Mark} → Leads boundary n k (at q) ended ms → Content boundary n k q ms
   leads-content (closes {t = t} w f) = record { to = t; run = w; ended = f }
 
@@ -103,6 +106,15 @@ module _ {A : Type 0} {n k : ℕ} where
   unfolding fail
   fail-makes kind = record { on = λ s. stopped }
 
+  -- the node may end here
+  end-made : {t : ℕ} {g : Stand} {s : List ℕ} {o : Out A} → final k t ≡ true → Made n k g (λ _. at t) s o → Made n k g (λ _. ended) s o
+  end-made f (made e l) = made e (leads-end f l)
+  end-made f stopped = stopped
+  end-made f tooDeep = tooDeep
+
+  pub end-makes : {t : ℕ} {g : Stand} {p : Reader A} → final k t ≡ true → Makes n k g (λ _. at t) p → Makes n k g (λ _. ended) p
+  end-makes f m = record { on = λ s. end-made f (m .on s) }
+
   -- nothing is said of the marks
   pub forget-made : {m i : ℕ} {g h : Stand} {f : A → Stand} {s : List ℕ} {o : Out A} → Made n k g f s o → Made m i h (λ _. anywhere) s o
   forget-made (made e l) = made e unsaid
@@ -123,9 +135,12 @@ module _ {A B : Type 0} {n k : ℕ} where
   unfolding _>>=_
   bind m l = record { on = λ s. next-made (m .on s) l }
 
-  pub then : {g h : Stand} {e : B → Stand} {p : Reader A} {q : Reader B} → Makes n k g (λ _. h) p → Makes n k h e q → Makes n k g e (p >> q)
+  pub then-by : {g : Stand} {f : A → Stand} {e : B → Stand} {p : Reader A} {q : Reader B} → Makes n k g f p → ((a : A) → Makes n k (f a) e q) → Makes n k g e (p >> q)
   unfolding _>>_
-  then m l = record { on = λ s. next-made (m .on s) (λ _. l) }
+  then-by m l = record { on = λ s. next-made (m .on s) l }
+
+  pub then : {g h : Stand} {e : B → Stand} {p : Reader A} {q : Reader B} → Makes n k g (λ _. h) p → Makes n k h e q → Makes n k g e (p >> q)
+  then m l = then-by m (λ _. l)
 
 -- ---- loops: the automaton stands by the state
 
