@@ -6,6 +6,7 @@ pub mod Comment
 pub mod Pattern
 pub mod String
 pub mod Inline
+pub mod Argument
 use Prim.Native.Nat.{ℕ, _+_, _-_, _≤_, _<_}
 use native.Mathlib.Omega.{arith}
 use mathlib.Core.Path.{_≡_, refl, _∙_}

@@ -76,7 +76,7 @@ module _ (P : Inline → Type 0) where
   unfolding nestedPlaceable _>>_
   nested-value sub h s = plain-next P s (λ _. pure inner) (sub .braced s) (λ a r. pure-value inner h r)
 
-  referenceBy-value : P function → (n : ℕ) → ((a : Bool) → P (message n a)) → (z : List ℕ) (v : Bool) (s : List ℕ) → Holds (λ a ms k. P a) (referenceBy z n v s)
+  pub referenceBy-value : P function → (n : ℕ) → ((a : Bool) → P (message n a)) → (z : List ℕ) (v : Bool) (s : List ℕ) → Holds (λ a ms k. P a) (referenceBy z n v s)
   unfolding referenceBy functionReference messageReference pure fail _>>=_
   referenceBy-value f n h z true s = byCase (all isCalleePart (take n z)) (λ q. rw (q, functionReference) f) (λ q. rw (q, functionReference) tt)
   referenceBy-value f n h z false s = plain-next P s (λ a. pure (message n a)) (getAttributeAccessor s) (λ a r. h a)

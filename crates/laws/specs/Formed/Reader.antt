@@ -44,7 +44,7 @@ module _ {boundary : ℕ → Bool} {n k : ℕ} where
   leads-append over unsaid = unsaid
   leads-append unsaid unsaid = unsaid
 
-  leads-end : {t : ℕ} {g : Stand} {ms : List Mark} → final k t ≡ true → Leads boundary n k g (at t) ms → Leads boundary n k g ended ms
+  pub leads-end : {t : ℕ} {g : Stand} {ms : List Mark} → final k t ≡ true → Leads boundary n k g (at t) ms → Leads boundary n k g ended ms
   leads-end f (by w) = closes w f
 
   pub leads-content : {q : ℕ} {ms : List Mark} → Leads boundary n k (at q) ended ms → Content boundary n k q ms
