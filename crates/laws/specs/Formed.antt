@@ -7,6 +7,7 @@ pub mod Pattern
 pub mod String
 pub mod Inline
 pub mod Argument
+pub mod Expression
 use Prim.Native.Nat.{ℕ, _+_, _-_, _≤_, _<_}
 use native.Mathlib.Omega.{arith}
 use mathlib.Core.Path.{_≡_, refl, _∙_}
