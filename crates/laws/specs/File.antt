@@ -1,6 +1,6 @@
 -- A file's entries, one by one. `First`: the entry or junk at the start of a rest, with the blank lines after it. `Passed`: some first entries of a
 -- rest. What a reading has, it has part way: its marks, its errors and where it stands are bounded by the bytes passed.
-use Prim.Native.Nat.{ℕ, zero, suc, _+_, _≤_, _<_}
+use Prim.Native.Nat.{ℕ, zero, suc, _+_, _*_, _≤_, _<_}
 use native.Mathlib.Nat.{not-suc-le-zero, le-of-suc-le-suc}
 use native.Mathlib.Omega.{arith}
 use mathlib.Core.Path.{_≡_, refl, sym, ap, _∙_, subst}
@@ -23,7 +23,7 @@ use Rattle.syntax.specs.Core.{Fields, fields, termFields, Entry, comment, messa
 use Rattle.laws.specs.Bytes.{pick}
 use Rattle.laws.specs.Answers.{Holds, holds-map}
 use Rattle.laws.specs.Lines.Join.{Levelled, levelled}
-use Rattle.laws.specs.Balanced.{Kind, forest-more}
+use Rattle.laws.specs.Balanced.{Kind, forest-more, Places, forest-places}
 use Rattle.laws.specs.Bounds.{Uses, uses-nil, uses-text, uses-less, uses-after, uses-node, ok-uses, bad-within, deep-within}
 use Rattle.laws.specs.Bounds.Comment.{levelOf-some}
 use Rattle.laws.specs.Bounds.Pattern.{InsideBounds, block-le}
@@ -258,6 +258,13 @@ module _ (n : ℕ) (s : List ℕ) where
           let x : map (upError k) fs ≡ es = cc in
           (subst (Uses 0 s ms) z (subst (λ z. Uses 0 s z (k + length (drop k s))) m (uses-after {c = 0} (uses-nil k (block-le s) (omega arith)) u)), omega (arith, ap length x, length-map fs (upError k), length-drop k s))
       go (refused j) h e = let z : _≡_ {A = ℕ} 0 1 = cc in absurd (omega arith)
+
+  pub parse-room : {ms : List Mark} {es : List Error} → parse n s ≡ read ms es → (length ms ≤ 8 * length s) × (length es ≤ length s)
+  parse-room e = let (u, l) = parse-read e in (omega (arith, u .room), l)
+
+  -- T kinds, and no others, have places, at most the file's length
+  pub parse-places : {ms : List Mark} {es : List Error} → parse n s ≡ read ms es → Places (length s) ms
+  parse-places e = forest-places (parse-read e .0 .forest)
 
   -- what is refused lies in the file, past n openings
   pub parse-refused : {k : ℕ} → parse n s ≡ refused k → (n ≤ k) × (k < length s)

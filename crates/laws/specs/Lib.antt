@@ -26,11 +26,11 @@ pub mod Lines
 pub mod Stable
 -- readings without junk, and the last line, at a cut
 pub mod Entries
--- what stands in the words of a tree and of a list of errors is read back from them
+-- the words of a tree and of a list of errors, read back
 pub mod Layout
 -- a reading call that is accepted
 pub mod Call
--- mark lists that are well formed, and the value of refusal 6
+-- the shape of mark lists, its check and the verdict
 pub mod Shape
 -- the marks of a reading are well formed
 pub mod Formed

@@ -45,6 +45,10 @@ pub moveUp-zero : (ms : List Mark) → moveUp 0 ms ≡ ms
 unfolding moveUp
 moveUp-zero ms = map-same (up 0) up-zero ms
 
+pub moveUp-nil : (k : ℕ) → moveUp k [] ≡ []
+unfolding moveUp
+moveUp-nil k = refl
+
 pub moveUp-length : (k : ℕ) (ms : List Mark) → length (moveUp k ms) ≡ length ms
 unfolding moveUp
 moveUp-length k ms = length-map ms (up k)
@@ -72,7 +76,7 @@ upKind-twice k j Errors.ExpectedInlineExpression = refl
 upKind-twice k j Errors.ExpectedSimpleExpressionAsSelector = refl
 upKind-twice k j Errors.ExpectedLiteral = refl
 
-upFault-twice : (k j : ℕ) (f : ParserError) → upFault k (upFault j f) ≡ upFault (k + j) f
+pub upFault-twice : (k j : ℕ) (f : ParserError) → upFault k (upFault j f) ≡ upFault (k + j) f
 upFault-twice k j f i = record { start = sym (add-assoc k j (f .start)) i; end = sym (add-assoc k j (f .end)) i; kind = upKind-twice k j (f .kind) i }
 
 upError-twice : (k j : ℕ) (e : Error) → upError k (upError j e) ≡ upError (k + j) e
@@ -82,7 +86,7 @@ upError-twice k j e i = record { fault = upFault-twice k j (e .fault) i; junkFro
 pub upErrors-twice : (k j : ℕ) (es : List Error) → map (upError k) (map (upError j) es) ≡ map (upError (k + j)) es
 upErrors-twice k j es = map-twice (upError k) (upError j) (upError (k + j)) (upError-twice k j) es
 
-marks-after : (ms : List Mark) (k : ℕ) (ns : List Mark) (j : ℕ) (os : List Mark) → ms ++ moveUp k (ns ++ moveUp j os) ≡ (ms ++ moveUp k ns) ++ moveUp (k + j) os
+pub marks-after : (ms : List Mark) (k : ℕ) (ns : List Mark) (j : ℕ) (os : List Mark) → ms ++ moveUp k (ns ++ moveUp j os) ≡ (ms ++ moveUp k ns) ++ moveUp (k + j) os
 marks-after ms k ns j os = ap (λ r. ms ++ r) (moveUp-append k ns (moveUp j os) ∙ ap (λ r. moveUp k ns ++ r) (moveUp-twice k j os)) ∙ sym (append-assoc ms (moveUp k ns) (moveUp (k + j) os))
 
 pub after-after : {A : Type 0} (ms : List Mark) (k : ℕ) (ns : List Mark) (j : ℕ) (o : Out A) → after ms k (after ns j o) ≡ after (ms ++ moveUp k ns) (k + j) o
@@ -91,7 +95,7 @@ after-after ms k ns j (ok a os i) = ap₂ (λ r n. ok a r n) (marks-after ms k n
 after-after ms k ns j (bad f i) = ap₂ (λ g n. bad g n) (upFault-twice k j f) (sym (add-assoc k j i))
 after-after ms k ns j (deep i) = ap deep (sym (add-assoc k j i))
 
-upKind-zero : (w : ErrorKind) → upKind 0 w ≡ w
+pub upKind-zero : (w : ErrorKind) → upKind 0 w ≡ w
 upKind-zero (Errors.ExpectedToken b) = refl
 upKind-zero (Errors.ExpectedCharRange b) = refl
 upKind-zero (Errors.ExpectedMessageField a e) = ap₂ Errors.ExpectedMessageField (zero-add a) (zero-add e)

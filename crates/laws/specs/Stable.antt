@@ -19,7 +19,8 @@ use Rattle.syntax.specs.Marks.{Mark, node}
 use Rattle.syntax.specs.declared.errors.ErrorKind.{ErrorKind}
 use Rattle.syntax.specs.declared.errors.ParserError.{ParserError}
 use Rattle.syntax.specs.Reader.{Out, ok, bad, deep, Reader, after, next, _>>=_, _>>_, pure, fail, wrap, inNode, Turn, again, done, turnOf, loop, repeat}
-use Rattle.laws.specs.Answers.{Holds, holds-map, holds-after, Takes, takes-next}
+pub use Rattle.laws.specs.Answers.{Holds, Takes, plain-next}
+use Rattle.laws.specs.Answers.{holds-map, holds-after, takes-next}
 use Rattle.laws.specs.Bytes.{Whole, whole-drop, Fresh, Stop, drop-app}
 
 pub data Mode : Type 0 where

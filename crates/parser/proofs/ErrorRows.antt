@@ -70,7 +70,7 @@ module _ (cap n : ℕ) (t : List ℕ) (s : Spare t cap n) (e : Error) where
       written : List ℕ
       written = set t (n + 2) (errorNumber e)
 
-  -- as `errors::put_error` writes it
+  -- as `list::put_error` writes it
   pub error-written : (w : KindWords) (t₁ t₂ t₃ : List ℕ) → w ≡ wordsOf (e .fault .kind) → t₁ ≡ sets (set t (n + 2) (w .number)) (cap + 6 * n + 2) (e .fault .start ∷ e .fault .end ∷ [])
       → t₂ ≡ sets t₁ (cap + 6 * n + 2 + 2) (e .junkFrom ∷ e .junkTill ∷ []) → t₃ ≡ sets t₂ (cap + 6 * n + 2 + 4) (w .first ∷ w .second ∷ []) → ErrorStep cap n t t₃ (e ∷ [])
   unfolding group errorNumber

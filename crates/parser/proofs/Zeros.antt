@@ -7,13 +7,13 @@ use mathlib.Core.List.{List, [], _∷_, _++_, append-assoc, append-nil}
 use lib.ListN.{length, getD, take, drop, set, replicate, length-append, length-take, length-drop, length-replicate, replicate-append-replicate, take-append-drop}
 use lib.Seq.{set-at, drop-cons, drop-drop, take-append-add, drop-append-add}
 use Rattle.syntax.specs.Layout.{array}
-use Rattle.parser.specs.Slices.{Laid, finished}
+use Rattle.parser.specs.Laid.{Laid, finished}
 
 -- t with zeros from `from` to i
 unfoldable pub zeroed : (from i : ℕ) → List ℕ → List ℕ
 zeroed from i t = take from t ++ (replicate (i - from) 0 ++ drop i t)
 
--- as the contract of `slices::zero` says it
+-- as the contract of `layout::zero` says it
 pub zero-length : (from i : ℕ) (t t′ : List ℕ) → from ≤ i → i ≤ length t → t′ ≡ take from t ++ (replicate (i - from) 0 ++ drop i t) → length t′ ≡ length t
 zero-length from i t t′ h l e = ap length e ∙ simp (length-append, length-take, length-replicate, length-drop) (omega arith)
 

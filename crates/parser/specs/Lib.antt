@@ -1,4 +1,8 @@
 -- What the contracts of the parser say of results and of lent words.
 pub mod Tree
-pub mod Slices
+pub mod Laid
 pub mod ErrorList
+pub mod Place
+pub mod Scan
+pub mod Slice
+pub mod Did

@@ -1,5 +1,5 @@
 -- What the contracts say of the words of a tree while it is written.
-use Prim.Native.Nat.{ℕ, zero, suc, _+_, _*_, _≤_}
+use Prim.Native.Nat.{ℕ, zero, suc, _+_, _-_, _*_, _≤_}
 use mathlib.Core.Path.{_≡_}
 use mathlib.Core.List.{List, [], _∷_, _++_, map}
 use lib.ListN.{length, getD, take, drop}
@@ -32,3 +32,15 @@ pub record Step (cap n : ℕ) (t t′ : List ℕ) (ws : List Word) : Type 0 wher
 pub record Fits (t : List ℕ) (cap n k : ℕ) : Type 0 where
   pub fits : n + k ≤ cap
   pub layout : 2 + 2 * cap ≤ length t
+
+-- c marks from the i-th on
+unfoldable pub marksFrom : ℕ → ℕ → ℕ → List ℕ → List Word
+marksFrom cap i zero t = []
+marksFrom cap i (suc c) t = word (getD t (i + 2) 0) (getD t (cap + i + 2) 0) ∷ marksFrom cap (i + 1) c t
+
+-- a mark was put before those from the i-th of n on
+pub record Inserted (cap i n : ℕ) (t t′ : List ℕ) (w : Word) : Type 0 where
+  pub long : length t′ ≡ length t
+  pub marks : marksIn cap (n + 1) t′ ≡ marksIn cap i t ++ (w ∷ marksFrom cap i (n - i) t)
+  pub head : take 2 t′ ≡ take 2 t
+  pub rest : drop (2 + 2 * cap) t′ ≡ drop (2 + 2 * cap) t

@@ -1,43 +1,18 @@
-// Errors in a lent list: two words of sizes, then as many kinds as the list holds, then as many groups of six words.
-ghost use Prim.Native.Nat.{_+_, _≤_};
+// errors.rs: its macro.
 ghost use mathlib.Core.Path.{_≡_};
-ghost use mathlib.Core.List.{[], _∷_};
-ghost use lib.ListN.{length};
-ghost use lib.Seq.{sets};
-ghost use Rattle.parser.specs.ErrorList.{Small, SmallError, Spare, ErrorStep, withJunk};
+ghost use Prim.Native.Nat.{_≤_};
+ghost use Rattle.syntax.specs.Errors.{faultAt};
+use syntax::errors::ErrorKind;
 use syntax::errors::ParserError;
-use syntax::errors::kind_words;
 
-// Writes two words in a row.
-fn put_pair(list: &mut [u32], at: usize, a: usize, b: usize)
-    requires { ⌜ (at + 2 ≤ length (now list)) × Small a × Small b ⌝ }
-    ensures { λ r. ⌜ (now (list .exit) ≡ sets (now (list .entry)) at (a ∷ b ∷ [])) × (length (now (list .exit)) ≡ length (now (list .entry))) ⌝ }
+// An error whose position is the one byte at a place.
+pub fn error(kind: ErrorKind, at: usize) -> ParserError
+    requires { ⌜ at ≤ 1000000 ⌝ }
+    ensures { λ r. ⌜ r ≡ faultAt kind at ⌝ }
 {
-    list[at] = a as u32;
-    let next = at + 1;
-    list[next] = b as u32;
-}
-
-// Writes an error with its junk after n others.
-pub fn put_error(
-    list: &mut [u32],
-    cap: usize,
-    n: usize,
-    e: ParserError,
-    junk_start: usize,
-    junk_end: usize,
-) -> usize
-    requires { ⌜ Spare (now list) cap n ⌝ }
-    requires { ⌜ SmallError e × Small «junk_start» × Small «junk_end» ⌝ }
-    ensures { λ r. ⌜ (r ≡ n + 1) × ErrorStep cap n (now (list .entry)) (now (list .exit)) (withJunk e «junk_start» «junk_end» ∷ []) ⌝ }
-{
-    let kind = e.kind;
-    let words = kind_words(kind);
-    let at = n + 2;
-    list[at] = words.number;
-    let group = cap + 6 * n + 2;
-    put_pair(list, group, e.start, e.end);
-    put_pair(list, group + 2, junk_start, junk_end);
-    put_pair(list, group + 4, words.first, words.second);
-    n + 1
+    ParserError {
+        start: at,
+        end: at + 1,
+        kind: kind,
+    }
 }

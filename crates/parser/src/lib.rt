@@ -1,4 +1,10 @@
 // The parser: bytes are read into marks and errors.
+pub mod bytes;
+pub mod comment;
 pub mod errors;
+pub mod helper;
+pub mod layout;
+pub mod list;
 pub mod marks;
-pub mod slices;
+pub mod string;
+pub mod text;

@@ -3,7 +3,17 @@ ghost use Prim.Native.Nat.{_+_, _*_, _≤_, _<_, _^_};
 ghost use mathlib.Core.Path.{_≡_};
 ghost use mathlib.Core.List.{[], _∷_};
 ghost use Rattle.syntax.specs.Kind.{closing};
-ghost use Rattle.parser.specs.Tree.{word, Step, Fits};
+ghost use Rattle.parser.specs.Tree.{word, Step, Fits, Inserted};
+ghost use Rattle.parser.specs.Did.{Closable, Closed};
+use syntax::errors::ParserError;
+
+// What a reader that writes marks answers: the place after what it read and the count of marks; an error and where it
+// stopped; or the place of an opening that nests too deep.
+pub enum Read {
+    Ok(usize, usize),
+    Bad(ParserError, usize),
+    Deep(usize),
+}
 
 // Writes a mark after n others.
 pub fn put(tree: &mut [u32], cap: usize, n: usize, kind: u32, place: usize) -> usize
@@ -33,4 +43,43 @@ pub fn put_text(
 {
     let m = put(tree, cap, n, kind, start);
     put(tree, cap, m, 100 + kind, end)
+}
+
+// Puts a mark without a place before those from the i-th of n on, which move up by one.
+pub fn insert(tree: &mut [u32], cap: usize, from: usize, n: usize, kind: u32) -> usize
+    requires { ⌜ from ≤ n ⌝ }
+    requires { ⌜ Fits (now tree) cap n 1 ⌝ }
+    ensures { λ r. ⌜ (r ≡ n + 1) × Inserted cap from n (now (tree .entry)) (now (tree .exit)) (word kind 0) ⌝ }
+{
+    let mut i = from;
+    let mut carried = kind;
+    let mut place = 0u32;
+    while i < n {
+        let a = i + 2;
+        let b = cap + i + 2;
+        let k = tree[a];
+        let p = tree[b];
+        tree[a] = carried;
+        tree[b] = place;
+        carried = k;
+        place = p;
+        i += 1;
+    }
+    put(tree, cap, n, carried, place as usize)
+}
+
+// Closes a node, if what stands in it was read.
+pub fn close(tree: &mut [u32], cap: usize, kind: u32, r: Read) -> Read
+    requires { ⌜ kind < 100 ⌝ }
+    requires { ⌜ Closable (now tree) cap r ⌝ }
+    ensures { λ x. ⌜ Closed cap kind (now (tree .entry)) (now (tree .exit)) r x ⌝ }
+{
+    match r {
+        Read::Ok(at, n) => {
+            let m = put(tree, cap, n, 100 + kind, 0);
+            Read::Ok(at, m)
+        }
+        Read::Bad(e, k) => Read::Bad(e, k),
+        Read::Deep(k) => Read::Deep(k),
+    }
 }

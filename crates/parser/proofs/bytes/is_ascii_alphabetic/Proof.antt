@@ -1,0 +1,23 @@
+-- `bytes::is_ascii_alphabetic` meets its contract.
+use borrow.Author.Needs.{needs}
+use Rattle.syntax.specs.Bytes.{isLetter}
+use Rattle.parser.proofs.bytes.is_ascii_alphabetic.Statement.{statement}
+use Rattle.parser.proofs.bytes.is_ascii_alphabetic.Tie as tie
+
+is-between-requires : tie.Need-is-between-requires
+is-between-requires c κs = search needs
+
+is-between-requires-2 : tie.Need-is-between-requires-2
+is-between-requires-2 c κs = search needs
+
+returns : tie.Need-returns
+unfolding isLetter
+returns c = cc
+
+returns-2 : tie.Need-returns-2
+unfolding isLetter
+returns-2 c = cc
+
+pub is-ascii-alphabetic-spec : {M : Type 1} → statement M
+is-ascii-alphabetic-spec =
+    tie.close (tie.spec is-between-requires is-between-requires-2 returns returns-2)

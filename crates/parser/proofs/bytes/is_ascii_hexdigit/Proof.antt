@@ -1,0 +1,37 @@
+-- `bytes::is_ascii_hexdigit` meets its contract.
+use borrow.Author.Needs.{needs}
+use Rattle.syntax.specs.Bytes.{isHex}
+use Rattle.parser.proofs.bytes.is_ascii_hexdigit.Statement.{statement}
+use Rattle.parser.proofs.bytes.is_ascii_hexdigit.Tie as tie
+
+is-ascii-digit-requires : tie.Need-is-ascii-digit-requires
+is-ascii-digit-requires c κs = search needs
+
+is-between-requires : tie.Need-is-between-requires
+is-between-requires c κs = search needs
+
+is-between-requires-2 : tie.Need-is-between-requires-2
+is-between-requires-2 c κs = search needs
+
+returns : tie.Need-returns
+unfolding isHex
+returns c = cc
+
+returns-2 : tie.Need-returns-2
+unfolding isHex
+returns-2 c = cc
+
+returns-3 : tie.Need-returns-3
+unfolding isHex
+returns-3 c = cc
+
+pub is-ascii-hexdigit-spec : {M : Type 1} → statement M
+is-ascii-hexdigit-spec =
+    tie.close
+    (tie.spec
+    is-ascii-digit-requires
+    is-between-requires
+    is-between-requires-2
+    returns
+    returns-2
+    returns-3)

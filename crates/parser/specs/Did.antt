@@ -1,0 +1,73 @@
+-- What the contracts say of a reader with marks: the code's answer is the definition's, moved to a place of the source, and the tree's words
+-- became what they were with the definition's marks after the first n.
+use Prim.Native.Nat.{ℕ, _+_, _*_, _≤_}
+use mathlib.Core.Path.{_≡_}
+use mathlib.Core.List.{List, [], _∷_}
+use lib.ListN.{length}
+use Rattle.syntax.specs.declared.errors.ParserError.{ParserError}
+use Rattle.syntax.specs.Errors.{upFault}
+use Rattle.syntax.specs.Marks.{Mark}
+use Rattle.syntax.specs.Reader.{Out, ok, bad, deep}
+use Rattle.syntax.specs.Kind.{closing}
+use Rattle.parser.specs.Tree.{word, Step, wordsAt, Fits}
+use Rattle.parser.specs.declared.marks.Read.{Read}
+use Rattle.parser.specs.declared.marks.Read.the-variants.{Ok, Bad, Deep}
+
+-- how a result type R of the code tells an answer of the definition: a value with the place after it and the count of marks; an error and
+-- where reading stopped; the place of the opening that is one too many
+pub record Says (A R : Type 0) : Type 0 where
+  pub yes : A → ℕ → ℕ → R
+  pub no : ParserError → ℕ → R
+  pub far : ℕ → R
+
+-- a reader whose value is not told, or is told by the count of marks
+abbrev pub reading : {A : Type 0} → Says A Read
+reading = record { yes = λ a p m. Ok p m; no = λ f p. Bad f p; far = λ p. Deep p }
+
+-- an answer that counts from the place `at`, after n marks
+abbrev pub answer : {A R : Type 0} → Says A R → ℕ → ℕ → Out A → R
+answer w at n (ok a ms k) = w .yes a (at + k) (n + length ms)
+answer w at n (bad f k) = w .no (upFault at f) (at + k)
+answer w at n (deep k) = w .far (at + k)
+
+-- what fails leaves no marks: whatever lies above the count is free
+abbrev pub marksOf : {A : Type 0} → Out A → List Mark
+marksOf (ok a ms k) = ms
+marksOf (bad f k) = []
+marksOf (deep k) = []
+
+pub record Did {A R : Type 0} (w : Says A R) (cap at n : ℕ) (t t′ : List ℕ) (r : R) (o : Out A) : Type 0 where
+  pub answers : r ≡ answer w at n o
+  pub wrote : Step cap n t t′ (wordsAt at (marksOf o))
+
+-- what a reader asks: the marks so far and k more are at most eight a byte, and there is room for eight a byte
+pub record Room (s t : List ℕ) (cap at n k : ℕ) : Type 0 where
+  pub inside : at ≤ length s
+  pub spent : n + k ≤ 8 * at
+  pub short : length s ≤ 1000000
+  pub holds : 8 * length s ≤ cap
+  pub layout : 2 + 2 * cap ≤ length t
+
+-- where a reader's result lies: inside the source, past `at`; its marks and c more are at most eight for each byte that was used
+abbrev pub Kept : ℕ → List ℕ → ℕ → ℕ → Read → Type 0
+Kept c s at n (Ok a m) = (at ≤ a) × (a ≤ length s) × (n ≤ m) × (m + c + 8 * at ≤ n + 8 * a)
+Kept c s at n (Bad f k) = k ≤ length s
+Kept c s at n (Deep k) = Unit {0}
+
+-- what follows a result, where it is no failure: as the definition's rest gives it from there on
+abbrev pub Then : {B R : Type 0} → Says B R → ℕ → List ℕ → List ℕ → (ℕ → Out B) → Read → R → Type 0
+Then w cap t t′ rest (Ok a m) x = Did w cap a m t t′ x (rest a)
+Then w cap t t′ rest (Bad f k) x = (x ≡ w .no f k) × (t′ ≡ t)
+Then w cap t t′ rest (Deep k) x = (x ≡ w .far k) × (t′ ≡ t)
+
+-- there is room for one more mark after a result
+abbrev pub Closable : List ℕ → ℕ → Read → Type 0
+Closable t cap (Ok a m) = Fits t cap m 1
+Closable t cap (Bad f k) = Unit {0}
+Closable t cap (Deep k) = Unit {0}
+
+-- a result x with the mark that closes a node of a kind
+abbrev pub Closed : ℕ → ℕ → List ℕ → List ℕ → Read → Read → Type 0
+Closed cap kind t t′ (Ok a m) x = (x ≡ Ok a (m + 1)) × Step cap m t t′ (word (closing kind) 0 ∷ [])
+Closed cap kind t t′ (Bad f k) x = (x ≡ Bad f k) × (t′ ≡ t)
+Closed cap kind t t′ (Deep k) x = (x ≡ Deep k) × (t′ ≡ t)
