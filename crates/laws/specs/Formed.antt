@@ -8,6 +8,7 @@ pub mod String
 pub mod Inline
 pub mod Argument
 pub mod Expression
+pub mod Entry
 use Prim.Native.Nat.{ℕ, _+_, _-_, _≤_, _<_}
 use native.Mathlib.Omega.{arith}
 use mathlib.Core.Path.{_≡_, refl, _∙_}
