@@ -3,12 +3,12 @@ use Prim.Native.Nat.{ℕ, zero, suc, _+_, _-_, _≤_, _<_}
 use mathlib.Core.Path.{_≡_, refl, sym, ap, _∙_}
 use mathlib.Core.List.{List, [], _∷_}
 use mathlib.Core.Bool.{Bool, true, false, _&&_}
-use native.Mathlib.Nat.{not-suc-le-zero, le-of-suc-le-suc}
+use native.Mathlib.Nat.{add-zero, add-suc, not-suc-le-zero, le-of-suc-le-suc}
 use native.Mathlib.Numerals.{add-one}
 use native.Mathlib.Omega.{arith}
 use lib.Dec.{eqb, ltb}
-use lib.ListN.{length, getD, drop, drop-of-length-le}
-use lib.Seq.{drop-cons, drop-drop}
+use lib.ListN.{length, getD, drop, length-drop, drop-of-length-le}
+use lib.Seq.{drop-cons, drop-drop, getD-drop}
 use borrow.Author.Tests.{ltb-true, ltb-false, lt-ltb, le-ltb}
 use Rattle.syntax.specs.Byte as Byte
 use Rattle.syntax.specs.Bytes.{startsWith, eol, isFresh}
@@ -116,6 +116,14 @@ starts-first s i h = rw h
 
 pub starts-after : (s : List ℕ) (i : ℕ) → (i ≡ 0 → ⊥) → i ≤ length s → eqb (getD s (i - 1) 0) Byte.lineFeed ≡ lineStartsAt i s
 starts-after s i h l = let e : i ≡ suc (i - 1) = omega arith in sym (ap (λ (k : ℕ). lineStartsAt k s) e ∙ start-after (i - 1) s (omega arith))
+
+-- a line that starts after one does
+pub starts-later : (s : List ℕ) (i k : ℕ) → lineStartsAt i s ≡ true → i + k ≤ length s → lineStartsAt (i + k) s ≡ lineStartsAt k (drop i s)
+unfolding lineStartsAt
+starts-later s i zero h l = rw add-zero h
+starts-later s i (suc k) h l =
+    let e : i + k < length s = omega arith in
+    rw (add-suc, start-after (i + k) s e, start-after k (drop i s) (omega (arith, length-drop i s)), getD-drop i s k 0)
 
 -- ---- junk
 

@@ -7,7 +7,6 @@ use native.Mathlib.Nat.{add-zero, add-assoc}
 use native.Mathlib.Omega.{arith}
 use lib.ListN.{length, drop}
 use lib.Seq.{drop-drop}
-use lib.Dec.{eqb}
 use borrow.Author.Tests.{eq-eqb, ne-eqb}
 use Rattle.syntax.specs.declared.errors.ErrorKind.{ErrorKind}
 use Rattle.syntax.specs.declared.errors.ParserError.{ParserError}

@@ -2,7 +2,7 @@
 use Prim.Native.Nat.{ℕ, zero, suc, _+_, _-_, _≤_, _<_, min}
 use mathlib.Core.Path.{_≡_, refl, sym, ap, subst, _∙_}
 use mathlib.Core.List.{List, [], _∷_}
-use mathlib.Core.Bool.{Bool, true, false, _||_}
+use mathlib.Core.Bool.{true, false}
 use native.Mathlib.Nat.{add-zero}
 use native.Mathlib.Omega.{arith}
 use lib.ListN.{length, getD, drop, length-drop, drop-of-length-le}
@@ -15,20 +15,17 @@ use Rattle.syntax.specs.declared.errors.ErrorKind.the-variants.{UnknownEscapeSe
 use Rattle.syntax.specs.declared.errors.ParserError.{ParserError}
 use Rattle.syntax.specs.Errors.{faultAt, upFault}
 use Rattle.syntax.specs.Marks.{moveUp}
-use Rattle.syntax.specs.Reader.{Out, ok, bad, deep, fail, after, Turn, again, done, turnOf, repeat}
+use Rattle.syntax.specs.Reader.{ok, bad, fail, after, Turn, again, done, turnOf, repeat}
 use Rattle.syntax.specs.Helper.{skipUnicodeEscapeSequence}
 use Rattle.syntax.specs.Expression.{escapeTurn, stringTurn}
 use Rattle.laws.specs.Bytes.{byCase, clash, run-le}
-use Rattle.laws.specs.Loop.{Moves}
-use Rattle.laws.specs.Bounds.{moves}
-use Rattle.laws.specs.Bounds.Expression.{stringTurn-bounds}
+use Rattle.laws.specs.Loop.Turns.{stringTurn-moves}
 use Rattle.parser.specs.Place.{Passed, Found}
 use Rattle.parser.specs.Scan.{isEscaped, isPlain, Onward, Ended, Turned}
 use Rattle.parser.specs.declared.helper.Place.{Place}
 use Rattle.parser.specs.declared.helper.Place.the-variants.{At, Bad}
-use Rattle.parser.proofs.Tests.{by}
 use Rattle.parser.proofs.Run.{run-none, run-more, passed-stops}
-use Rattle.parser.proofs.Places.{Read, found-ok, found-fault, found-fail, found-at, found-bad, found-after, found-within}
+use Rattle.parser.proofs.Places.{Read, found-ok, found-fault, found-fail, found-at, found-bad, found-after}
 use Rattle.parser.proofs.Turns.{Turning, turning-more, found-turns}
 
 -- ---- widths of characters
@@ -174,9 +171,6 @@ module _ (s : List ℕ) (at : ℕ) (l : at + 1 < length s) where
 
 -- ---- turns
 
-pub string-moves : Moves stringTurn
-string-moves = moves (stringTurn-bounds {n = 0})
-
 plain-turn : (x : List ℕ) → starts isPlain x ≡ true → stringTurn tt x ≡ again tt [] 1
 unfolding starts stringTurn isPlain
 plain-turn [] h = clash h refl
@@ -210,7 +204,7 @@ pass {s} {at} (suc k) i h t =
     let l : i < length s = omega (arith, h, run-le isPlain (drop i s), length-drop i s) in
     let e = run-more isPlain s i l q in
     let g : i + 1 + k ≡ i + suc k = omega arith in
-    rw (← g) (pass k (i + 1) (omega arith) (turning-more string-moves t (plain-turn (drop i s) q) refl (omega arith))))
+    rw (← g) (pass k (i + 1) (omega arith) (turning-more stringTurn-moves t (plain-turn (drop i s) q) refl (omega arith))))
     (λ q. absurd (omega (arith, h, run-none isPlain (drop i s) q)))
 
 -- past plain bytes
@@ -235,7 +229,7 @@ escape-ended {s} {i} {t = t} w h = subst (Turned s i t) h w
 
 module _ {s : List ℕ} {at i : ℕ} {r : Place} (g : Scanning s at i) (b : startsWith Byte.backslash (drop i s) ≡ true) (w : Turned s i (escapeTurn (drop i s) (drop (i + 1) s)) r) where
   pub scan-escape : {j k : ℕ} → r ≡ At j → Passed s j (run isPlain (drop j s)) k → Scanning s at k
-  scan-escape {j} h p = let o = escape-onward w h in scan-on (turning-more string-moves (g .turns) (escape-turn s i b ∙ o .turn) (omega (arith, o .onward)) (o .within)) p
+  scan-escape {j} h p = let o = escape-onward w h in scan-on (turning-more stringTurn-moves (g .turns) (escape-turn s i b ∙ o .turn) (omega (arith, o .onward)) (o .within)) p
 
   pub scan-fails : {e : ParserError} {j : ℕ} → r ≡ Bad e j → Found s at (repeat stringTurn tt (drop at s)) r
   scan-fails h = let o = escape-ended w h in rw h (found-turns (g .turns) (escape-turn s i b ∙ o .turn) (o .found))

@@ -1,38 +1,24 @@
 -- Loops of turns without marks: what the code's loop keeps, and how it goes on and ends.
 use Prim.Native.Nat.{ℕ, suc, _+_, _-_, _≤_, _<_}
-use native.Mathlib.Nat.{zero-add}
 use native.Mathlib.Numerals.{add-one}
 use native.Mathlib.Omega.{arith}
-use mathlib.Core.Path.{_≡_, refl, sym, ap, ap₂, _∙_}
+use mathlib.Core.Path.{_≡_, sym, ap, _∙_}
 use mathlib.Core.List.{List, []}
-use mathlib.Core.Bool.{true, false}
 use lib.ListN.{drop, length}
 use lib.Seq.{drop-drop}
 use borrow.Author.Tests.{lt-ltb}
 use Rattle.syntax.specs.Byte as Byte
 use Rattle.syntax.specs.Bytes.{startsWith, eol, spaces}
-use Rattle.syntax.specs.declared.errors.ParserError.{ParserError}
-use Rattle.syntax.specs.Errors.{upFault}
 use Rattle.syntax.specs.Marks.{moveUp}
-use Rattle.syntax.specs.Reader.{Out, ok, bad, deep, after, Turn, again, done, repeat}
+use Rattle.syntax.specs.Reader.{Out, ok, after, Turn, again, done, repeat}
 use Rattle.syntax.specs.Helper.{blankTurn, blockTurn, skipBlankBlock}
 use Rattle.laws.specs.Bytes.{byCase}
-use Rattle.laws.specs.Moving.{moveUp-zero, upKind-zero, after-after}
+use Rattle.laws.specs.Moving.{after-after, after-none}
 use Rattle.laws.specs.Loop.{Moves, repeat-again, repeat-done}
-use Rattle.laws.specs.Bounds.{moves}
-use Rattle.laws.specs.Bounds.Helper.{blankTurn-bounds, blockTurn-bounds}
+use Rattle.laws.specs.Loop.Turns.{blockTurn-moves}
 use Rattle.parser.specs.Place.{Passed, Went, Found, blankWidth}
 use Rattle.parser.specs.declared.helper.Place.{Place}
 use Rattle.parser.proofs.Places.{went-ok, found-after}
-
-upFault-zero : (f : ParserError) → upFault 0 f ≡ f
-upFault-zero f i = record { start = zero-add (f .start) i; end = zero-add (f .end) i; kind = upKind-zero (f .kind) i }
-
-after-zero : {A : Type 0} (o : Out A) → after [] 0 o ≡ o
-unfolding after
-after-zero (ok a ms k) = ap₂ (ok a) (moveUp-zero ms) (zero-add k)
-after-zero (bad f k) = ap₂ bad (upFault-zero f) (zero-add k)
-after-zero (deep k) = ap deep (zero-add k)
 
 -- the turns from `at` in the state u have come to i in the state v
 pub record Turning {S A : Type 0} (turn : S → List ℕ → Turn S A) (s : List ℕ) (at : ℕ) (u : S) (i : ℕ) (v : S) : Type 0 where
@@ -42,7 +28,7 @@ pub record Turning {S A : Type 0} (turn : S → List ℕ → Turn S A) (s : List
 
 module _ {S A : Type 0} (turn : S → List ℕ → Turn S A) (s : List ℕ) (at : ℕ) (u : S) where
   pub turning-none : at ≤ length s → Turning turn s at u at u
-  turning-none l = let e : at - at ≡ 0 = omega arith in record { inside = l; onward = omega arith; sofar = rw e (sym (after-zero (repeat turn u (drop at s)))) }
+  turning-none l = let e : at - at ≡ 0 = omega arith in record { inside = l; onward = omega arith; sofar = rw e (sym (after-none (repeat turn u (drop at s)))) }
 
 module _ {S A : Type 0} {turn : S → List ℕ → Turn S A} {s : List ℕ} {at : ℕ} {u : S} {i : ℕ} {v : S} where
   pub turning-more : {w : S} {j k : ℕ} → Moves turn → Turning turn s at u i v → turn v (drop i s) ≡ again w [] k → j ≡ i + k → j ≤ length s → Turning turn s at u j w
@@ -60,9 +46,6 @@ module _ {S A : Type 0} {turn : S → List ℕ → Turn S A} {s : List ℕ} {at 
 
 -- ---- blanks
 
-pub blank-moves : Moves blankTurn
-blank-moves = moves (blankTurn-bounds {n = 0})
-
 pub blank-again : (x : List ℕ) → 0 < blankWidth x → blankTurn tt x ≡ again tt [] (blankWidth x)
 unfolding blankTurn blankWidth
 blank-again x l = byCase (startsWith Byte.space x) (λ q. rw (q, blankTurn, blankWidth)) (λ q. let z : 0 < eol x = rw (q, blankWidth) at l in rw (q, blankTurn, blankWidth) (rw (lt-ltb 0 (eol x) z)))
@@ -72,9 +55,6 @@ unfolding blankTurn blankWidth
 blank-done x l = byCase (startsWith Byte.space x) (λ q. let z : 1 ≡ 0 = rw (q, blankWidth) at l in absurd (omega arith)) (λ q. let z : eol x ≡ 0 = rw (q, blankWidth) at l in rw (q, blankTurn, z))
 
 -- ---- blocks of blank lines
-
-pub block-moves : Moves blockTurn
-block-moves = moves (blockTurn-bounds {n = 0})
 
 pub block-again : (n : ℕ) (x : List ℕ) → 0 < eol (drop (spaces x) x) → blockTurn n x ≡ again (suc n) [] (spaces x + eol (drop (spaces x) x))
 unfolding blockTurn
@@ -100,7 +80,7 @@ module _ {s : List ℕ} {at i n m j : ℕ} (t : Turning blockTurn s at 0 i n) (p
   same-eol = let e = p .end in rw (e, drop-drop)
 
   pub turning-block : (j ≡ m → ⊥) → Turning blockTurn s at 0 j (n + 1)
-  turning-block h = rw add-one (turning-more block-moves t (block-again n (drop i s) (omega (arith, h, same-eol, q .end))) (omega (arith, same-eol, p .end, q .end)) (q .within))
+  turning-block h = rw add-one (turning-more blockTurn-moves t (block-again n (drop i s) (omega (arith, h, same-eol, q .end))) (omega (arith, same-eol, p .end, q .end)) (q .within))
 
   pub went-block : j ≡ m → Went s at (skipBlankBlock (drop at s)) n i
   unfolding skipBlankBlock

@@ -1,17 +1,18 @@
 // helper.rs: places of the source, and what stands there.
 ghost use mathlib.Core.Path.{_≡_};
-ghost use Prim.Native.Nat.{ℕ};
+ghost use Prim.Native.Nat.{ℕ, min};
 ghost use mathlib.Core.Bool.{_||_};
 ghost use lib.Dec.{eqb};
 ghost use lib.ListN.{drop};
 ghost use Rattle.syntax.specs.Byte as Byte;
-ghost use Rattle.syntax.specs.Bytes.{startsWith, starts, spaces, eol, run, all, isLetter, isDigit, isNamePart, isCalleePart};
-ghost use Rattle.syntax.specs.Helper.{takeByteIf, skipBlank, skipBlankBlock, expectByte, skipDigits, number, getIdentifier};
+ghost use Rattle.syntax.specs.Bytes.{startsWith, starts, spaces, eol, run, all, firstWidth, isLetter, isDigit, isHex, isNamePart, isCalleePart};
+ghost use Rattle.syntax.specs.Helper.{takeByteIf, skipBlank, skipBlankBlock, expectByte, skipDigits, number, getIdentifier, skipUnicodeEscapeSequence};
 ghost use Rattle.syntax.specs.Pattern.{isContinuation};
 ghost use Rattle.syntax.specs.Core.{toNextEntry, lineStartsAt};
 ghost use Rattle.parser.specs.Place.{Inside, Tests, Passed, Went, Found, isEol, blankWidth};
 use crate::bytes::is_ascii_alphabetic;
 use crate::bytes::is_ascii_digit;
+use crate::bytes::is_ascii_hexdigit;
 use crate::bytes::is_callee_part;
 use crate::bytes::is_entry_start;
 use crate::bytes::is_name_part;
@@ -119,6 +120,56 @@ pub fn skip_eol(source: &[u8], at: usize) -> usize
     } else {
         at
     }
+}
+
+fn is_hexdigit_at(source: &[u8], at: usize) -> bool
+    ensures { λ r. ⌜ Tests (starts isHex) (now (source .entry)) at r ⌝ }
+{
+    at < source.len() && is_ascii_hexdigit(source[at])
+}
+
+// Past hexadecimal digits, `length` of them at most.
+fn skip_hexdigits(source: &[u8], at: usize, length: usize) -> usize
+    requires { ⌜ Inside (now source) at ⌝ }
+    ensures { λ r. ⌜ Passed (now (source .entry)) at (min length (run isHex (drop at (now (source .entry))))) r ⌝ }
+{
+    let mut n = 0;
+    while n < length {
+        if !is_hexdigit_at(source, at + n) {
+            return at + n;
+        }
+        n += 1;
+    }
+    at + n
+}
+
+// How many bytes the character here takes, by its first byte; 0 at the end.
+fn first_width(source: &[u8], at: usize) -> usize
+    ensures { λ r. ⌜ r ≡ firstWidth (drop at (now (source .entry))) ⌝ }
+{
+    if at >= source.len() {
+        return 0;
+    }
+    let b = source[at];
+    if b <= 127 {
+        return 1;
+    }
+    if b <= 223 {
+        return 2;
+    }
+    if b <= 239 { 3 } else { 4 }
+}
+
+pub fn skip_unicode_escape_sequence(source: &[u8], at: usize, length: usize) -> Place
+    requires { ⌜ Inside (now source) at ⌝ }
+    ensures { λ r. ⌜ Found (now (source .entry)) at (skipUnicodeEscapeSequence length (drop at (now (source .entry)))) r ⌝ }
+{
+    let end = skip_hexdigits(source, at, length);
+    if end - at == length {
+        return Place::At(end);
+    }
+    let kind = ErrorKind::InvalidUnicodeEscapeSequence(at, end + first_width(source, end));
+    Place::Bad(error(kind, end), end)
 }
 
 // Whether a line ends here, by a line end or with the source.

@@ -1,69 +1,18 @@
-// The string literal of expression.rs, with skip_unicode_escape_sequence of helper.rs.
+// The string literal of expression.rs.
 ghost use mathlib.Core.Path.{_≡_};
-ghost use Prim.Native.Nat.{_+_, min};
+ghost use Prim.Native.Nat.{_+_};
 ghost use lib.ListN.{drop};
-ghost use Rattle.syntax.specs.Bytes.{starts, run, isHex, firstWidth};
+ghost use Rattle.syntax.specs.Bytes.{starts, run};
 ghost use Rattle.syntax.specs.Reader.{repeat};
-ghost use Rattle.syntax.specs.Helper.{skipUnicodeEscapeSequence};
 ghost use Rattle.syntax.specs.Expression.{escapeTurn, stringTurn, stringLiteral};
 ghost use Rattle.parser.specs.Place.{Inside, Tests, Passed, Found};
 ghost use Rattle.parser.specs.Scan.{isEscaped, isPlain, Turned};
-use crate::bytes::is_ascii_hexdigit;
 use crate::errors::error;
 use crate::helper::Place;
 use crate::helper::expect_byte;
 use crate::helper::is_current_byte;
+use crate::helper::skip_unicode_escape_sequence;
 use syntax::errors::ErrorKind;
-
-fn is_hexdigit_at(source: &[u8], at: usize) -> bool
-    ensures { λ r. ⌜ Tests (starts isHex) (now (source .entry)) at r ⌝ }
-{
-    at < source.len() && is_ascii_hexdigit(source[at])
-}
-
-// Past hexadecimal digits, `length` of them at most.
-fn skip_hexdigits(source: &[u8], at: usize, length: usize) -> usize
-    requires { ⌜ Inside (now source) at ⌝ }
-    ensures { λ r. ⌜ Passed (now (source .entry)) at (min length (run isHex (drop at (now (source .entry))))) r ⌝ }
-{
-    let mut n = 0;
-    while n < length {
-        if !is_hexdigit_at(source, at + n) {
-            return at + n;
-        }
-        n += 1;
-    }
-    at + n
-}
-
-// How many bytes the character here takes, by its first byte; 0 at the end.
-fn first_width(source: &[u8], at: usize) -> usize
-    ensures { λ r. ⌜ r ≡ firstWidth (drop at (now (source .entry))) ⌝ }
-{
-    if at >= source.len() {
-        return 0;
-    }
-    let b = source[at];
-    if b <= 127 {
-        return 1;
-    }
-    if b <= 223 {
-        return 2;
-    }
-    if b <= 239 { 3 } else { 4 }
-}
-
-pub fn skip_unicode_escape_sequence(source: &[u8], at: usize, length: usize) -> Place
-    requires { ⌜ Inside (now source) at ⌝ }
-    ensures { λ r. ⌜ Found (now (source .entry)) at (skipUnicodeEscapeSequence length (drop at (now (source .entry)))) r ⌝ }
-{
-    let end = skip_hexdigits(source, at, length);
-    if end - at == length {
-        return Place::At(end);
-    }
-    let kind = ErrorKind::InvalidUnicodeEscapeSequence(at, end + first_width(source, end));
-    Place::Bad(error(kind, end), end)
-}
 
 // A byte that stands for itself after a backslash.
 fn is_escaped(b: u8) -> bool

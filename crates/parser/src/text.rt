@@ -6,6 +6,7 @@ ghost use Rattle.syntax.specs.Bytes.{starts, run};
 ghost use Rattle.syntax.specs.Pattern.{isTextByte, endsInCr};
 ghost use Rattle.parser.specs.Place.{Inside, Tests, Passed};
 ghost use Rattle.parser.specs.Slice.{Sliced};
+ghost use Rattle.parser.specs.declared.text.TextRead.the-variants.{Text};
 use crate::helper::skip_blank_inline;
 
 // What ended a text.
@@ -64,6 +65,16 @@ fn ends_in_cr(rest: &[u8], end: usize) -> bool
     rest[last] == b'\r'
 }
 
+fn text(size: usize, blank: bool, ending: TextElementTermination) -> TextRead
+    ensures { λ r. ⌜ r ≡ Text (record { size = size; blank = blank; ending = ending }) ⌝ }
+{
+    TextRead::Text(TextSlice {
+        size,
+        blank,
+        ending,
+    })
+}
+
 pub fn get_text_slice(rest: &[u8]) -> TextRead
     requires { ⌜ length (now rest) ≤ 1000000 ⌝ }
     ensures { λ r. ⌜ Sliced (now (rest .entry)) r ⌝ }
@@ -72,36 +83,18 @@ pub fn get_text_slice(rest: &[u8]) -> TextRead
     let end = skip_text(rest, spaces);
     let blank = end <= spaces;
     if end == rest.len() {
-        return TextRead::Text(TextSlice {
-            size: end,
-            blank,
-            ending: TextElementTermination::Eof,
-        });
+        return text(end, blank, TextElementTermination::Eof);
     }
     let b = rest[end];
     if b == b'}' {
         return TextRead::UnbalancedClosingBrace(end);
     }
     if b == b'{' {
-        let ending = TextElementTermination::PlaceableStart;
-        return TextRead::Text(TextSlice {
-            size: end,
-            blank,
-            ending,
-        });
+        return text(end, blank, TextElementTermination::PlaceableStart);
     }
     if ends_in_cr(rest, end) {
         let size = end - 1;
-        let ending = TextElementTermination::Crlf;
-        return TextRead::Text(TextSlice {
-            size,
-            blank: size <= spaces,
-            ending,
-        });
+        return text(size, size <= spaces, TextElementTermination::Crlf);
     }
-    TextRead::Text(TextSlice {
-        size: end + 1,
-        blank,
-        ending: TextElementTermination::LineFeed,
-    })
+    text(end + 1, blank, TextElementTermination::LineFeed)
 }

@@ -11,7 +11,7 @@ use borrow.Author.Tests.{eqb-true, eqb-false, ltb-true}
 use Rattle.syntax.specs.Bytes.{run, eol, spaces}
 use Rattle.syntax.specs.Kind.{isText}
 use Rattle.syntax.specs.Marks.{Mark, plain, moveUp, textNode, node}
-use Rattle.syntax.specs.Reader.{Out, ok, bad, deep, after, Turn, repeat}
+use Rattle.syntax.specs.Reader.{Out, ok, bad, deep, after, Turn, again, done, repeat}
 use Rattle.syntax.specs.Helper.{skipBlankBlock}
 use Rattle.syntax.specs.Pattern.{Inside, Role, initialLineStart, lineStart, continuation, Slice, isTextByte, endsInCr, lineSlice, sliceBy, getTextSlice, Element, placeable, text, State, isLineStart, roleAfter, withPlaceable, commonAfter, isElement, withText, goesOn, lineTurn, textTurn, patternTurn, trimmed, dedented, textMarks, elementMarks, finish, stateAt, usedBy, firstState, getPattern}
 use Rattle.laws.specs.Bytes.{byCase, clash, pick, run-le, spaces-le, eol-le}
@@ -193,6 +193,10 @@ slice-sized s = sliceBy-sized (take (run isTextByte s) s) (drop (run isTextByte 
 abbrev Grows : State → List ℕ → State → List Mark → ℕ → Type 0
 Grows st s st′ ms k = Grown st → Grown st′ × (st′ .used ≤ st .used + k)
 
+abbrev pub TurnGrows : State → Turn State State → Type 0
+TurnGrows st (again st′ ms k) = Grown st → Grown st′ × (st′ .used ≡ st .used + k)
+TurnGrows st (done o) = Holds (λ st′ ms k. Grown st → Grown st′ × (st′ .used ≤ st .used + k)) o
+
 module _ (st : State) (indent k : ℕ) (t : Slice) (h : t .size ≤ k) where
   elements-with : Bool → List Element
   elements-with v = elim v [ true ↦ st .elements ++ (text (st .used) (st .used + indent + t .size) indent (isLineStart (st .role)) ∷ []) | false ↦ st .elements ]
@@ -220,56 +224,52 @@ module _ (st : State) (indent k : ℕ) (t : Slice) (h : t .size ≤ k) where
   text-kept false true p g = clash (p refl) refl
   text-kept false false p g = g .kept
 
-module _ (sub : Inside) where
-  abbrev Turned : State → List ℕ → Turn State State → Type 0
-  Turned st s w = TurnHolds (patternTurn sub) Grows st s w
+withText-grows : (st : State) (indent : ℕ) (o : Out Slice) → Sized o → TurnGrows st (withText st indent o)
+unfolding withText after elements-with kept-with
+withText-grows st indent (ok t ms k) h = λ g. (new g, refl)
+  where
+    sized : isElement st t ≡ true → 0 < t .size
+    sized q = unfold isElement in (byCase (ltb 0 (t .size)) (λ z. ltb-true 0 (t .size) z) (λ z. clash q (rw z refl)))
 
-  withText-grows : (st : State) (s : List ℕ) (indent : ℕ) (o : Out Slice) → Sized o → Turned st s (withText st indent o)
-  unfolding withText after elements-with kept-with
-  withText-grows st s indent (ok t ms k) h = λ st′ ns j f g. let (a, b) = f (new g) in (a, omega (arith, b))
-    where
-      sized : isElement st t ≡ true → 0 < t .size
-      sized q = unfold isElement in (byCase (ltb 0 (t .size)) (λ z. ltb-true 0 (t .size) z) (λ z. clash q (rw z refl)))
+    both : (isElement st t && not (t .blank)) ≡ true → isElement st t ≡ true
+    both q = byCase (isElement st t) (λ z. z) (λ z. clash q (rw z refl))
 
-      both : (isElement st t && not (t .blank)) ≡ true → isElement st t ≡ true
-      both q = byCase (isElement st t) (λ z. z) (λ z. clash q (rw z refl))
+    -- the state past the text
+    past : State
+    past = record { role = roleAfter (t .ending); elements = elements-with st indent k t h (isElement st t); kept = kept-with st indent k t h (isElement st t && not (t .blank)); common = commonAfter st indent t; used = st .used + (indent + k) }
 
-      -- the state past the text
-      past : State
-      past = record { role = roleAfter (t .ending); elements = elements-with st indent k t h (isElement st t); kept = kept-with st indent k t h (isElement st t && not (t .blank)); common = commonAfter st indent t; used = st .used + (indent + k) }
+    new : Grown st → Grown past
+    new g = record {
+      els = text-els st indent k t h (isElement st t) g;
+      room = text-room st indent k t h (isElement st t) sized g;
+      kept = text-kept st indent k t h (isElement st t) (isElement st t && not (t .blank)) both g;
+    }
+withText-grows st indent (bad f k) h = tt
+withText-grows st indent (deep k) h = tt
 
-      new : Grown st → Grown past
-      new g = record {
-        els = text-els st indent k t h (isElement st t) g;
-        room = text-room st indent k t h (isElement st t) sized g;
-        kept = text-kept st indent k t h (isElement st t) (isElement st t && not (t .blank)) both g;
-      }
-  withText-grows st s indent (bad f k) h = tt
-  withText-grows st s indent (deep k) h = tt
+withPlaceable-grows : {n : ℕ} {s : List ℕ} (st : State) (o : Out (Unit {0})) → Bounded n (λ _. 20) s o → TurnGrows st (withPlaceable st o)
+unfolding withPlaceable
+withPlaceable-grows st (ok u ms k) (used v) = λ g. (new g, refl)
+  where
+    e : Element
+    e = placeable (moveUp (st .used) ms)
 
-  withPlaceable-grows : {n : ℕ} {s : List ℕ} (st : State) (o : Out (Unit {0})) → Bounded n (λ _. 20) s o → Turned st s (withPlaceable st o)
-  unfolding withPlaceable
-  withPlaceable-grows st (ok u ms k) (used v) = λ st′ ns j f g. let (a, b) = f (new g) in (a, omega (arith, b))
-    where
-      e : Element
-      e = placeable (moveUp (st .used) ms)
+    past : State
+    past = record { role = continuation; elements = st .elements ++ (e ∷ []); kept = suc (length (st .elements)); common = elim (isLineStart (st .role)) [ true ↦ some 0 | false ↦ st .common ]; used = st .used + k }
 
-      past : State
-      past = record { role = continuation; elements = st .elements ++ (e ∷ []); kept = suc (length (st .elements)); common = elim (isLineStart (st .role)) [ true ↦ some 0 | false ↦ st .common ]; used = st .used + k }
+    new : Grown st → Grown past
+    new g = record {
+      els = els-snoc (st .used + k) (st .elements) e (els-more (st .used) (st .used + k) (omega arith) (st .elements) (g .els)) (forest-up (st .used) (v .forest), tt);
+      room = omega (arith, g .room, v .room, marks-snoc (st .elements) e, length-append (st .elements) (e ∷ []), moveUp-length (st .used) ms);
+      kept = omega (arith, length-append (st .elements) (e ∷ []));
+    }
+withPlaceable-grows st (bad f k) (stopped j h) = tt
+withPlaceable-grows st (deep k) (tooDeep j h g) = tt
 
-      new : Grown st → Grown past
-      new g = record {
-        els = els-snoc (st .used + k) (st .elements) e (els-more (st .used) (st .used + k) (omega arith) (st .elements) (g .els)) (forest-up (st .used) (v .forest), tt);
-        room = omega (arith, g .room, v .room, marks-snoc (st .elements) e, length-append (st .elements) (e ∷ []), moveUp-length (st .used) ms);
-        kept = omega (arith, length-append (st .elements) (e ∷ []));
-      }
-  withPlaceable-grows st (bad f k) (stopped j h) = tt
-  withPlaceable-grows st (deep k) (tooDeep j h g) = tt
-
-  line-grows : (st : State) (s : List ℕ) (k : ℕ) (r : List ℕ) → Turned st s (lineTurn st k r)
-  unfolding lineTurn
-  line-grows st s k [] = λ g. (g, omega arith)
-  line-grows st s k (b ∷ bs) = pick (Turned st s) (goesOn k b) _ _ (λ q. withText-grows st s k (getTextSlice (b ∷ bs)) (slice-sized (b ∷ bs))) (λ q g. (g, omega arith))
+line-grows : (st : State) (k : ℕ) (r : List ℕ) → TurnGrows st (lineTurn st k r)
+unfolding lineTurn
+line-grows st k [] = λ g. (g, omega arith)
+line-grows st k (b ∷ bs) = pick (TurnGrows st) (goesOn k b) _ _ (λ q. withText-grows st k (getTextSlice (b ∷ bs)) (slice-sized (b ∷ bs))) (λ q g. (g, omega arith))
 
 pub used-le : {A : Type 0} {n : ℕ} {c : A → ℕ} {s : List ℕ} {o : Out A} → Bounded n c s o → usedBy o ≤ length s
 unfolding usedBy
@@ -313,19 +313,27 @@ first-grown s = pick (λ st. Grown st × (st .used ≤ length s)) (ltb 0 e) _ _ 
     none i r = record { els = tt; room = omega arith; kept = omega arith }
 
 module _ {n : ℕ} {sub : Inside} (law : InsideBounds n sub) where
-  turn-grows : (st : State) (s : List ℕ) → Turned sub st s (patternTurn sub st s)
+  pub turn-grows : (st : State) (s : List ℕ) → TurnGrows st (patternTurn sub st s)
   unfolding patternTurn textTurn
   turn-grows st [] = λ g. (g, omega arith)
-  turn-grows st (b ∷ bs) = pick (Turned sub st (b ∷ bs)) (eqb b 123) _ _ (λ q. withPlaceable-grows sub st (sub .braced (b ∷ bs)) (law .braced b bs))
-      (λ q. pick (Turned sub st (b ∷ bs)) (isLineStart (st .role)) _ _ (λ l. line-grows sub st (b ∷ bs) (spaces (b ∷ bs)) (drop (spaces (b ∷ bs)) (b ∷ bs)))
-      (λ l. withText-grows sub st (b ∷ bs) 0 (getTextSlice (b ∷ bs)) (slice-sized (b ∷ bs))))
+  turn-grows st (b ∷ bs) = pick (TurnGrows st) (eqb b 123) _ _ (λ q. withPlaceable-grows st (sub .braced (b ∷ bs)) (law .braced b bs))
+      (λ q. pick (TurnGrows st) (isLineStart (st .role)) _ _ (λ l. line-grows st (spaces (b ∷ bs)) (drop (spaces (b ∷ bs)) (b ∷ bs)))
+      (λ l. withText-grows st 0 (getTextSlice (b ∷ bs)) (slice-sized (b ∷ bs))))
+
+  -- part way: what a turn adds has room
+  pub again-grown : (st : State) (s : List ℕ) {st′ : State} {ms : List Mark} {k : ℕ} → patternTurn sub st s ≡ again st′ ms k → Grown st → Grown st′ × (st′ .used ≡ st .used + k)
+  again-grown st s e = subst (TurnGrows st) e (turn-grows st s)
 
   -- at the end of a pattern's loop, as its source counts
   pub pattern-grown : (s : List ℕ)
       → let st = firstState s in Holds (λ st′ ms k. Grown st′ × (st′ .used ≤ k)) (after [] (st .used) (repeat (patternTurn sub) st (drop (st .used) s)))
   unfolding repeat after
-  pattern-grown s = let st = firstState s in let r = drop (st .used) s in go st r (repeat (patternTurn sub) st r) (first-grown s .0) (loop-holds (patternTurn sub) Grows turn-grows (suc (length r)) st r)
+  pattern-grown s = let st = firstState s in let r = drop (st .used) s in go st r (repeat (patternTurn sub) st r) (first-grown s .0) (loop-holds (patternTurn sub) Grows (λ st s. onward st s (patternTurn sub st s) (turn-grows st s)) (suc (length r)) st r)
     where
+      onward : (st : State) (s : List ℕ) (w : Turn State State) → TurnGrows st w → TurnHolds (patternTurn sub) Grows st s w
+      onward st s (again st′ ms k) h = λ a ns j f g. let (g′, e) = h g in let (x, l) = f g′ in (x, omega arith)
+      onward st s (done o) h = h
+
       go : (st : State) (r : List ℕ) (o : Out State) → Grown st → Holds (Grows st r) o → Holds (λ st′ ms k. Grown st′ × (st′ .used ≤ k)) (after [] (st .used) o)
       go st r (ok st′ ms k) g h = h g
       go st r (bad f k) g h = tt

@@ -3,7 +3,8 @@ use Prim.Native.Nat.{_-_}
 use borrow.Author.Needs.{needs}
 use lib.ListN.{length}
 use Rattle.syntax.specs.Helper.{blankTurn, skipBlank}
-use Rattle.parser.proofs.Turns.{Turning, turning-none, turning-more, went-turns, blank-moves, blank-again, blank-done}
+use Rattle.laws.specs.Loop.Turns.{blankTurn-moves}
+use Rattle.parser.proofs.Turns.{Turning, turning-none, turning-more, went-turns, blank-again, blank-done}
 use native.Mathlib.Omega.{arith}
 use Rattle.parser.proofs.helper.skip_blank.Statement.{statement}
 use Rattle.parser.proofs.helper.skip_blank.Tie as tie
@@ -28,7 +29,7 @@ loop-less : tie.Need-loop-less Inv-loop μ-loop
 loop-less c = omega arith
 
 loop-again : tie.Need-loop-again Inv-loop μ-loop
-loop-again c = turning-more blank-moves (c .before .before .loop .inv) (blank-again _ (omega arith)) (c .before .skip-one-blank .ensures .end) (c .before .skip-one-blank .ensures .within)
+loop-again c = turning-more blankTurn-moves (c .before .before .loop .inv) (blank-again _ (omega arith)) (c .before .skip-one-blank .ensures .end) (c .before .skip-one-blank .ensures .within)
 
 pub skip-blank-spec : {M : Type 1} → statement M
 skip-blank-spec =

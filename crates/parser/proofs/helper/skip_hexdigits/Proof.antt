@@ -1,4 +1,4 @@
--- `string::skip_hexdigits` meets its contract: a run of digits that ends after `length` of them.
+-- `helper::skip_hexdigits` meets its contract: a run of digits that ends after `length` of them.
 use Prim.Native.Nat.{_+_, _-_, _≤_}
 use native.Mathlib.Nat.{add-zero, add-assoc}
 use native.Mathlib.Omega.{arith}
@@ -6,8 +6,8 @@ use borrow.Author.Tests.{not-true, not-false}
 use borrow.Author.Needs.{needs}
 use Rattle.syntax.specs.Bytes.{isHex}
 use Rattle.parser.proofs.Run.{Going, going-none, going-more, going-end}
-use Rattle.parser.proofs.string.skip_hexdigits.Statement.{statement}
-use Rattle.parser.proofs.string.skip_hexdigits.Tie as tie
+use Rattle.parser.proofs.helper.skip_hexdigits.Statement.{statement}
+use Rattle.parser.proofs.helper.skip_hexdigits.Tie as tie
 
 abbrev Inv-loop : tie.InvT-loop
 Inv-loop source at length n₀ n = Going isHex source at (at + n) × (n ≤ length)

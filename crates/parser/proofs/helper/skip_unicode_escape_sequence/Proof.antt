@@ -1,10 +1,10 @@
--- `string::skip_unicode_escape_sequence` meets its contract.
+-- `helper::skip_unicode_escape_sequence` meets its contract.
 use borrow.Author.Needs.{needs}
 use Rattle.parser.proofs.Strings.{found-full, found-short, width-le}
 use lib.ListN.{drop}
 use native.Mathlib.Omega.{arith}
-use Rattle.parser.proofs.string.skip_unicode_escape_sequence.Statement.{statement}
-use Rattle.parser.proofs.string.skip_unicode_escape_sequence.Tie as tie
+use Rattle.parser.proofs.helper.skip_unicode_escape_sequence.Statement.{statement}
+use Rattle.parser.proofs.helper.skip_unicode_escape_sequence.Tie as tie
 
 skip-hexdigits-requires : tie.Need-skip-hexdigits-requires
 skip-hexdigits-requires c κs = search needs

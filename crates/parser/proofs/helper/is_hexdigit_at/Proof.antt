@@ -1,9 +1,9 @@
--- `string::is_hexdigit_at` meets its contract.
+-- `helper::is_hexdigit_at` meets its contract.
 use borrow.Author.Needs.{needs}
 use Rattle.syntax.specs.Bytes.{isHex}
 use Rattle.parser.proofs.Tests.{test-byte, test-end}
-use Rattle.parser.proofs.string.is_hexdigit_at.Statement.{statement}
-use Rattle.parser.proofs.string.is_hexdigit_at.Tie as tie
+use Rattle.parser.proofs.helper.is_hexdigit_at.Statement.{statement}
+use Rattle.parser.proofs.helper.is_hexdigit_at.Tie as tie
 
 shared-slice-read-is-ascii-hexdigit : tie.Need-shared-slice-read-is-ascii-hexdigit
 shared-slice-read-is-ascii-hexdigit c = search needs

@@ -1,8 +1,8 @@
--- `string::first_width` meets its contract.
+-- `helper::first_width` meets its contract.
 use borrow.Author.Needs.{needs}
 use Rattle.parser.proofs.Strings.{width-one, width-two, width-three, width-four, width-end}
-use Rattle.parser.proofs.string.first_width.Statement.{statement}
-use Rattle.parser.proofs.string.first_width.Tie as tie
+use Rattle.parser.proofs.helper.first_width.Statement.{statement}
+use Rattle.parser.proofs.helper.first_width.Tie as tie
 
 returns : tie.Need-returns
 returns c = width-end _ _ (c .if1 .taken)
