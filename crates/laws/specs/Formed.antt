@@ -11,30 +11,25 @@ pub mod Argument
 pub mod Expression
 pub mod Entry
 pub mod Entries
-use Prim.Native.Nat.{ℕ, suc, _+_, _-_, _≤_, _<_}
+use Prim.Native.Nat.{ℕ, suc}
 use native.Mathlib.Nat.{zero-add}
 use native.Mathlib.Omega.{arith}
-use mathlib.Core.Path.{_≡_, refl, _∙_, subst}
-use mathlib.Core.Bool.{Bool, true, false, _||_, or-false}
-use mathlib.Core.List.{List, [], _∷_}
+use mathlib.Core.Path.{_≡_, refl, subst}
+use mathlib.Core.Bool.{false}
+use mathlib.Core.List.{List, []}
 use mathlib.Core.Option.{none}
 use lib.ListN.{drop, length, length-drop}
-use lib.Dec.{eqb, ltb}
-use borrow.Author.Tests.{ltb-true, ltb-false, ne-eqb}
 use Rattle.utf8.specs.Utf8 as Utf8
 use Rattle.utf8.specs.Utf8.{isBoundary}
-use Rattle.syntax.specs.Kind.{isText}
-use Rattle.syntax.specs.Marks.{Mark, plain, placed, moveUp}
-use Rattle.syntax.specs.Layout.{hasPlace}
+use Rattle.syntax.specs.Marks.{Mark, moveUp}
 use Rattle.syntax.specs.Expression.{level}
 use Rattle.syntax.specs.Core.{Error, Reading, read, refused, following, entries, parse}
 use Rattle.syntax.specs.Shape.{finalBy, models, among, final, Run, WellFormed, verdict}
-use Rattle.laws.specs.Bytes.{byCase, clash}
+use Rattle.laws.specs.Bytes.{clash}
 use Rattle.laws.specs.Moving.{moveUp-zero}
-use Rattle.laws.specs.Balanced.{nodeKind, Places}
-use Rattle.laws.specs.Layout.{AllProper}
+use Rattle.laws.specs.Layout.{AllProper, forest-proper}
 use Rattle.laws.specs.Bounds.Expression.{level-bounds}
-use Rattle.laws.specs.File.{entries-read, leading, parse-places}
+use Rattle.laws.specs.File.{entries-read, leading, parse-read}
 use Rattle.laws.specs.Shape.Run.{run-moved, formed-moved}
 use Rattle.laws.specs.Shape.Verdict.{accepts}
 use Edge.{edge, edge-add, edge-boundary}
@@ -61,25 +56,9 @@ module _ (n : ℕ) (s : List ℕ) (ms : List Mark) (es : List Error) where
   pub formed-utf8 : Utf8.WellFormed s → parse n s ≡ read ms es → WellFormed (isBoundary s) n ms
   formed-utf8 w e = subst (WellFormed (isBoundary s) n) (moveUp-zero ms) (formed-moved (edge s) (isBoundary s) 0 (λ a g. rw zero-add (edge-boundary s w a g)) (formed e))
 
+  pub proper : parse n s ≡ read ms es → AllProper ms
+  proper e = forest-proper (parse-read n s e .0 .forest)
+
   -- the writer's check finds nothing wrong
   pub verdict-none : Utf8.WellFormed s → parse n s ≡ read ms es → verdict (isBoundary s) n ms ≡ none
   verdict-none w e = accepts (isBoundary s) n ms .1 (formed-utf8 w e)
-
--- ---- places
-
-place-kind : (i : ℕ) → hasPlace i ≡ isText (nodeKind i)
-unfolding hasPlace isText
-place-kind i = byCase (ltb i 100)
-    (λ q. let z : i - 100 ≡ 0 = omega (arith, ltb-true i 100 q) in rw (q, nodeKind, z) (or-false (isText i)))
-    (λ q. let l = ltb-false i 100 q in rw (q, nodeKind, no 7 (omega arith) l, no 8 (omega arith) l, no 9 (omega arith) l, no 12 (omega arith) l, no 17 (omega arith) l, no 18 (omega arith) l, no 19 (omega arith) l, no 20 (omega arith) l) refl)
-  where
-    no : (j : ℕ) → j < 100 → 100 ≤ i → eqb i j ≡ false
-    no j g l = ne-eqb i j (λ e. omega arith)
-
-places-proper : (k : ℕ) (ms : List Mark) → Places k ms → AllProper ms
-places-proper k [] u = tt
-places-proper k (plain i ∷ ms) u = (place-kind i ∙ u .0, places-proper k ms (u .1))
-places-proper k (placed i p ∷ ms) u = (place-kind i ∙ u .0 .0, places-proper k ms (u .1))
-
-pub proper : (n : ℕ) (s : List ℕ) (ms : List Mark) (es : List Error) → parse n s ≡ read ms es → AllProper ms
-proper n s ms es e = places-proper (length s) ms (parse-places n s e)

@@ -11,10 +11,10 @@ use lib.Dec.{eqb}
 use Rattle.syntax.specs.Kind as Kind
 use Rattle.syntax.specs.Bytes.{startsWith, starts, run, isLetter, isDigit, isNamePart}
 use Rattle.syntax.specs.Marks.{Mark, textNode}
-use Rattle.syntax.specs.Reader.{Out, ok, bad, deep, after, next, _>>=_, _>>_, fail, wrap, inNode}
+use Rattle.syntax.specs.Reader.{Out, ok, bad, deep, after, next, _>>=_, _>>_, fail, wrap}
 use Rattle.syntax.specs.Helper.{skipBlank, getIdentifier}
 use Rattle.syntax.specs.Pattern.{Inside}
-use Rattle.syntax.specs.Expression.{Inline, string, number, variable, function, inner, message, term, inlineKind, asInline, stringLiteral, asString, numberLiteral, getCallArguments, termReference, variableReference, referenceBy, reference, nestedPlaceable, noInline, nonLiteral, getInlineExpression, isAmong, isNone, separator, positional, namedValue, namedArgument, afterReference, pastBlank, argumentBy, argumentTurn, parenthesised}
+use Rattle.syntax.specs.Expression.{Inline, string, number, variable, function, inner, message, term, inlineKind, asInline, stringLiteral, asString, getCallArguments, termReference, variableReference, referenceBy, reference, nestedPlaceable, noInline, nonLiteral, getInlineExpression, isAmong, isNone, separator, positional, namedValue, namedArgument, afterReference, pastBlank, argumentBy, argumentTurn, parenthesised}
 use Rattle.syntax.specs.Shape.{stepIn, stepBy, finalBy, models, among, step, final, opens, stay}
 use Rattle.laws.specs.Bytes.{pick}
 use Rattle.laws.specs.Answers.{Holds, holds-after, plain-next}

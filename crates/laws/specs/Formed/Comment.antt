@@ -1,5 +1,5 @@
 -- comment.rs: the marks of a comment's lines.
-use Prim.Native.Nat.{ℕ, suc, _+_, _-_, _≤_, _<_}
+use Prim.Native.Nat.{ℕ, _+_, _-_, _≤_}
 use native.Mathlib.Omega.{arith}
 use mathlib.Core.Path.{_≡_, refl}
 use mathlib.Core.Bool.{true, false, _&&_, _||_, not}
@@ -9,14 +9,14 @@ use lib.ListN.{drop}
 use lib.Dec.{eqb, ltb}
 use borrow.Author.Tests.{ltb-true}
 use Rattle.syntax.specs.Kind as Kind
-use Rattle.syntax.specs.Bytes.{startsWith, run, eol}
-use Rattle.syntax.specs.Reader.{ok, fail, after}
+use Rattle.syntax.specs.Bytes.{startsWith, eol}
+use Rattle.syntax.specs.Reader.{fail, after}
 use Rattle.syntax.specs.Comment.{lineLength, levelOf, lineEndUsed, lineRead, lineTurn, commentTurn, getComment}
 use Rattle.syntax.specs.Shape.{step}
 use Rattle.laws.specs.Bytes.{byCase, pick}
 use Rattle.laws.specs.Shape.Run.{run-text}
 use Rattle.laws.specs.Bounds.Comment.{lineLength-le}
-use Rattle.laws.specs.Formed.Edge.{ascii, clear, edge, edge-add, edge-past, edge-clear, edge-first, edge-run, ascii-of, edge-eol}
+use Rattle.laws.specs.Formed.Edge.{clear, edge, edge-add, edge-past, edge-clear, edge-first, edge-run, ascii-of, edge-eol}
 use Rattle.laws.specs.Formed.Reader.{at, by, stopped, Makes, skips, TurnMade, goes, ends, repeat-makes}
 
 -- a line's text ends at a line end or at the end

@@ -1,11 +1,11 @@
 -- Edges: the places of a rest where an ASCII byte or nothing stands, or that an ASCII byte stands right before. The rest's own start counts as
 -- one: a reader starts at an edge of its source. In UTF-8 they are character boundaries.
-use Prim.Native.Nat.{ℕ, zero, suc, _+_, _-_, _≤_, _<_, suc-le-suc}
+use Prim.Native.Nat.{ℕ, zero, suc, _+_, _≤_, _<_, suc-le-suc}
 use native.Mathlib.Nat.{le-of-suc-le-suc, zero-add}
 use native.Mathlib.Numerals.{add-one}
 use native.Mathlib.Omega.{arith}
-use mathlib.Core.Path.{_≡_, refl, sym, ap, subst}
-use mathlib.Core.Bool.{Bool, true, false, _&&_, _||_}
+use mathlib.Core.Path.{_≡_, refl, sym, subst}
+use mathlib.Core.Bool.{Bool, true, false, _||_}
 use mathlib.Core.List.{List, [], _∷_}
 use lib.ListN.{drop, length, getD}
 use lib.Dec.{eqb, ltb}
@@ -13,8 +13,8 @@ use borrow.Author.Tests.{eqb-true, eq-eqb, ltb-true, le-ltb}
 use Rattle.utf8.specs.Utf8 as Utf8
 use Rattle.utf8.specs.Utf8.{isBoundary}
 use Rattle.utf8.specs.Law.{ascii-boundary}
-use Rattle.syntax.specs.Bytes.{startsWith, starts, run, eol, spaces}
-use Rattle.laws.specs.Bytes.{byCase, clash, pick}
+use Rattle.syntax.specs.Bytes.{startsWith, run, eol, spaces}
+use Rattle.laws.specs.Bytes.{byCase, clash}
 
 abbrev pub ascii : ℕ → Bool
 ascii b = ltb b 128

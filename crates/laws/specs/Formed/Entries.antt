@@ -10,18 +10,18 @@ use lib.ListN.{drop, length, length-drop}
 use lib.Dec.{eqb, ltb}
 use Rattle.syntax.specs.Kind as Kind
 use Rattle.syntax.specs.Marks.{Mark, node}
-use Rattle.syntax.specs.Reader.{Out, ok, bad, deep}
+use Rattle.syntax.specs.Reader.{ok}
 use Rattle.syntax.specs.Helper.{skipBlankBlock}
 use Rattle.syntax.specs.Pattern.{Inside, usedBy}
 use Rattle.syntax.specs.Core.{Entry, comment, message, term, getEntry, junkEnd, Error, isNamed, count, kindOfEntry}
-use Rattle.syntax.specs.Shape.{top, start, stepIn, stepBy, finalBy, models, among, step, final, opens, Run, stay, Content}
+use Rattle.syntax.specs.Shape.{top, start, stepIn, stepBy, finalBy, models, among, step, final, opens, Run, stay}
 use Rattle.laws.specs.Bytes.{byCase, clash}
 use Rattle.laws.specs.Answers.{Holds}
 use Rattle.laws.specs.Entries.{nil-named}
 use Rattle.laws.specs.Bounds.{bad-within}
 use Rattle.laws.specs.Bounds.Pattern.{InsideBounds}
 use Rattle.laws.specs.Bounds.Entry.{entry-bounds}
-use Rattle.laws.specs.File.{Small, small-of, near, First, entry, junk, Passed, none, more}
+use Rattle.laws.specs.File.{small-of, near, First, entry, junk, Passed, none, more}
 use Rattle.laws.specs.Shape.Run.{run-append, run-moved, run-text, run-node}
 use Rattle.laws.specs.Formed.Edge.{edge, edge-add}
 use Rattle.laws.specs.Formed.Helper.{block-edge}

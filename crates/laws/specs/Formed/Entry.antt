@@ -21,7 +21,7 @@ use Rattle.laws.specs.Bytes.{byCase, pick}
 use Rattle.laws.specs.Answers.{Holds}
 use Rattle.laws.specs.Bounds.Entry.{junkEnd-within}
 use Rattle.laws.specs.Formed.Edge.{ascii, clear, edge, edge-add, edge-clear, ascii-of, edge-byte, edge-spaces}
-use Rattle.laws.specs.Formed.Reader.{Stand, at, ended, anywhere, Leads, by, closes, leads-nil, leads-after, leads-content, Made, made, stopped, tooDeep, Makes, node-makes, pure-makes, forget, bind, then, TurnMade, goes, ends, repeat-makes}
+use Rattle.laws.specs.Formed.Reader.{Stand, at, ended, anywhere, by, closes, leads-nil, leads-after, leads-content, Made, made, stopped, tooDeep, Makes, node-makes, pure-makes, forget, bind, then, TurnMade, goes, ends, repeat-makes}
 use Rattle.laws.specs.Formed.Helper.{or-ascii, letter-ascii, inline-makes, block-makes, expectByte-makes, identifier-makes}
 use Rattle.laws.specs.Formed.Comment.{comment-makes}
 use Rattle.laws.specs.Formed.Pattern.{InsideFormed, pattern-makes}

@@ -4,20 +4,20 @@ use native.Mathlib.Nat.{zero-add}
 use native.Mathlib.Omega.{arith}
 use mathlib.Core.Path.{_≡_, refl}
 use mathlib.Core.Bool.{Bool, true, false, _&&_, _||_}
-use mathlib.Core.List.{List, [], _∷_}
+use mathlib.Core.List.{List}
 use mathlib.Core.Option.{some}
 use lib.ListN.{drop}
 use lib.Dec.{eqb}
 use Rattle.syntax.specs.Kind as Kind
 use Rattle.syntax.specs.Bytes.{startsWith, starts, second, isDigit}
-use Rattle.syntax.specs.Reader.{Out, ok, bad, deep, _>>=_, _>>_, pure, wrap, inNode, Turn}
+use Rattle.syntax.specs.Reader.{Out, ok, bad, deep, _>>=_, pure, wrap, inNode, Turn}
 use Rattle.syntax.specs.Pattern.{Inside, getPattern}
 use Rattle.syntax.specs.Expression.{Inline, string, number, variable, function, inner, message, term, inlineKind, keyText, getVariantKey, needsValue, variant, variantKind, endVariants, variantWith, afterStar, turnAfter, variantTurn, getVariants, selector, alone, needsLineEnd, selectFrom, afterInline, inSelect, inlineOrSelect, getExpression, braced, level}
 use Rattle.syntax.specs.Expression as Expression
 use Rattle.syntax.specs.Shape.{stepIn, stepBy, finalBy, models, among, step, final, opens, stay}
 use Rattle.laws.specs.Bytes.{pick}
 use Rattle.laws.specs.Formed.Edge.{edge, edge-add, edge-byte}
-use Rattle.laws.specs.Formed.Reader.{Stand, at, ended, anywhere, by, closes, unsaid, leads-nil, leads-after, leads-end, leads-node, Made, made, stopped, tooDeep, after-made, Makes, node-makes, pure-makes, fail-makes, forget, bind, then, TurnMade, goes, ends, turnOf-made, repeat-makes}
+use Rattle.laws.specs.Formed.Reader.{Stand, at, ended, anywhere, by, closes, leads-nil, leads-after, leads-end, leads-node, Made, made, stopped, tooDeep, after-made, Makes, node-makes, pure-makes, fail-makes, forget, bind, then, TurnMade, goes, ends, turnOf-made, repeat-makes}
 use Rattle.laws.specs.Formed.Helper.{inline-makes as spaces-makes, eol-makes, blank-makes, expectByte-makes, numberLiteral-makes, identifier-makes}
 use Rattle.laws.specs.Formed.Pattern.{InsideFormed, pattern-makes}
 use Rattle.laws.specs.Formed.Inline.{inline-makes}

@@ -1,9 +1,9 @@
 -- helper.rs, and the identifier: what their marks do.
-use Prim.Native.Nat.{ℕ, _+_, _≤_}
+use Prim.Native.Nat.{ℕ, _≤_}
 use native.Mathlib.Omega.{arith}
 use mathlib.Core.Path.{_≡_, refl}
-use mathlib.Core.Bool.{Bool, true, false, _&&_, _||_, and-eq-true-iff}
-use mathlib.Core.List.{List, [], _∷_}
+use mathlib.Core.Bool.{Bool, true, false, _||_, and-eq-true-iff}
+use mathlib.Core.List.{List}
 use mathlib.Core.Option.{some}
 use lib.ListN.{drop}
 use lib.Dec.{eqb, ltb, leb}
@@ -11,7 +11,7 @@ use borrow.Author.Tests.{leb-true, lt-ltb}
 use Rattle.syntax.specs.declared.errors.ErrorKind.the-variants.{ExpectedToken, ExpectedCharRange}
 use Rattle.syntax.specs.Kind as Kind
 use Rattle.syntax.specs.Bytes.{startsWith, starts, within, isLetter, isDigit, isNamePart, spaces, eol, run}
-use Rattle.syntax.specs.Reader.{Out, ok, bad, deep, pure, again, done, repeat}
+use Rattle.syntax.specs.Reader.{Out, ok, bad, deep}
 use Rattle.syntax.specs.Helper.{skipBlankInline, skipEol, blankTurn, skipBlank, blockTurn, skipBlankBlock, takeByteIf, expectByte, skipDigits, fraction, number, asText, getNumberLiteral, getIdentifier}
 use Rattle.syntax.specs.Pattern.{usedBy}
 use Rattle.syntax.specs.Shape.{step}

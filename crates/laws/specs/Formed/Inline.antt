@@ -5,23 +5,22 @@ use mathlib.Core.Path.{_≡_, refl, sym, ap, _∙_, subst}
 use mathlib.Core.Bool.{Bool, true, false, _||_}
 use mathlib.Core.List.{List, [], _∷_, _++_, append-nil}
 use mathlib.Core.Option.{some}
-use lib.ListN.{drop, take}
+use lib.ListN.{take}
 use lib.Dec.{eqb}
 use borrow.Author.Tests.{eqb-true}
 use Rattle.syntax.specs.Kind as Kind
 use Rattle.syntax.specs.Bytes.{startsWith, starts, all, isLetter, isDigit, isCalleePart}
-use Rattle.syntax.specs.Marks.{Mark, moveUp, node}
-use Rattle.syntax.specs.Reader.{Out, ok, bad, deep, Reader, after, next, _>>=_, _>>_, pure, fail, wrap, inNode}
-use Rattle.syntax.specs.Helper.{getIdentifier}
+use Rattle.syntax.specs.Marks.{moveUp, node}
+use Rattle.syntax.specs.Reader.{Out, ok, bad, deep, after, next, _>>_, pure, wrap, inNode}
 use Rattle.syntax.specs.Pattern.{Inside}
-use Rattle.syntax.specs.Expression.{Inline, string, number, variable, function, inner, message, term, inlineKind, asInline, stringLiteral, asString, numberLiteral, callArguments, getCallArguments, getAttributeAccessor, termReference, variableReference, messageReference, functionReference, referenceBy, reference, nestedPlaceable, noInline, nonLiteral, getInlineExpression}
-use Rattle.syntax.specs.Shape.{start, stepIn, stepBy, finalBy, models, among, step, final, opens, stay}
+use Rattle.syntax.specs.Expression.{Inline, string, number, variable, function, inner, message, term, inlineKind, asInline, numberLiteral, callArguments, getCallArguments, getAttributeAccessor, termReference, variableReference, messageReference, functionReference, referenceBy, reference, nestedPlaceable, noInline, nonLiteral, getInlineExpression}
+use Rattle.syntax.specs.Shape.{stepIn, stepBy, finalBy, models, among, step, final, opens, stay}
 use Rattle.laws.specs.Bytes.{byCase, pick}
 use Rattle.laws.specs.Answers.{Holds}
 use Rattle.laws.specs.Values.{variable-value, term-value, reference-value}
 use Rattle.laws.specs.Shape.Run.{otherwise}
 use Rattle.laws.specs.Formed.Edge.{edge}
-use Rattle.laws.specs.Formed.Reader.{Stand, at, ended, anywhere, Leads, by, closes, unsaid, leads-nil, leads-node, Made, made, stopped, tooDeep, Makes, skips, pure-makes, fail-makes, forget, next-made, bind, then, then-by}
+use Rattle.laws.specs.Formed.Reader.{Stand, at, ended, anywhere, Leads, by, closes, unsaid, leads-nil, leads-node, Made, made, stopped, tooDeep, Makes, pure-makes, fail-makes, forget, bind, then, then-by}
 use Rattle.laws.specs.Formed.Helper.{blank-makes, expectByte-makes, numberLiteral-makes, identifier-makes}
 use Rattle.laws.specs.Formed.Pattern.{InsideFormed}
 use Rattle.laws.specs.Formed.String.{string-made}

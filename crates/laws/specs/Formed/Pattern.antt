@@ -3,27 +3,27 @@ use Prim.Native.Nat.{ℕ, zero, suc, _+_, _-_, _≤_, _<_, min}
 use native.Mathlib.Nat.{zero-add, add-zero}
 use native.Mathlib.Omega.{arith}
 use mathlib.Core.Path.{_≡_, refl, sym, ap, _∙_, subst}
-use mathlib.Core.Bool.{Bool, true, false, _&&_, _||_, not}
-use mathlib.Core.List.{List, [], _∷_, _++_, map-append}
+use mathlib.Core.Bool.{Bool, true, false, _&&_, _||_}
+use mathlib.Core.List.{List, [], _∷_, _++_}
 use mathlib.Core.Option.{Option, some, none}
-use lib.ListN.{drop, length, take, take-append-drop, length-take, length-drop}
+use lib.ListN.{drop, length, take, take-append-drop, length-take}
 use lib.Seq.{drop-drop, length-take-le}
 use lib.Dec.{eqb, ltb}
 use borrow.Author.Tests.{eqb-true, eqb-false, not-false}
 use Rattle.syntax.specs.Kind as Kind
 use Rattle.syntax.specs.Bytes.{run, eol, spaces}
-use Rattle.syntax.specs.Marks.{Mark, plain, up, moveUp, textNode, node}
-use Rattle.syntax.specs.Reader.{Out, ok, bad, deep, Reader, after, inNode, wrap, Turn, again, done, repeat}
+use Rattle.syntax.specs.Marks.{Mark, plain, moveUp, node}
+use Rattle.syntax.specs.Reader.{Out, ok, bad, deep, after, inNode, wrap, Turn, again, repeat}
 use Rattle.syntax.specs.Helper.{skipBlankBlock}
 use Rattle.syntax.specs.Shape.{stepIn, stepBy, finalBy, models, among, step, final, opens, Run, stay}
-use Rattle.syntax.specs.Pattern.{Inside, Role, lineStart, initialLineStart, continuation, Slice, isTextByte, endsInCr, lineSlice, sliceBy, getTextSlice, Element, placeable, text, State, isLineStart, roleAfter, withPlaceable, commonAfter, isElement, withText, goesOn, lineTurn, textTurn, patternTurn, trimmed, dedented, textMarks, elementMarks, finish, stateAt, usedBy, firstState, getPattern}
+use Rattle.syntax.specs.Pattern.{Inside, Role, lineStart, initialLineStart, Slice, isTextByte, endsInCr, lineSlice, sliceBy, getTextSlice, Element, placeable, text, State, isLineStart, withPlaceable, isElement, withText, goesOn, lineTurn, textTurn, patternTurn, trimmed, dedented, textMarks, elementMarks, finish, stateAt, usedBy, firstState, getPattern}
 use Rattle.laws.specs.Bytes.{byCase, clash, pick, run-le}
 use Rattle.laws.specs.Moving.{moveUp-append}
 use Rattle.laws.specs.Answers.{Holds, TurnHolds, loop-holds}
 use Rattle.laws.specs.Bounds.Pattern.{trimmed-le, dedented-le}
 use Rattle.laws.specs.Shape.Run.{run-append, run-moved, run-text}
 use Rattle.laws.specs.Formed.Edge.{ascii, clear, edge, edge-le, edge-add, edge-past, edge-clear, edge-first, ascii-of, edge-spaces, edge-eol}
-use Rattle.laws.specs.Formed.Reader.{Stand, at, by, closes, leads-nil, leads-node, Made, made, stopped, tooDeep, Makes}
+use Rattle.laws.specs.Formed.Reader.{at, by, closes, leads-nil, leads-node, Made, made, stopped, tooDeep, Makes}
 use Rattle.laws.specs.Formed.Helper.{or-ascii, block-edge}
 
 -- what stands in one more brace or parenthesis, with n openings left, as a child of any node that takes it

@@ -1,18 +1,18 @@
 -- What a reader's marks do to the node that they stand in, of the kind k with n openings left: where its automaton stands after them, by the value
 -- that was read. The places of the marks are edges, and so is where the reading ends.
 use Prim.Native.Nat.{ℕ, zero, suc, _+_}
-use mathlib.Core.Path.{_≡_, refl, subst}
+use mathlib.Core.Path.{_≡_, refl}
 use mathlib.Core.Bool.{Bool, true, false}
-use mathlib.Core.List.{List, [], _∷_, _++_, append-nil}
+use mathlib.Core.List.{List, [], _++_, append-nil}
 use mathlib.Core.Option.{some}
 use lib.ListN.{drop, length}
 use Rattle.syntax.specs.Kind as Kind
-use Rattle.syntax.specs.Marks.{Mark, moveUp, node, textNode}
+use Rattle.syntax.specs.Marks.{Mark, moveUp, node}
 use Rattle.syntax.specs.declared.errors.ErrorKind.{ErrorKind}
 use Rattle.syntax.specs.declared.errors.ParserError.{ParserError}
 use Rattle.syntax.specs.Reader.{Out, ok, bad, deep, Reader, after, next, _>>=_, _>>_, pure, fail, wrap, inNode, Turn, again, done, turnOf, loop, repeat}
 use Rattle.syntax.specs.Shape.{start, step, final, opens, Run, stay, Content}
-use Rattle.laws.specs.Shape.Run.{run-append, run-moved, run-text, run-node}
+use Rattle.laws.specs.Shape.Run.{run-append, run-moved, run-node}
 use Rattle.laws.specs.Formed.Edge.{edge, edge-add}
 
 -- in a state; where the node may end; or nothing is said

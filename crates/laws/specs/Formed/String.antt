@@ -1,9 +1,8 @@
 -- String literals: the places of their texts.
-use Prim.Native.Nat.{ℕ, suc, _+_, _-_, _≤_, _<_}
-use native.Mathlib.Nat.{zero-add}
+use Prim.Native.Nat.{ℕ, suc, _+_, _-_, _≤_}
 use native.Mathlib.Omega.{arith}
 use mathlib.Core.Path.{_≡_, refl, subst}
-use mathlib.Core.Bool.{true, false, _||_}
+use mathlib.Core.Bool.{true, _||_}
 use mathlib.Core.List.{List, [], _∷_}
 use mathlib.Core.Option.{some}
 use lib.ListN.{drop, length}
@@ -12,7 +11,7 @@ use lib.Dec.{eqb}
 use Rattle.syntax.specs.Kind as Kind
 use Rattle.syntax.specs.Bytes.{startsWith}
 use Rattle.syntax.specs.Marks.{Mark}
-use Rattle.syntax.specs.Reader.{Out, ok, bad, deep, after, next, _>>_, fail, Turn, again, done, turnOf, repeat}
+use Rattle.syntax.specs.Reader.{Out, ok, bad, deep, after, next, _>>_, fail, Turn, again, turnOf, repeat}
 use Rattle.syntax.specs.Helper.{expectByte, skipUnicodeEscapeSequence}
 use Rattle.syntax.specs.Expression.{escapeTurn, stringTurn, stringLiteral, asString}
 use Rattle.syntax.specs.Shape.{step}
