@@ -1,4 +1,4 @@
--- Laws of the definitions, for the proofs of code and of theorems to cite. All that a file's reading has is stated in File.
+-- Laws of the definitions, for the proofs of code and of theorems to cite. All that a file's reading has is stated in File and Formed.
 
 -- tests on bytes; sources that end in a newline, and what follows a cut
 pub mod Bytes

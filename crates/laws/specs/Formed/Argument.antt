@@ -136,7 +136,8 @@ module _ {n : ℕ} {sub : Inside} (law : InsideFormed n sub) where
   namedValue-makes = end-makes {t = 2} refl (then (expectByte-makes 58 refl) (then blank-makes (inline-makes law (λ a. inline-steps a .1) true)))
 
   named-made : (names : List (List ℕ)) (i j : ℕ) (s : List ℕ) → edge s i ≡ true → edge s j ≡ true → Made n 25 (byNames names) byNames s (namedArgument sub names i j s)
-  named-made names i j s e f = from names (λ q z. unfold namedArgument _>>_ in (pick (Made n 25 (at q) byNames s) (isAmong (take i s) names) _ _ (λ h. stopped) (λ h. next-made (argument q z) (λ _. separator-makes (take i s ∷ names)))))
+  named-made names i j s e f = from names (λ q z. unfold namedArgument _>>_ in
+      (pick (Made n 25 (at q) byNames s) (isAmong (take i s) names) _ _ (λ h. stopped) (λ h. next-made (argument q z) (λ _. separator-makes (take i s ∷ names)))))
     where
       argument : (q : ℕ) → step 25 q 26 ≡ some 1 → Made n 25 (at q) (λ _. at 1) s (wrap 26 (after (textNode 9 0 i) j (namedValue sub (drop j s))))
       argument q z = unfold Kind.isText opens step stepBy stepIn models among edge in

@@ -22,7 +22,7 @@ use Rattle.laws.specs.Answers.{Holds}
 use Rattle.laws.specs.Bounds.Entry.{junkEnd-within}
 use Rattle.laws.specs.Formed.Edge.{ascii, clear, edge, edge-add, edge-clear, ascii-of, edge-byte, edge-spaces}
 use Rattle.laws.specs.Formed.Reader.{Stand, at, ended, anywhere, by, closes, leads-nil, leads-after, leads-content, Made, made, stopped, tooDeep, Makes, node-makes, pure-makes, forget, bind, then, TurnMade, goes, ends, repeat-makes}
-use Rattle.laws.specs.Formed.Helper.{or-ascii, letter-ascii, inline-makes, block-makes, expectByte-makes, identifier-makes}
+use Rattle.laws.specs.Formed.Helper.{or-ascii, letter-ascii, spaces-makes, block-makes, expectByte-makes, identifier-makes}
 use Rattle.laws.specs.Formed.Comment.{comment-makes}
 use Rattle.laws.specs.Formed.Pattern.{InsideFormed, pattern-makes}
 use Rattle.laws.specs.Formed.Expression.{value-makes}
@@ -35,7 +35,7 @@ stateAt q (suc i) = 2
 module _ {n : ℕ} {sub : Inside} (law : InsideFormed n sub) where
   attribute-makes : {k q r : ℕ} → step k q Kind.attribute ≡ some r → Makes n k (at q) (λ _. at r) (getAttribute sub)
   unfolding getAttribute Kind.isText opens step stepBy stepIn final finalBy models among
-  attribute-makes z = node-makes 10 refl z (zero-add n) (then (identifier-makes 9 refl refl) (then inline-makes (then (expectByte-makes 61 refl) (value-makes law {q = 1} {r = 2} refl refl))))
+  attribute-makes z = node-makes 10 refl z (zero-add n) (then (identifier-makes 9 refl refl) (then spaces-makes (then (expectByte-makes 61 refl) (value-makes law {q = 1} {r = 2} refl refl))))
 
   module _ (k q : ℕ) (z : step k q Kind.attribute ≡ some 2) (y : step k 2 Kind.attribute ≡ some 2) (f : final k q ≡ true) (g : final k 2 ≡ true) where
     attribute-step : (i : ℕ) → step k (stateAt q i) Kind.attribute ≡ some 2
@@ -46,7 +46,8 @@ module _ {n : ℕ} {sub : Inside} (law : InsideFormed n sub) where
     attribute-end zero = f
     attribute-end (suc i) = g
 
-    attributeBy-made : {s : List ℕ} {o : Out (Unit {0})} (i j : ℕ) → edge s j ≡ true → Made n k (at (stateAt q i)) (λ _. at 2) (drop j s) o → TurnMade n k (at (stateAt q i)) (λ i. at (stateAt q i)) (λ _. ended) s (attributeBy i j o)
+    attributeBy-made : {s : List ℕ} {o : Out (Unit {0})} (i j : ℕ) → edge s j ≡ true → Made n k (at (stateAt q i)) (λ _. at 2) (drop j s) o
+        → TurnMade n k (at (stateAt q i)) (λ i. at (stateAt q i)) (λ _. ended) s (attributeBy i j o)
     unfolding attributeBy edge
     attributeBy-made {s} i j e (made {j = l} d m) = goes (edge-add s j l e d) (leads-after s j e (leads-nil (at (stateAt q i))) m)
     attributeBy-made i j e stopped = ends (made refl (closes stay (attribute-end i)))
@@ -66,7 +67,7 @@ module _ {n : ℕ} {sub : Inside} (law : InsideFormed n sub) where
   fields-makes : {k : ℕ} (f : Bool → Stand) → step k 0 Kind.identifier ≡ some 1 → step k 1 Kind.pattern ≡ some 2 → ((v : Bool) → Makes n k (at (elim v [ true ↦ 2 | false ↦ 1 ])) (λ _. f v) (getAttributes sub))
       → Makes n k (at 0) (λ x. f (x .value)) (fields sub)
   unfolding fields Kind.isText
-  fields-makes f z y m = bind (identifier-makes 9 refl z) (λ i. then inline-makes (then (expectByte-makes 61 refl) (bind (pattern-makes law y) (λ v. then block-makes (bind (m v) (λ c. pure-makes _ (λ b. leads-nil (f v))))))))
+  fields-makes f z y m = bind (identifier-makes 9 refl z) (λ i. then spaces-makes (then (expectByte-makes 61 refl) (bind (pattern-makes law y) (λ v. then block-makes (bind (m v) (λ c. pure-makes _ (λ b. leads-nil (f v))))))))
 
   message-makes : Makes n 1 (at 0) (λ _. ended) (fields sub)
   unfolding step stepBy stepIn final finalBy models among

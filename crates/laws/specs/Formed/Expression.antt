@@ -18,7 +18,7 @@ use Rattle.syntax.specs.Shape.{stepIn, stepBy, finalBy, models, among, step, fi
 use Rattle.laws.specs.Bytes.{pick}
 use Rattle.laws.specs.Formed.Edge.{edge, edge-add, edge-byte}
 use Rattle.laws.specs.Formed.Reader.{Stand, at, ended, anywhere, by, closes, leads-nil, leads-after, leads-end, leads-node, Made, made, stopped, tooDeep, after-made, Makes, node-makes, pure-makes, fail-makes, forget, bind, then, TurnMade, goes, ends, turnOf-made, repeat-makes}
-use Rattle.laws.specs.Formed.Helper.{inline-makes as spaces-makes, eol-makes, blank-makes, expectByte-makes, numberLiteral-makes, identifier-makes}
+use Rattle.laws.specs.Formed.Helper.{spaces-makes, eol-makes, blank-makes, expectByte-makes, numberLiteral-makes, identifier-makes}
 use Rattle.laws.specs.Formed.Pattern.{InsideFormed, pattern-makes}
 use Rattle.laws.specs.Formed.Inline.{inline-makes}
 use Rattle.laws.specs.Formed.Argument.{parenthesised-makes}
@@ -98,14 +98,18 @@ module _ {n : ℕ} {sub : Inside} (law : InsideFormed n sub) where
   inVariant true = node-makes 16 refl refl (zero-add n) (variant-makes refl refl refl refl)
   inVariant false = node-makes 15 refl refl (zero-add n) (variant-makes refl refl refl refl)
 
-  star-made : (d h : Bool) (s : List ℕ) → TurnMade n 14 (at 1) (λ _. at 1) (λ _. at 1) s (afterStar sub d h s)
+  -- a turn of the variants
+  abbrev Varies : List ℕ → Turn Bool (Unit {0}) → Type 0
+  Varies s t = TurnMade n 14 (at 1) (λ _. at 1) (λ _. at 1) s t
+
+  star-made : (d h : Bool) (s : List ℕ) → Varies s (afterStar sub d h s)
   unfolding afterStar variantWith
-  star-made d h s = pick (TurnMade n 14 (at 1) (λ _. at 1) (λ _. at 1) s) (d && h) _ _ (λ q. ends (fail-makes _ .on s))
-      (λ q. pick (TurnMade n 14 (at 1) (λ _. at 1) (λ _. at 1) s) (startsWith 91 s) _ _ (λ q. turnOf-made (then (inVariant d) (then blank-makes (pure-makes (d || h) (λ b. by stay))) .on s)) (λ q. ends (endVariants-makes (d || h) .on s)))
+  star-made d h s = pick (Varies s) (d && h) _ _ (λ q. ends (fail-makes _ .on s))
+      (λ q. pick (Varies s) (startsWith 91 s) _ _ (λ q. turnOf-made (then (inVariant d) (then blank-makes (pure-makes (d || h) (λ b. by stay))) .on s)) (λ q. ends (endVariants-makes (d || h) .on s)))
 
   variants-makes : Makes n 14 (at 1) (λ _. at 1) (getVariants sub)
   unfolding getVariants variantTurn
-  variants-makes = repeat-makes {f = λ _. at 1} (λ h s. pick (TurnMade n 14 (at 1) (λ _. at 1) (λ _. at 1) s) (startsWith 42 s) _ _ (λ q. turnAfter-made (edge-byte 42 refl s q) (star-made true h (drop 1 s))) (λ q. star-made false h s)) false
+  variants-makes = repeat-makes {f = λ _. at 1} (λ h s. pick (Varies s) (startsWith 42 s) _ _ (λ q. turnAfter-made (edge-byte 42 refl s q) (star-made true h (drop 1 s))) (λ q. star-made false h s)) false
 
   -- a select's variants, where f says what its marks do
   select-makes : {k : ℕ} {g : Stand} (f : Bool → Stand) → Makes n k g (λ _. f true) (getVariants sub) → (a : Inline) → Makes n k g f (selectFrom sub a)
@@ -114,7 +118,8 @@ module _ {n : ℕ} {sub : Inside} (law : InsideFormed n sub) where
       then (selector-makes a) (then (expectByte-makes 45 refl) (then (expectByte-makes 62 refl) (then spaces-makes (bind eol-makes
       (λ v. then (lineEnd-makes v) (then blank-makes (then m (pure-makes true (λ b. leads-nil (f true))))))))))
 
-  inlineOrSelect-makes : {k : ℕ} (f : Bool → Stand) → ((a : Inline) → step k 0 (inlineKind a) ≡ some 1) → Makes n k (at 1) (λ _. f true) (getVariants sub) → Makes n k (at 1) f (pure false) → Makes n k (at 0) f (inlineOrSelect sub)
+  inlineOrSelect-makes : {k : ℕ} (f : Bool → Stand) → ((a : Inline) → step k 0 (inlineKind a) ≡ some 1) → Makes n k (at 1) (λ _. f true) (getVariants sub)
+      → Makes n k (at 1) f (pure false) → Makes n k (at 0) f (inlineOrSelect sub)
   unfolding inlineOrSelect afterInline
   inlineOrSelect-makes {k} f z m p = bind (inline-makes law z false) (λ a. then blank-makes (record {
     on = λ s. pick (Made n k (at 1) f s) (startsWith 45 s && second (λ b. eqb b 62) s) _ _ (λ q. select-makes f m a .on s) (λ q. alone-makes p a .on s);

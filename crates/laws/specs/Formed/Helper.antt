@@ -48,9 +48,9 @@ edge-name s = edge-run isNamePart name-ascii s (run isNamePart s) (omega arith)
 -- ---- readers without marks
 
 module _ {n k : ℕ} {g : Stand} where
-  pub inline-makes : Makes n k g (λ _. g) skipBlankInline
+  pub spaces-makes : Makes n k g (λ _. g) skipBlankInline
   unfolding skipBlankInline
-  inline-makes = record { on = λ s. skips (edge-spaces s (spaces s) (omega arith)) }
+  spaces-makes = record { on = λ s. skips (edge-spaces s (spaces s) (omega arith)) }
 
   pub eol-makes : Makes n k g (λ _. g) skipEol
   unfolding skipEol

@@ -29,6 +29,10 @@ use Rattle.laws.specs.Formed.String.{string-made}
 unfoldable pub inKind : ℕ → Inline → Stand
 inKind k a = elim (eqb (inlineKind a) k) [ true ↦ ended | false ↦ anywhere ]
 
+-- a value of the kind k or k′
+abbrev Of : ℕ → ℕ → Inline → Type 0
+Of k k′ a = (eqb (inlineKind a) k || eqb (inlineKind a) k′) ≡ true
+
 module _ {n : ℕ} where
   number-makes : {k q r : ℕ} → step k q Kind.number ≡ some r → Makes n k (at q) (λ _. at r) numberLiteral
   unfolding numberLiteral Kind.isText
@@ -51,9 +55,9 @@ module _ {n : ℕ} where
   noInline-makes false = fail-makes _
 
   -- a node of the value's kind, which is k or k′, around content that is said for both
-  asInline-made : {i q r : ℕ} {s : List ℕ} (k k′ : ℕ) → ((j : ℕ) → (eqb j k || eqb j k′) ≡ true → (Kind.isText j ≡ false) × (opens j ≡ 0)) → ((a : Inline) → step i q (inlineKind a) ≡ some r)
-      → (o : Out Inline) → Made n k (at 0) (inKind k) s o → Made n k′ (at 0) (inKind k′) s o → Holds (λ a ms j. (eqb (inlineKind a) k || eqb (inlineKind a) k′) ≡ true) o
-      → Made n i (at q) (λ _. at r) s (asInline o)
+  asInline-made : {i q r : ℕ} {s : List ℕ} (k k′ : ℕ) → ((j : ℕ) → (eqb j k || eqb j k′) ≡ true → (Kind.isText j ≡ false) × (opens j ≡ 0))
+      → ((a : Inline) → step i q (inlineKind a) ≡ some r) → (o : Out Inline) → Made n k (at 0) (inKind k) s o → Made n k′ (at 0) (inKind k′) s o
+      → Holds (λ a ms j. Of k k′ a) o → Made n i (at q) (λ _. at r) s (asInline o)
   unfolding asInline inKind
   asInline-made {i} {q} {r} {s} k k′ c z (ok a ms j) (made e l) (made f m) h =
       made e (byCase (eqb (inlineKind a) k) (λ v. child k v (subst (λ g. Leads (edge s) n k (at 0) g ms) (said v) l)) (λ v. let w = otherwise _ _ h v in child k′ w (subst (λ g. Leads (edge s) n k′ (at 0) g ms) (said w) m)))
@@ -65,6 +69,10 @@ module _ {n : ℕ} where
       child k v l = leads-node (inlineKind a) (c (inlineKind a) h .0) (z a) (ap (λ j. j + n) (c (inlineKind a) h .1) ∙ zero-add n) (subst (λ j. Leads (edge s) n j (at 0) ended ms) (sym (eqb-true _ k v)) l)
   asInline-made k k′ c z (bad f j) m m′ h = stopped
   asInline-made k k′ c z (deep j) m m′ h = tooDeep
+
+  asInline-one : {i q r : ℕ} {s : List ℕ} (k : ℕ) → Kind.isText k ≡ false → opens k ≡ 0 → ((a : Inline) → step i q (inlineKind a) ≡ some r)
+      → (o : Out Inline) → Made n k (at 0) (inKind k) s o → Holds (λ a ms j. Of k k a) o → Made n i (at q) (λ _. at r) s (asInline o)
+  asInline-one k t e z o m h = asInline-made k k (λ j x. rw (eqb-true j k (byCase (eqb j k) (λ y. y) (λ y. otherwise _ _ x y))) (t, e)) z o m m h
 
   nested-made : {k : ℕ} {g h : Stand} {s : List ℕ} (o : Out (Unit {0})) → Made n k g (λ _. h) s (wrap 13 o) → Made n k g (λ _. h) s (asInline (next s (λ _. pure inner) o))
   unfolding wrap asInline next pure after inlineKind moveUp
@@ -115,9 +123,6 @@ module _ {n : ℕ} {sub : Inside} (law : InsideFormed n sub) where
   pub inline-makes : {k q r : ℕ} → ((a : Inline) → step k q (inlineKind a) ≡ some r) → (v : Bool) → Makes n k (at q) (λ _. at r) (getInlineExpression sub v)
   inline-makes {k} {q} {r} z v = record { on = go }
     where
-      plain : (i j : ℕ) → (eqb j i || eqb j i) ≡ true → Kind.isText i ≡ false → opens i ≡ 0 → (Kind.isText j ≡ false) × (opens j ≡ 0)
-      plain i j h t o = let e = eqb-true j i (byCase (eqb j i) (λ x. x) (λ x. otherwise _ _ h x)) in rw e (t, o)
-
       either : (j : ℕ) → (eqb j 22 || eqb j 23) ≡ true → (Kind.isText j ≡ false) × (opens j ≡ 0)
       either j h = unfold Kind.isText opens among in (byCase (eqb j 22) (λ x. rw (eqb-true j 22 x) (refl, refl)) (λ x. rw (eqb-true j 23 (otherwise _ _ h x)) (refl, refl)))
 
@@ -125,12 +130,12 @@ module _ {n : ℕ} {sub : Inside} (law : InsideFormed n sub) where
       go [] = unfold getInlineExpression in (noInline-makes v .on [])
       go (b ∷ bs) = unfold getInlineExpression nonLiteral nestedPlaceable _>>_ inlineKind inNode Kind.isText opens among in
           (pick P (eqb b 34) _ _ (λ h. string-made s (z string)) (λ h. pick P (isDigit b) _ _ (λ h. number-makes (z number) .on s)
-          (λ h. pick P (isLetter b) _ _ (λ h. asInline-made 22 23 either z (reference sub s) (function-made s) (message-made s) (reference-value (λ a. (eqb (inlineKind a) 22 || eqb (inlineKind a) 23) ≡ true) sub refl (λ i a. refl) s))
+          (λ h. pick P (isLetter b) _ _ (λ h. asInline-made 22 23 either z (reference sub s) (function-made s) (message-made s) (reference-value (Of 22 23) sub refl (λ i a. refl) s))
           (λ h. pick P v _ _ (λ h. noInline-makes true .on s)
           (λ h. pick P (eqb b 45) _ _
-          (λ h. pick P (starts isLetter bs) _ _ (λ h. asInline-made 24 24 (λ j e. plain 24 j e refl refl) z (termReference sub s) (term-makes .on s) (term-makes .on s) (term-value (λ a. (eqb (inlineKind a) 24 || eqb (inlineKind a) 24) ≡ true) sub (λ t. refl) s))
+          (λ h. pick P (starts isLetter bs) _ _ (λ h. asInline-one 24 refl refl z (termReference sub s) (term-makes .on s) (term-value (Of 24 24) sub (λ t. refl) s))
           (λ h. number-makes (z number) .on s))
-          (λ h. pick P (eqb b 36) _ _ (λ h. asInline-made 21 21 (λ j e. plain 21 j e refl refl) z (variableReference s) (variable-makes .on s) (variable-makes .on s) (variable-value (λ a. (eqb (inlineKind a) 21 || eqb (inlineKind a) 21) ≡ true) refl s))
+          (λ h. pick P (eqb b 36) _ _ (λ h. asInline-one 21 refl refl z (variableReference s) (variable-makes .on s) (variable-value (Of 21 21) refl s))
           (λ h. pick P (eqb b 123) _ _ (λ h. nested-made (sub .braced s) (law .braced k q r (z inner) .on s)) (λ h. noInline-makes false .on s))))))))
         where
           s : List ℕ

@@ -128,7 +128,8 @@ module _ (n : ℕ) (s : List ℕ) where
   elements-run c zero es p = stay
   elements-run c (suc m) [] p = stay
   elements-run c (suc m) (placeable ms ∷ es) p = run-append (edge s) (p .0) (elements-run c m es (p .1))
-  elements-run c (suc m) (text a e i l ∷ es) p = run-append (edge s) (textMarks-run (eqb m 0) (dedented c a i l) e (dedented-edge c a e i l (p .0)) (p .0 .end) (omega (arith, dedented-le c a i l, p .0 .order))) (elements-run c m es (p .1))
+  elements-run c (suc m) (text a e i l ∷ es) p = run-append (edge s)
+      (textMarks-run (eqb m 0) (dedented c a i l) e (dedented-edge c a e i l (p .0)) (p .0 .end) (omega (arith, dedented-le c a i l, p .0 .order))) (elements-run c m es (p .1))
 
   -- a state of the pattern that s is the source of
   pub record Tidy (st : State) : Type 0 where

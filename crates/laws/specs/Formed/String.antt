@@ -77,12 +77,16 @@ closed s (deep k) e = tt
 string-quoted : (s : List ℕ) → Holds (Quoted s) (stringLiteral s)
 unfolding stringLiteral _>>_ next expectByte fail
 string-quoted s = pick {B = Out (Unit {0})} (λ o. Holds (Quoted s) (next s (λ _. rest) o)) (startsWith 34 s) _ _
-    (λ q. let e = edge-byte 34 refl s q in
-    holds-after (Closed (drop 1 s)) (Quoted s) [] 1 (λ a ns j h. let z : 1 + (j - 1) ≡ 1 + j - 1 = omega arith in (e, subst (λ i. edge s i ≡ true) z (edge-add s 1 (j - 1) e (h .0)), edge-add s 1 j e (h .1), omega arith)) (rest (drop 1 s)) (closed (drop 1 s) (repeat stringTurn tt (drop 1 s)) (loop-edge (drop 1 s))))
-    (λ q. tt)
+    (λ q. holds-after (Closed r) (Quoted s) [] 1 (λ a ns j h. quoted j h (edge-byte 34 refl s q)) (rest r) (closed r (repeat stringTurn tt r) (loop-edge r))) (λ q. tt)
   where
+    r : List ℕ
+    r = drop 1 s
+
     rest : List ℕ → Out (Unit {0})
     rest = repeat stringTurn tt >> expectByte 34
+
+    quoted : (j : ℕ) → Closed r tt [] j → edge s 1 ≡ true → Quoted s tt [] (1 + j)
+    quoted j h e = let z : 1 + (j - 1) ≡ 1 + j - 1 = omega arith in (e, subst (λ i. edge s i ≡ true) z (edge-add s 1 (j - 1) e (h .0)), edge-add s 1 j e (h .1), omega arith)
 
 pub string-made : {n k q r : ℕ} (s : List ℕ) → step k q Kind.string ≡ some r → Made n k (at q) (λ _. at r) s (asString (stringLiteral s))
 string-made {n} {k} {q} {r} s z = go (stringLiteral s) (string-quoted s)
