@@ -2,17 +2,19 @@
 use Prim.Native.Nat.{ℕ, _+_, _-_, _*_, _≤_, _<_}
 use native.Mathlib.Omega.{arith}
 use mathlib.Core.Path.{_≡_, refl, sym, ap, ap₂, _∙_}
-use mathlib.Core.Bool.{Bool, true, false, _||_}
+use mathlib.Core.Bool.{Bool, true, false, _||_, and-eq-true-iff}
 use mathlib.Core.List.{List, [], _∷_, _++_, map, append-assoc}
 use lib.ListN.{length, take, drop, replicate, length-append, length-replicate, length-map}
 use lib.Seq.{take-at, drop-at, drop-append-add}
 use lib.Dec.{eqb, ltb}
-use borrow.Author.Tests.{ltb-true, ne-eqb}
+use borrow.Author.Tests.{ltb-true, le-leb, ne-eqb}
 use Rattle.laws.specs.Balanced.{Forest, empty, text, tree}
 use Rattle.syntax.specs.Kind as Kind
 use Rattle.syntax.specs.Marks.{Mark, plain, placed, kindOf, placeOf}
 use Rattle.syntax.specs.Core.{Error}
-use Rattle.syntax.specs.Layout.{array, treeWords, groupSize, group, groups, errorNumber, errorWords, count, capacity, kinds, places, groupsIn, hasPlace, markOf, marksBy, marksIn}
+use Rattle.syntax.specs.Limits.{maxLength}
+use Rattle.syntax.specs.Writing.{sizesFit}
+use Rattle.syntax.specs.Layout.{array, treeCapacity, treeWords, groupSize, group, groups, errorNumber, errorWords, count, capacity, kinds, places, groupsIn, hasPlace, markOf, marksBy, marksIn}
 
 array-length : (c : ℕ) (ws : List ℕ) → length ws ≤ c → length (array c ws) ≡ c
 unfolding array
@@ -47,6 +49,18 @@ module _ (c : ℕ) (ms : List Mark) (rest : List ℕ) where
   tree-places h =
       ap (take (length ms)) (drop-sizes c (length ms) c ((array c (map kindOf ms) ++ array c (map placeOf ms)) ++ rest))
       ∙ second-array (length ms) c c (map kindOf ms) (map placeOf ms) rest (rw length-map h) (length-map ms placeOf)
+
+  -- the sizes fit, for the writer
+  pub tree-fits : length ms ≤ c → c ≤ treeCapacity maxLength → sizesFit (treeWords c ms ++ rest) ≡ true
+  unfolding sizesFit count capacity treeWords
+  tree-fits h l =
+      let ws = array c (map kindOf ms) ++ array c (map placeOf ms) in
+      let n = length (treeWords c ms ++ rest) in
+      let e = length-append (array c (map kindOf ms)) (array c (map placeOf ms)) in
+      let f = array-length c (map kindOf ms) (rw length-map h) in
+      let g = array-length c (map placeOf ms) (rw length-map h) in
+      let w : 2 + 2 * c ≤ n = omega (arith, length-append ws rest) in
+      and-eq-true-iff _ _ .1 (le-leb 2 n (omega arith), and-eq-true-iff _ _ .1 (le-leb c _ l, and-eq-true-iff _ _ .1 (le-leb (length ms) c h, le-leb (2 + 2 * c) n w)))
 
 groups-length : (es : List Error) → length (groups es) ≡ groupSize * length es
 unfolding groups group
