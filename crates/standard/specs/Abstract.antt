@@ -5,16 +5,17 @@ use mathlib.Core.List.{List, [], _∷_, _++_}
 use mathlib.Core.Option.{Option, some, none}
 use lib.ListN.{drop, take}
 use lib.Dec.{eqb}
+use Rattle.syntax.specs.Byte as Byte
+use Rattle.syntax.specs.Kind as Kind
 use Rattle.syntax.specs.Bytes.{starts, all, isUpper, isCalleePart}
 use Rattle.syntax.specs.Marks.{Mark, moveUp, node, textNode}
 use Rattle.standard.specs.Dialect.{Dialect}
-use Rattle.standard.specs.Kinds.{message-node, term-node, attached-node, line-text, pattern-node, plain-text, further-text}
 use Rattle.standard.specs.Peg.{Parser, fits, _/_, eof, given}
 
 -- CommentLine ---------------------------------------------------------------------------------------------------------------------------------
 
 unfoldable pub empty-line : Parser (Unit {0})
-empty-line s = fits tt (textNode line-text 0 0) 0
+empty-line s = fits tt (textNode Kind.commentLine 0 0) 0
 
 -- A1. The content is "" where nothing follows the sigil. (Where a space alone does, it is the "" after it.) Departure hash-at-end
 unfoldable pub A1 : Dialect → Parser (Unit {0})
@@ -64,9 +65,9 @@ namedFirst (p ∷ ps) = isNamed (p .item)
 
 -- the marks of a part; near says that a message or term follows
 unfoldable pub partMarks : Item → Bool → List Mark → List Mark
-partMarks (comment l) near ms = node (elim (eqb l 1 && near) [ true ↦ attached-node | false ↦ 2 + l ]) ms
-partMarks message near ms = node message-node ms
-partMarks term near ms = node term-node ms
+partMarks (comment l) near ms = node (elim (eqb l 1 && near) [ true ↦ Kind.attachedComment | false ↦ 2 + l ]) ms
+partMarks message near ms = node Kind.message ms
+partMarks term near ms = node Kind.term ms
 partMarks junk near ms = ms
 partMarks blank near ms = []
 
@@ -188,11 +189,11 @@ A6 d (feed a ∷ ps) = onto d true a (a + 1) (A6 d ps)
 A6 d (inner ms ∷ ps) = nested ms ∷ A6 d ps
 
 unfoldable pub isSpace : ℕ → Bool
-isSpace b = eqb b 32
+isSpace b = eqb b Byte.space
 
 -- what goes at the end of a text
 unfoldable pub isTrimmed : Dialect → ℕ → Bool
-isTrimmed d b = eqb b 32 || (d .trim-cr && (eqb b 13 || eqb b 10))
+isTrimmed d b = eqb b Byte.space || (d .trim-cr && (eqb b Byte.carriageReturn || eqb b Byte.lineFeed))
 
 -- the length without the bytes at the end that pass the test
 unfoldable pub trimmed : (ℕ → Bool) → List ℕ → ℕ
@@ -232,19 +233,22 @@ unfoldable pub A7 : Dialect → List ℕ → List Element → List Element
 A7 d s [] = []
 A7 d s (e ∷ es) = elim es [ [] ↦ trimLast d s e | f ∷ fs ↦ e ∷ A7 d s es ]
 
--- a text's further spans have a kind of their own
+-- the kind of a text's further spans. Only dialects without texts-apart have it
+abbrev pub further-text : ℕ
+further-text = 27
+
 unfoldable pub furtherMarks : List Span → List Mark
 furtherMarks [] = []
 furtherMarks (t ∷ ts) = textNode further-text (t .from) (t .till) ++ furtherMarks ts
 
 unfoldable pub elementMarks : List Element → List Mark
 elementMarks [] = []
-elementMarks (joined t ts ∷ es) = textNode plain-text (t .from) (t .till) ++ (furtherMarks ts ++ elementMarks es)
+elementMarks (joined t ts ∷ es) = textNode Kind.text (t .from) (t .till) ++ (furtherMarks ts ++ elementMarks es)
 elementMarks (nested ms ∷ es) = ms ++ elementMarks es
 
 -- A4 to A7: the node of a pattern with the source s
 unfoldable pub patternNode : Dialect → List ℕ → List Raw → List Mark
-patternNode d s rs = node pattern-node (elementMarks (A7 d s (A6 d (allPieces d rs))))
+patternNode d s rs = node Kind.pattern (elementMarks (A7 d s (A6 d (allPieces d rs))))
 
 -- Expressions ---------------------------------------------------------------------------------------------------------------------------------
 

@@ -4,6 +4,7 @@ use Prim.Native.Nat.{ℕ, zero, suc}
 use mathlib.Core.Bool.{true, false}
 use mathlib.Core.List.{List, [], _∷_, _++_}
 use lib.ListN.{length}
+use Rattle.syntax.specs.Kind as Kind
 use Rattle.syntax.specs.Marks.{Mark, textNode}
 use Rattle.syntax.specs.Reader.{ok, bad, deep}
 use Rattle.syntax.specs.Expression.{level}
@@ -11,7 +12,6 @@ use Rattle.syntax.specs.Core.{getEntry, junkEnd}
 use Rattle.standard.specs.Dialect.{Dialect}
 use Rattle.standard.specs.Peg.{Answer, fits, fails, Parser, pure, never, _>>=_, _>>_, _/_, opt, many, some, list-of, ahead, bar, void, in-node, as-text, only, given, pick, shared, _but_}
 use Rattle.standard.specs.Signs.{LF, CR, space, quote, open-parenthesis, close-parenthesis, star, comma, minus, dot, colon, equals, greater, backslash, open-brace, close-brace}
-use Rattle.standard.specs.Kinds.{junk-text, line-text, name-text, attribute-node, placeable-node, select-node, variant-node, default-node, string-text, number-text, function-node, message-reference-node, term-reference-node, arguments-node, named-node}
 use Rattle.standard.specs.Abstract.{A1, A2, A3, A8, A9, A10, A11, patternNode, Item, comment, message, term, junk, Part, Raw, text, lines, brace-indent, placeable, Form, string, function, messageReference, termReference, nestedPlaceable, Arg, positional, named, Content, inline, select, blank as gap}
 use Rattle.standard.specs.Lexical.{line-end, blank-inline, blank-block, blank-inline?, blank?, any-char, special-quoted-char, unicode-escape, comment-char, Identifier, NumberLiteral, UnsignedLiteral, VariantKey, AttributeAccessor, VariableReference, inline-text, indented-text, cr-text, block-brace, sigil, junk-lines}
 
@@ -62,15 +62,15 @@ module _ (d : Dialect) where
   unfoldable pub StringLiteral : Parser Form
   StringLiteral = do
     quote
-    as-text string-text (many quoted-char)
+    as-text Kind.string (many quoted-char)
     quote
     pure string
 
   -- MessageReference = Identifier AttributeAccessor?
   -- Departure blank-before-dot: (blank? AttributeAccessor)?
   unfoldable pub MessageReference : Parser Form
-  MessageReference = in-node message-reference-node do
-    Identifier name-text
+  MessageReference = in-node Kind.messageReference do
+    Identifier Kind.identifier
     opt tt (given (d .blank-before-dot) (blank? >> AttributeAccessor) / AttributeAccessor)
     pure messageReference
 
@@ -85,17 +85,17 @@ module _ (d : Dialect) where
     -- FunctionReference = Identifier CallArguments
     -- Rule A8
     unfoldable pub FunctionReference : Parser Form
-    FunctionReference = in-node function-node do
-      name ← Identifier name-text
+    FunctionReference = in-node Kind.function do
+      name ← Identifier Kind.identifier
       sub .CallArguments
       only (A8 name)
       pure function
 
     -- TermReference = "-" Identifier AttributeAccessor? CallArguments?
     unfoldable pub TermReference : Parser Form
-    TermReference = in-node term-reference-node do
+    TermReference = in-node Kind.termReference do
       minus
-      Identifier name-text
+      Identifier Kind.identifier
       attribute ← opt false (AttributeAccessor >> pure true)
       opt tt (sub .CallArguments)
       pure (termReference attribute)
@@ -104,7 +104,7 @@ module _ (d : Dialect) where
     unfoldable pub InlineExpression : Parser Form
     InlineExpression =
         StringLiteral
-        / NumberLiteral number-text
+        / NumberLiteral Kind.number
         / FunctionReference
         / MessageReference
         / TermReference
@@ -116,13 +116,13 @@ module _ (d : Dialect) where
     unfoldable pub literal : Parser Form
     literal =
         StringLiteral
-        / pick (d .named-no-minus) UnsignedLiteral (NumberLiteral number-text)
+        / pick (d .named-no-minus) UnsignedLiteral (NumberLiteral Kind.number)
         / given (d .named-reference) (FunctionReference / MessageReference)
 
     -- NamedArgument = Identifier blank? ":" blank? (StringLiteral / NumberLiteral)
     unfoldable pub NamedArgument : Parser Arg
-    NamedArgument = in-node named-node do
-      name ← Identifier name-text
+    NamedArgument = in-node Kind.namedArgument do
+      name ← Identifier Kind.identifier
       blank?
       colon
       blank?
@@ -150,7 +150,7 @@ module _ (d : Dialect) where
 
     -- CallArguments = blank? "(" blank? argument_list blank? ")"
     unfoldable pub CallArguments : Parser (Unit {0})
-    CallArguments = in-node arguments-node do
+    CallArguments = in-node Kind.arguments do
       blank?
       open-parenthesis
       blank?
@@ -193,7 +193,7 @@ module _ (d : Dialect) where
 
     -- Variant = line_end blank? VariantKey blank_inline? Pattern
     unfoldable pub Variant : Parser (Unit {0})
-    Variant = in-node variant-node do
+    Variant = in-node Kind.variant do
       line-end
       blank?
       VariantKey
@@ -202,7 +202,7 @@ module _ (d : Dialect) where
 
     -- DefaultVariant = line_end blank? "*" VariantKey blank_inline? Pattern
     unfoldable pub DefaultVariant : Parser (Unit {0})
-    DefaultVariant = in-node default-node do
+    DefaultVariant = in-node Kind.defaultVariant do
       line-end
       blank?
       star
@@ -235,7 +235,7 @@ module _ (d : Dialect) where
     -- SelectExpression = InlineExpression blank? "->" blank_inline? variant_list
     -- Rule A10
     unfoldable pub SelectExpression : Parser Form → Parser Content
-    SelectExpression inline-expression = in-node select-node do
+    SelectExpression inline-expression = in-node Kind.select do
       selector ← inline-expression
       only (A10 selector)
       blank?
@@ -252,7 +252,7 @@ module _ (d : Dialect) where
     -- inline_placeable = "{" blank? (SelectExpression / InlineExpression) blank? "}"
     -- Rule A11
     unfoldable pub inline-placeable : Parser (Unit {0})
-    inline-placeable = in-node placeable-node do
+    inline-placeable = in-node Kind.placeable do
       open-brace
       blank?
       content ← expression
@@ -265,11 +265,11 @@ module _ (d : Dialect) where
     -- Attribute = line_end blank? "." Identifier blank_inline? "=" blank_inline? Pattern
     -- Departure attribute-line-end: &line_end
     unfoldable pub Attribute : Parser (Unit {0})
-    Attribute = in-node attribute-node do
+    Attribute = in-node Kind.attribute do
       line-end
       blank?
       dot
-      Identifier name-text
+      Identifier Kind.identifier
       blank-inline?
       equals
       blank-inline?
@@ -280,7 +280,7 @@ module _ (d : Dialect) where
     unfoldable pub Term : Parser (Unit {0})
     Term = do
       minus
-      Identifier name-text
+      Identifier Kind.identifier
       blank-inline?
       equals
       blank-inline?
@@ -290,7 +290,7 @@ module _ (d : Dialect) where
     -- Message = Identifier blank_inline? "=" blank_inline? (Pattern Attribute* / Attribute+)
     unfoldable pub Message : Parser (Unit {0})
     Message = do
-      Identifier name-text
+      Identifier Kind.identifier
       blank-inline?
       equals
       blank-inline?
@@ -306,7 +306,7 @@ module _ (d : Dialect) where
   unfoldable pub CommentLine : Parser Item
   CommentLine = do
     l ← sigil
-    void (space >> as-text line-text (many comment-char)) / A1 d
+    void (space >> as-text Kind.commentLine (many comment-char)) / A1 d
     line-end
     pure (comment l)
 
@@ -317,7 +317,7 @@ module _ (d : Dialect) where
     swallowing-junk s =
         elim (getEntry (level n) s) [
           | ok e ms k ↦ fails
-          | bad f k ↦ let j = junkEnd k s in fits junk (textNode junk-text 0 j) j
+          | bad f k ↦ let j = junkEnd k s in fits junk (textNode Kind.junk 0 j) j
           | deep k ↦ fails
         ]
 

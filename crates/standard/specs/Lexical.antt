@@ -4,10 +4,10 @@
 use Prim.Native.Nat.{ℕ}
 use mathlib.Core.Bool.{true}
 use mathlib.Core.List.{List, [], _∷_}
+use Rattle.syntax.specs.Kind as Kind
 use Rattle.syntax.specs.Bytes.{isLetter, isDigit, isNamePart, isHex}
-use Rattle.standard.specs.Peg.{Parser, pure, _>>=_, _>>_, _/_, opt, many, some, bar, _but_, one, eof, void, sized, in-node, as-text}
+use Rattle.standard.specs.Peg.{Parser, pure, _>>=_, _>>_, _/_, opt, many, some, times, bar, _but_, one, eof, void, sized, in-node, as-text}
 use Rattle.standard.specs.Signs.{LF, CR, space, quote, hash, dollar, star, minus, dot, open-bracket, letter-U, backslash, close-bracket, letter-u, open-brace, close-brace}
-use Rattle.standard.specs.Kinds.{junk-text, name-text, number-key, name-key, number-text, variable-node}
 use Rattle.standard.specs.Abstract.{Item, junk, Line, Raw, text, lines, indent, Form, number, variable}
 
 -- line_end = CR LF / LF / EOF
@@ -51,11 +51,8 @@ unfoldable pub special-quoted-char : Parser (Unit {0})
 special-quoted-char = quote / backslash
 
 -- unicode_escape = "\u" [0-9a-fA-F]{4} / "\U" [0-9a-fA-F]{6}
-unfoldable pub four-hex : Parser (Unit {0})
-four-hex = one isHex >> one isHex >> one isHex >> one isHex
-
 unfoldable pub unicode-escape : Parser (Unit {0})
-unicode-escape = (backslash >> letter-u >> four-hex) / (backslash >> letter-U >> four-hex >> one isHex >> one isHex)
+unicode-escape = (backslash >> letter-u >> times 4 (one isHex)) / (backslash >> letter-U >> times 6 (one isHex))
 
 -- special_text_char = "{" / "}"
 unfoldable pub special-text-char : Parser (Unit {0})
@@ -91,7 +88,7 @@ NumberLiteral kind = do
 
 unfoldable pub UnsignedLiteral : Parser Form
 UnsignedLiteral = do
-  as-text number-text unsigned
+  as-text Kind.number unsigned
   pure number
 
 -- VariantKey = "[" blank? (NumberLiteral / Identifier) blank? "]"
@@ -99,7 +96,7 @@ unfoldable pub VariantKey : Parser (Unit {0})
 VariantKey = do
   open-bracket
   blank?
-  void (NumberLiteral number-key) / void (Identifier name-key)
+  void (NumberLiteral Kind.numberKey) / void (Identifier Kind.identifierKey)
   blank?
   close-bracket
 
@@ -107,13 +104,13 @@ VariantKey = do
 unfoldable pub AttributeAccessor : Parser (Unit {0})
 AttributeAccessor = do
   dot
-  void (Identifier name-text)
+  void (Identifier Kind.identifier)
 
 -- VariableReference = "$" Identifier
 unfoldable pub VariableReference : Parser Form
-VariableReference = in-node variable-node do
+VariableReference = in-node Kind.variable do
   dollar
-  Identifier name-text
+  Identifier Kind.identifier
   pure variable
 
 -- inline_text = text_char+
@@ -155,5 +152,5 @@ entry-start = hash / minus / one isLetter
 -- Junk = junk_line (!"#" !"-" ![a-zA-Z] junk_line)*
 unfoldable pub junk-lines : Parser Item
 junk-lines = do
-  as-text junk-text (junk-line >> many (junk-line but entry-start))
+  as-text Kind.junk (junk-line >> many (junk-line but entry-start))
   pure junk

@@ -72,6 +72,11 @@ some p = do
   more ← many p
   pure (a ∷ more)
 
+-- p{n}: n times p
+unfoldable pub times : {A : Type 0} → ℕ → Parser A → Parser (Unit {0})
+times zero p = pure tt
+times (suc n) p = p >> times n p
+
 -- at most n times p, with sep between
 unfoldable pub listTurns : {A B : Type 0} → ℕ → Parser A → Parser B → Parser (List A)
 listTurns zero p sep s = fits [] [] 0
