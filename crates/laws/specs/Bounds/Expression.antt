@@ -6,7 +6,7 @@ use mathlib.Core.Bool.{Bool, true, false, _&&_, _||_}
 use mathlib.Core.List.{List, [], _∷_}
 use lib.ListN.{drop, length, take, length-drop}
 use lib.Dec.{eqb}
-use Rattle.syntax.specs.Bytes.{startsWith, starts, second, all, isLetter, isDigit, isCalleePart}
+use Rattle.syntax.specs.Bytes.{startsWith, starts, second, all, isLetter, isDigit, isCalleePart, run, isNamePart}
 use Rattle.syntax.specs.Kind.{isText}
 use Rattle.syntax.specs.Marks.{Mark}
 use Rattle.syntax.specs.Reader.{Out, ok, bad, deep, after, _>>=_, _>>_, pure, Turn, turnOf}
@@ -265,7 +265,7 @@ module _ {n : ℕ} {sub : Inside} (law : InsideBounds n sub) where
       (wrap-bounded 26 (refl, refl) (omega arith) (after-bounded {c = 6} (uses-text k 9 0 i (text-kinds .0) l (omega arith) h (omega arith)) (namedValue-bounds .on (drop k s))))
       (λ _. separator-bounds (take i s ∷ names)))
 
-  argumentBy-bounded : {s : List ℕ} (names : List (List ℕ)) (o : Out Inline) → Bounded n (λ _. 4) s o → Fits o → Bounded n (λ _. 4) s (argumentBy sub names s o)
+  argumentBy-bounded : {s : List ℕ} (names : List (List ℕ)) (o : Out Inline) → Bounded n (λ _. 4) s o → Fits (run isNamePart s) o → Bounded n (λ _. 4) s (argumentBy sub names s o)
   unfolding argumentBy afterReference
   argumentBy-bounded {s} names (ok (message i false) ms k) (used u) f =
       let l = pastBlank-least k s in

@@ -2,94 +2,28 @@
 use Prim.Native.Nat.{ℕ, suc, _+_}
 use native.Mathlib.Nat.{zero-add}
 use native.Mathlib.Omega.{arith}
-use mathlib.Core.Path.{_≡_, refl}
+use mathlib.Core.Path.{_≡_, refl, sym, subst}
 use mathlib.Core.Bool.{Bool, true, false}
 use mathlib.Core.List.{List, [], _∷_}
 use mathlib.Core.Option.{some}
 use lib.ListN.{drop, take}
 use lib.Dec.{eqb}
 use Rattle.syntax.specs.Kind as Kind
-use Rattle.syntax.specs.Bytes.{startsWith, starts, run, isLetter, isDigit, isNamePart}
+use Rattle.syntax.specs.Bytes.{startsWith, run, isNamePart}
 use Rattle.syntax.specs.Marks.{Mark, textNode}
-use Rattle.syntax.specs.Reader.{Out, ok, bad, deep, after, next, _>>=_, _>>_, fail, wrap}
-use Rattle.syntax.specs.Helper.{skipBlank, getIdentifier}
+use Rattle.syntax.specs.Reader.{Out, ok, bad, deep, after, _>>_, fail, wrap}
+use Rattle.syntax.specs.Helper.{skipBlank}
 use Rattle.syntax.specs.Pattern.{Inside}
-use Rattle.syntax.specs.Expression.{Inline, string, number, variable, function, inner, message, term, inlineKind, asInline, stringLiteral, asString, getCallArguments, termReference, variableReference, referenceBy, reference, nestedPlaceable, noInline, nonLiteral, getInlineExpression, isAmong, isNone, separator, positional, namedValue, namedArgument, afterReference, pastBlank, argumentBy, argumentTurn, parenthesised}
+use Rattle.syntax.specs.Expression.{Inline, string, number, variable, function, inner, message, term, getInlineExpression, isAmong, isNone, separator, positional, namedValue, namedArgument, afterReference, pastBlank, argumentBy, argumentTurn, parenthesised}
 use Rattle.syntax.specs.Shape.{stepIn, stepBy, finalBy, models, among, step, final, opens, stay}
 use Rattle.laws.specs.Bytes.{pick}
-use Rattle.laws.specs.Answers.{Holds, holds-after, plain-next}
-use Rattle.laws.specs.Values.{number-value, variable-value, term-value, nested-value, referenceBy-value}
+use Rattle.laws.specs.Values.{Fits, inline-fits}
 use Rattle.laws.specs.Shape.Run.{run-text}
 use Rattle.laws.specs.Formed.Edge.{edge, edge-add}
 use Rattle.laws.specs.Formed.Reader.{Stand, at, ended, anywhere, Leads, by, closes, leads-nil, Made, made, stopped, tooDeep, after-made, wrap-made, Makes, node-makes, pure-makes, end-makes, next-made, then, TurnMade, ends, turnOf-made, repeat-makes}
 use Rattle.laws.specs.Formed.Helper.{edge-name, blank-makes, takeByteIf-makes, expectByte-makes}
 use Rattle.laws.specs.Formed.Pattern.{InsideFormed}
-use Rattle.laws.specs.Formed.Inline.{inline-makes}
-
--- a message reference's name ends at an edge
-abbrev Named : List ℕ → Inline → Type 0
-Named s string = Unit {0}
-Named s number = Unit {0}
-Named s variable = Unit {0}
-Named s function = Unit {0}
-Named s inner = Unit {0}
-Named s (message i a) = edge s i ≡ true
-Named s (term a) = Unit {0}
-
-module _ (sub : Inside) (s : List ℕ) where
-  abbrev Names : Out Inline → Type 0
-  Names o = Holds (λ a ms k. Named s a) o
-
-  reference-names : Names (reference sub s)
-  unfolding reference _>>=_ getIdentifier next fail
-  reference-names = pick {B = Out ℕ} (λ o. Names (next s rest o)) (starts isLetter s) _ _
-      (λ q. holds-after (λ a ns j. Named s a) (λ a ns j. Named s a) _ _ (λ a ns j h. h) (rest i r)
-      (plain-next (Named s) r (referenceBy s i) (getCallArguments sub r) (λ v r. referenceBy-value (Named s) tt i (λ a. edge-name s) s v r)))
-      (λ q. tt)
-    where
-      i : ℕ
-      i = run isNamePart s
-
-      r : List ℕ
-      r = drop i s
-
-      rest : ℕ → List ℕ → Out Inline
-      rest i = getCallArguments sub >>= referenceBy s i
-
-  asInline-names : (o : Out Inline) → Names o → Names (asInline o)
-  unfolding asInline
-  asInline-names (ok a ms k) h = h
-  asInline-names (bad f k) h = tt
-  asInline-names (deep k) h = tt
-
-  asString-names : (o : Out (Unit {0})) → Names (asString o)
-  unfolding asString
-  asString-names (ok u ms k) = tt
-  asString-names (bad f k) = tt
-  asString-names (deep k) = tt
-
-  noInline-names : (v : Bool) → Names (noInline v s)
-  unfolding noInline fail
-  noInline-names true = tt
-  noInline-names false = tt
-
-inline-names : (sub : Inside) (v : Bool) (s : List ℕ) → Names sub s (getInlineExpression sub v s)
-unfolding getInlineExpression nonLiteral
-inline-names sub v [] = noInline-names sub [] v
-inline-names sub v (b ∷ bs) =
-    pick N (eqb b 34) _ _ (λ q. asString-names sub s (stringLiteral s)) (λ q. pick N (isDigit b) _ _ (λ q. number-value (Named s) tt s)
-    (λ q. pick N (isLetter b) _ _ (λ q. asInline-names sub s (reference sub s) (reference-names sub s)) (λ q. pick N v _ _ (λ q. noInline-names sub s true)
-    (λ q. pick N (eqb b 45) _ _ (λ q. pick N (starts isLetter bs) _ _ (λ q. asInline-names sub s (termReference sub s) (term-value (Named s) sub (λ t. tt) s)) (λ q. number-value (Named s) tt s))
-    (λ q. pick N (eqb b 36) _ _ (λ q. asInline-names sub s (variableReference s) (variable-value (Named s) tt s))
-    (λ q. pick N (eqb b 123) _ _ (λ q. asInline-names sub s (nestedPlaceable sub s) (nested-value (Named s) sub tt s)) (λ q. noInline-names sub s false)))))))
-  where
-    s : List ℕ
-    s = b ∷ bs
-
-    N : Out Inline → Type 0
-    N = Names sub (b ∷ bs)
-
--- ---- arguments
+use Rattle.laws.specs.Formed.Inline.{inline-steps, inline-makes}
 
 -- before and after the first named one
 abbrev byNames : List (List ℕ) → Stand
@@ -110,17 +44,6 @@ pastBlank-edge j s e = go (skipBlank (drop j s)) (blank-makes {n = 0} {k = 0} {g
     go (bad f i) m = e
     go (deep i) m = e
 
--- where an inline expression stands in arguments, and as a named argument's value
-inline-steps : (a : Inline) → (step 25 0 (inlineKind a) ≡ some 0) × (step 26 1 (inlineKind a) ≡ some 2)
-unfolding inlineKind step stepBy stepIn models among
-inline-steps string = (refl, refl)
-inline-steps number = (refl, refl)
-inline-steps variable = (refl, refl)
-inline-steps function = (refl, refl)
-inline-steps inner = (refl, refl)
-inline-steps (message i a) = (refl, refl)
-inline-steps (term a) = (refl, refl)
-
 module _ {n : ℕ} {sub : Inside} (law : InsideFormed n sub) where
   separator-makes : (names : List (List ℕ)) → Makes n 25 (byNames names) byNames (separator names)
   unfolding separator
@@ -133,7 +56,7 @@ module _ {n : ℕ} {sub : Inside} (law : InsideFormed n sub) where
 
   namedValue-makes : Makes n 26 (at 1) (λ _. ended) (namedValue sub)
   unfolding namedValue final finalBy models among
-  namedValue-makes = end-makes {t = 2} refl (then (expectByte-makes 58 refl) (then blank-makes (inline-makes law (λ a. inline-steps a .1) true)))
+  namedValue-makes = end-makes {t = 2} refl (then (expectByte-makes 58 refl) (then blank-makes (inline-makes law (λ a. inline-steps a .3) true)))
 
   named-made : (names : List (List ℕ)) (i j : ℕ) (s : List ℕ) → edge s i ≡ true → edge s j ≡ true → Made n 25 (byNames names) byNames s (namedArgument sub names i j s)
   named-made names i j s e f = from names (λ q z. unfold namedArgument _>>_ in
@@ -147,11 +70,11 @@ module _ {n : ℕ} {sub : Inside} (law : InsideFormed n sub) where
       from [] m = unfold step stepBy stepIn models among in (m 0 refl)
       from (x ∷ xs) m = unfold step stepBy stepIn models among in (m 1 refl)
 
-  argumentBy-made : (names : List (List ℕ)) (s : List ℕ) (o : Out Inline) → Made n 25 (at 0) (λ _. at 0) s o → Holds (λ a ms j. Named s a) o → Made n 25 (byNames names) byNames s (argumentBy sub names s o)
+  argumentBy-made : (names : List (List ℕ)) (s : List ℕ) (o : Out Inline) → Made n 25 (at 0) (λ _. at 0) s o → Fits (run isNamePart s) o → Made n 25 (byNames names) byNames s (argumentBy sub names s o)
   unfolding argumentBy afterReference
   argumentBy-made names s (ok (message i false) ms j) (made e l) h =
       let p = pastBlank j s in
-      pick (Made n 25 (byNames names) byNames s) (startsWith 58 (drop p s)) _ _ (λ q. named-made names i p s h (pastBlank-edge j s e)) (λ q. positional-made names p s (pastBlank-edge j s e) l)
+      pick (Made n 25 (byNames names) byNames s) (startsWith 58 (drop p s)) _ _ (λ q. named-made names i p s (subst (λ i. edge s i ≡ true) (sym (h .1)) (edge-name s)) (pastBlank-edge j s e)) (λ q. positional-made names p s (pastBlank-edge j s e) l)
   argumentBy-made names s (ok (message i true) ms j) (made e l) h = positional-made names j s e l
   argumentBy-made names s (ok string ms j) (made e l) h = positional-made names j s e l
   argumentBy-made names s (ok number ms j) (made e l) h = positional-made names j s e l
@@ -166,7 +89,7 @@ module _ {n : ℕ} {sub : Inside} (law : InsideFormed n sub) where
   unfolding argumentTurn edge
   turn-made names [] = ends (made refl (names-end names))
   turn-made names (b ∷ bs) = pick (TurnMade n 25 (byNames names) byNames (λ _. ended) (b ∷ bs)) (eqb b 41) _ _ (λ q. ends (made refl (names-end names)))
-      (λ q. turnOf-made (argumentBy-made names (b ∷ bs) (getInlineExpression sub false (b ∷ bs)) (inline-makes law (λ a. inline-steps a .0) false .on (b ∷ bs)) (inline-names sub false (b ∷ bs))))
+      (λ q. turnOf-made (argumentBy-made names (b ∷ bs) (getInlineExpression sub false (b ∷ bs)) (inline-makes law (λ a. inline-steps a .2) false .on (b ∷ bs)) (inline-fits sub false (b ∷ bs))))
 
   pub parenthesised-makes : (k q r : ℕ) → step k q Kind.arguments ≡ some r → Makes (suc n) k (at q) (λ _. at r) (parenthesised sub)
   unfolding parenthesised Kind.isText opens among

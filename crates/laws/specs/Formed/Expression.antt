@@ -20,19 +20,8 @@ use Rattle.laws.specs.Formed.Edge.{edge, edge-add, edge-byte}
 use Rattle.laws.specs.Formed.Reader.{Stand, at, ended, anywhere, by, closes, leads-nil, leads-after, leads-end, leads-node, Made, made, stopped, tooDeep, after-made, Makes, node-makes, pure-makes, fail-makes, forget, bind, then, TurnMade, goes, ends, turnOf-made, repeat-makes}
 use Rattle.laws.specs.Formed.Helper.{spaces-makes, eol-makes, blank-makes, expectByte-makes, numberLiteral-makes, identifier-makes}
 use Rattle.laws.specs.Formed.Pattern.{InsideFormed, pattern-makes}
-use Rattle.laws.specs.Formed.Inline.{inline-makes}
+use Rattle.laws.specs.Formed.Inline.{inline-steps, inline-makes}
 use Rattle.laws.specs.Formed.Argument.{parenthesised-makes}
-
--- where an inline expression stands in a placeable, and in a select
-inline-steps : (a : Inline) → (step 13 0 (inlineKind a) ≡ some 1) × (step 14 0 (inlineKind a) ≡ some 1)
-unfolding inlineKind step stepBy stepIn models among
-inline-steps string = (refl, refl)
-inline-steps number = (refl, refl)
-inline-steps variable = (refl, refl)
-inline-steps function = (refl, refl)
-inline-steps inner = (refl, refl)
-inline-steps (message i a) = (refl, refl)
-inline-steps (term a) = (refl, refl)
 
 module _ {n k : ℕ} where
   needsValue-makes : (q r : ℕ) → final k r ≡ true → (v : Bool) → Makes n k (at (elim v [ true ↦ r | false ↦ q ])) (λ _. ended) (needsValue v)

@@ -25,6 +25,17 @@ use Rattle.laws.specs.Formed.Helper.{blank-makes, expectByte-makes, numb
 use Rattle.laws.specs.Formed.Pattern.{InsideFormed}
 use Rattle.laws.specs.Formed.String.{string-made}
 
+-- where an inline expression may stand: in a placeable, a select, arguments, a named argument
+pub inline-steps : (a : Inline) → (step 13 0 (inlineKind a) ≡ some 1) × (step 14 0 (inlineKind a) ≡ some 1) × (step 25 0 (inlineKind a) ≡ some 0) × (step 26 1 (inlineKind a) ≡ some 2)
+unfolding inlineKind step stepBy stepIn models among
+inline-steps string = (refl, refl, refl, refl)
+inline-steps number = (refl, refl, refl, refl)
+inline-steps variable = (refl, refl, refl, refl)
+inline-steps function = (refl, refl, refl, refl)
+inline-steps inner = (refl, refl, refl, refl)
+inline-steps (message i a) = (refl, refl, refl, refl)
+inline-steps (term a) = (refl, refl, refl, refl)
+
 -- what is said of the content of an inline node of the kind k, if the value is of that kind
 unfoldable pub inKind : ℕ → Inline → Stand
 inKind k a = elim (eqb (inlineKind a) k) [ true ↦ ended | false ↦ anywhere ]
