@@ -16,7 +16,7 @@ use Rattle.syntax.specs.Layout as Layout
 use Rattle.syntax.specs.Layout.{hasPlace, marksIn, groupSize}
 use Rattle.syntax.specs.Reading.{readAnswer, treeAfter, errorsAfter}
 use Rattle.syntax.specs.Serializer.{serialize}
-use Rattle.syntax.specs.Cut.{Exception, between}
+use Rattle.cut.specs.Parts.{Exception, between}
 
 -- Trees and error lists, as document 01 compares them.
 

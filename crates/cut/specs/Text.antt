@@ -28,7 +28,7 @@ use Rattle.cut.specs.Text.Source.{resource-same}
 use Rattle.cut.specs.Text.Piece.{Ends, resource-ends, wroteAll, wrote-ends, resource-append, Opening, opensNodes, opened-text}
 use Rattle.cut.specs.Text.Listing.{none-read, entries-ends, ends-up, entries-opening}
 use Rattle.cut.specs.Tree.{CutTree, cut-tree, start, from-start, from-length, first-part, second-part}
-use Rattle.syntax.specs.Cut.{opensFree, between, Readings, Parts}
+use Rattle.cut.specs.Parts.{opensFree, between, Readings, Parts}
 
 places-ok : (k : ℕ) (ms : List Mark) → Places k ms → OkMarks (λ p. p ≤ k) ms
 places-ok k [] u = tt

@@ -12,8 +12,8 @@ use Rattle.syntax.specs.Marks.{Mark, plain, placed, kindOf, moveUp}
 use Rattle.syntax.specs.Core.{Error, upError, read, parse}
 use Rattle.syntax.specs.Layout.{treeCapacity, treeLayout, errorLayout, marksIn}
 use Rattle.syntax.specs.Serializer.{serialize}
-use Rattle.syntax.specs.Cut as Cut
-use Rattle.syntax.specs.Cut.{Exception, Parts, between}
+use Rattle.cut.specs.Parts as Parts
+use Rattle.cut.specs.Parts.{Exception, Parts, between}
 use Rattle.laws.specs.Bounds.{Uses}
 use Rattle.laws.specs.File.{parse-read}
 use Rattle.laws.specs.Layout.{Proper, AllProper, proper-append, tree-marks}
@@ -31,7 +31,7 @@ proper-up n (plain k ∷ ms) p = (p .0, proper-up n ms (p .1))
 proper-up n (placed k q ∷ ms) p = (p .0, proper-up n ms (p .1))
 
 gap-is : (ma mb : List Mark) → between ma mb ≡ gap (map kindOf ma) (map kindOf mb)
-unfolding between Cut.opensFree gap opensFree
+unfolding between Parts.opensFree gap opensFree
 gap-is [] mb = refl
 gap-is (m ∷ ma) [] = refl
 gap-is (m ∷ ma) (n ∷ mb) = refl

@@ -26,9 +26,10 @@ use Rattle.laws.specs.Stable.Expression.{level-law}
 use Rattle.laws.specs.Moving.{moveUp-append, moveUp-twice, moveUp-zero, upErrors-twice, upErrors-zero}
 use Rattle.laws.specs.Lines.Lands.{block-lands}
 use Rattle.laws.specs.File.{entries-more}
-use Rattle.laws.specs.Entries.{lastLine-drop, Tail, tail-of, following-read, read-read, map-nil, weight, weight-append, weight-up, block-fresh}
+use Rattle.laws.specs.Entries.{following-read, read-read, map-nil, weight, weight-append, weight-up, block-fresh}
+use Rattle.cut.specs.LastLine.{lastLine-drop, Tail, tail-of}
 use Rattle.cut.specs.Tree.Join.{Joint, join, used-of, no-exc}
-use Rattle.syntax.specs.Cut.{lastLine, hashes, Joins, Exception, Readings}
+use Rattle.cut.specs.Parts.{lastLine, hashes, Joins, Exception, Readings}
 
 -- the uncut file's tree is that of the parts joined, but for the exception; its errors are the second part's, moved up
 pub record CutTree (n : ℕ) (A B : List ℕ) (ma mb mab : List Mark) (eb eab : List Error) : Type 0 where

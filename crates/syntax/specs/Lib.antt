@@ -20,4 +20,3 @@ pub mod ShapeTable
 pub mod Writing
 pub mod Listing
 pub mod Table
-pub mod Cut

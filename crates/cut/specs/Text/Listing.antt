@@ -29,7 +29,7 @@ use Rattle.laws.specs.Bounds.Entry.{entry-bounds}
 use Rattle.laws.specs.File.{Small, small-of, kind-le}
 use Rattle.laws.specs.Balanced.Nodes.{nodeOf, nodes-node, nodes-text, upNode, nodes-up}
 use Rattle.cut.specs.Text.Piece.{Ends, Opening, opensNodes, isFree}
-use Rattle.syntax.specs.Cut.{opensFree}
+use Rattle.cut.specs.Parts.{opensFree}
 
 kind-low : (e : Entry) (v : Bool) → Small e → v ≡ false → kindOfEntry e v ≤ 5
 unfolding kindOfEntry

@@ -30,8 +30,9 @@ use Rattle.laws.specs.Stable.Comment.{after-ok, OneLine, Cutting, before, newli
 use Rattle.laws.specs.Lines.Join.{Own, Other, own-or-other}
 use Rattle.laws.specs.Lines.Lands.{Lands, whole-lands, block-lands, entry-lands}
 use Rattle.laws.specs.File.{entries-more}
-use Rattle.laws.specs.Entries.{lastLine-at, lastLine-drop, Tail, tail-of, following-read, read-read, map-nil, weight, weight-append, weight-up, weight-node, entries-with, junk-free, not-deep, Step, step-of, block-fresh, block-ten, block-two, block-one, entry-comment, hash-named, nil-named, nil-entry, not-dotted}
-use Rattle.syntax.specs.Cut.{lastLine, hashes, Joins}
+use Rattle.laws.specs.Entries.{following-read, read-read, map-nil, weight, weight-append, weight-up, weight-node, entries-with, junk-free, not-deep, Step, step-of, block-fresh, block-ten, block-two, block-one, entry-comment, hash-named, nil-named, nil-entry, not-dotted}
+use Rattle.cut.specs.LastLine.{lastLine-at, lastLine-drop, Tail, tail-of}
+use Rattle.cut.specs.Parts.{lastLine, hashes, Joins}
 
 pub asComment-ok : (o : Out ℕ) (e : Entry) (ms : List Mark) (k : ℕ) → asComment o ≡ ok e ms k → (l : ℕ) × (e ≡ comment l) × (o ≡ ok l ms k)
 unfolding asComment

@@ -1,0 +1,5 @@
+-- What the proofs of the functions share.
+pub mod Table
+pub mod Marks
+pub mod Stack
+pub mod Check

@@ -1,0 +1,3 @@
+-- What the contracts of the shape check cite.
+pub mod Models
+pub mod Shape
