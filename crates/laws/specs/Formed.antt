@@ -11,7 +11,7 @@ pub mod Argument
 pub mod Expression
 pub mod Entry
 pub mod Entries
-use Prim.Native.Nat.{ℕ, suc}
+use Prim.Native.Nat.{ℕ, suc, _≤_}
 use native.Mathlib.Nat.{zero-add}
 use native.Mathlib.Omega.{arith}
 use mathlib.Core.Path.{_≡_, refl, subst}
@@ -27,12 +27,14 @@ use Rattle.syntax.specs.Core.{Error, Reading, read, refused, following, entries
 use Rattle.syntax.specs.Shape.{finalBy, models, among, final, Run, WellFormed, verdict}
 use Rattle.laws.specs.Bytes.{clash}
 use Rattle.laws.specs.Moving.{moveUp-zero}
-use Rattle.laws.specs.Layout.{AllProper, forest-proper}
+use Rattle.laws.specs.Balanced.{Levels, run-levels}
+use Rattle.laws.specs.Balanced.Nodes.{OkMarks, run-ok}
+use Rattle.laws.specs.Layout.{AllProper, known-proper}
 use Rattle.laws.specs.Bounds.Expression.{level-bounds}
-use Rattle.laws.specs.File.{entries-read, leading, parse-read}
-use Rattle.laws.specs.Shape.Run.{run-moved, formed-moved}
+use Rattle.laws.specs.File.{entries-read, leading}
+use Rattle.laws.specs.Shape.Run.{run-moved, formed-moved, run-known}
 use Rattle.laws.specs.Shape.Verdict.{accepts}
-use Edge.{edge, edge-add, edge-boundary}
+use Edge.{edge, edge-le, edge-add, edge-boundary}
 use Helper.{block-edge}
 use Expression.{level-formed}
 use Entries.{passed-run}
@@ -56,8 +58,16 @@ module _ (n : ℕ) (s : List ℕ) (ms : List Mark) (es : List Error) where
   pub formed-utf8 : Utf8.WellFormed s → parse n s ≡ read ms es → WellFormed (isBoundary s) n ms
   formed-utf8 w e = subst (WellFormed (isBoundary s) n) (moveUp-zero ms) (formed-moved (edge s) (isBoundary s) 0 (λ a g. rw zero-add (edge-boundary s w a g)) (formed e))
 
+  -- T kinds, and no others, have places, within the file
   pub proper : parse n s ≡ read ms es → AllProper ms
-  proper e = forest-proper (parse-read n s e .0 .forest)
+  proper e = known-proper ms (run-known (formed e .run))
+
+  pub places : parse n s ≡ read ms es → OkMarks (λ p. p ≤ length s) ms
+  places e = run-ok (λ p. p ≤ length s) (edge-le s) (formed e .run)
+
+  -- every node that opens closes
+  pub balanced : parse n s ≡ read ms es → Levels 0 ms
+  balanced e = run-levels (formed e .run)
 
   -- the writer's check finds nothing wrong
   pub verdict-none : Utf8.WellFormed s → parse n s ≡ read ms es → verdict (isBoundary s) n ms ≡ none

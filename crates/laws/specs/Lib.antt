@@ -10,7 +10,7 @@ pub mod Answers
 pub mod Values
 -- `repeat` is a turn, and then `repeat`
 pub mod Loop
--- marks make nodes; T kinds alone have places
+-- the nodes that marks make
 pub mod Balanced
 -- every answer is within the bytes there are, with eight marks at most for each, and too deep only past as many openings as are allowed
 pub mod Bounds

@@ -19,6 +19,7 @@ use Rattle.syntax.specs.Core.{getAttribute, attributeBy, attributeTurn, getAttr
 use Rattle.syntax.specs.Shape.{stepIn, stepBy, finalBy, models, among, step, final, opens, Run, stay, Content}
 use Rattle.laws.specs.Bytes.{byCase, pick}
 use Rattle.laws.specs.Answers.{Holds}
+use Rattle.laws.specs.Balanced.{Levels, run-levels}
 use Rattle.laws.specs.Bounds.Entry.{junkEnd-within}
 use Rattle.laws.specs.Formed.Edge.{ascii, clear, edge, edge-add, edge-clear, ascii-of, edge-byte, edge-spaces}
 use Rattle.laws.specs.Formed.Reader.{Stand, at, ended, anywhere, by, closes, leads-nil, leads-after, leads-content, Made, made, stopped, tooDeep, Makes, node-makes, pure-makes, forget, bind, then, TurnMade, goes, ends, repeat-makes}
@@ -123,6 +124,16 @@ module _ {n : ℕ} {sub : Inside} (law : InsideFormed n sub) where
   unfolding getEntry
   entry-formed s = pick (Formed s) (startsWith 35 s) _ _ (λ q. asComment-formed s (getComment s) (λ k z. comment-makes z .on s))
       (λ q. pick (Formed s) (startsWith 45 s) _ _ (λ q. asTerm-formed s (termFields sub s) (term-makes law .on s)) (λ q. asMessage-formed s (fields sub s) (message-makes law .on s)))
+
+  -- every node that an entry's marks open closes
+  pub entry-levels : (s : List ℕ) {e : Entry} {ms : List Mark} {k : ℕ} → getEntry sub s ≡ ok e ms k → Levels 0 ms
+  unfolding step stepBy stepIn models among
+  entry-levels s {e} {ms} h = go e (subst (Formed s) h (entry-formed s) .1)
+    where
+      go : (e : Entry) → Inner n s e ms → Levels 0 ms
+      go message c = run-levels (c .run)
+      go term c = run-levels (c .run)
+      go (comment l) c = run-levels (c 3 refl)
 
 -- ---- junk
 

@@ -2,20 +2,22 @@
 use Prim.Native.Nat.{ℕ, zero, suc, _+_}
 use native.Mathlib.Nat.{zero-add}
 use native.Mathlib.Omega.{arith}
-use mathlib.Core.Path.{_≡_, refl}
+use mathlib.Core.Path.{_≡_, refl, subst}
 use mathlib.Core.Bool.{Bool, true, false, _&&_, _||_}
-use mathlib.Core.List.{List}
+use mathlib.Core.List.{List, [], _∷_, _++_}
 use mathlib.Core.Option.{some}
 use lib.ListN.{drop}
 use lib.Dec.{eqb}
 use Rattle.syntax.specs.Kind as Kind
 use Rattle.syntax.specs.Bytes.{startsWith, starts, second, isDigit}
+use Rattle.syntax.specs.Marks.{Mark, plain, node}
 use Rattle.syntax.specs.Reader.{Out, ok, bad, deep, _>>=_, pure, wrap, inNode, Turn}
 use Rattle.syntax.specs.Pattern.{Inside, getPattern}
 use Rattle.syntax.specs.Expression.{Inline, string, number, variable, function, inner, message, term, inlineKind, keyText, getVariantKey, needsValue, variant, variantKind, endVariants, variantWith, afterStar, turnAfter, variantTurn, getVariants, selector, alone, needsLineEnd, selectFrom, afterInline, inSelect, inlineOrSelect, getExpression, braced, level}
 use Rattle.syntax.specs.Expression as Expression
 use Rattle.syntax.specs.Shape.{stepIn, stepBy, finalBy, models, among, step, final, opens, stay}
 use Rattle.laws.specs.Bytes.{pick}
+use Rattle.laws.specs.Shape.Run.{AllKnown, run-known}
 use Rattle.laws.specs.Formed.Edge.{edge, edge-add, edge-byte}
 use Rattle.laws.specs.Formed.Reader.{Stand, at, ended, anywhere, by, closes, leads-nil, leads-after, leads-end, leads-node, Made, made, stopped, tooDeep, after-made, Makes, node-makes, pure-makes, fail-makes, forget, bind, then, TurnMade, goes, ends, turnOf-made, repeat-makes}
 use Rattle.laws.specs.Formed.Helper.{spaces-makes, eol-makes, blank-makes, expectByte-makes, numberLiteral-makes, identifier-makes}
@@ -139,3 +141,15 @@ level-formed (suc n) = record {
   braced = λ k q r z. let o : opens 13 + n ≡ suc n = omega arith in node-makes 13 refl z o (braced-makes (level-formed n));
   parenthesised = parenthesised-makes (level-formed n);
 }
+
+-- what stands in a placeable's braces has marks of known kinds
+pub braced-known : {n : ℕ} {sub : Inside} → InsideFormed n sub → (s : List ℕ) {u : Unit {0}} {ms : List Mark} {k : ℕ} → sub .braced s ≡ ok u ms k → AllKnown ms
+unfolding inNode wrap node step stepBy stepIn models among
+braced-known {n} {sub} law s {u} {ms} {k} e = front ms (plain 113 ∷ []) (run (subst (λ o. Made n 11 (at 0) (λ _. at 0) s (wrap 13 o)) e (law .braced 11 0 0 refl .on s)) .1)
+  where
+    run : Made n 11 (at 0) (λ _. at 0) s (ok u (node 13 ms) k) → AllKnown (node 13 ms)
+    run (made d (by w)) = run-known w
+
+    front : (ms ns : List Mark) → AllKnown (ms ++ ns) → AllKnown ms
+    front [] ns k = tt
+    front (m ∷ ms) ns k = (k .0, front ms ns (k .1))
