@@ -40,9 +40,10 @@ def error(line):
             f' junkFrom = {junk}; junkTill = {till} }}')
 
 
-def unfolding(specs):
+def unfolding(specs, modules):
+    """The line that opens every definition of the modules, each named MODULEOf."""
     names = []
-    for module in DEFINITIONS:
+    for module in modules:
         text = open(os.path.join(specs, module + '.antt')).read()
         found = re.findall(r'unfoldable pub (\S+)(?: \{[^}]*\})? :', text)
         if 'unfoldable mutual' in text:
@@ -87,6 +88,29 @@ use mathlib.Core.List.{List, [], _∷_}
     f'use {SPECS}Marks.{{plain, placed}}\nuse {SPECS}Core.{{read, refused}}\n\n')
 
 
+def unproved(crates, crate, text):
+    """Checks a module of rows in a scratch copy of the crates, the last of them `crate`; prints and counts what does not hold."""
+    with tempfile.TemporaryDirectory() as scratch:
+        lines = [l for l in open(os.path.join(ROOT, 'crates.txt')) if l.split(':')[0] in crates]
+        open(os.path.join(scratch, 'crates.txt'), 'w').write(''.join(lines))
+        for name in crates:
+            shutil.copytree(os.path.join(ROOT, 'crates', name), os.path.join(scratch, 'crates', name),
+                            ignore=shutil.ignore_patterns('must-fail'))
+        specs = os.path.join(scratch, 'crates', crate, 'specs')
+        open(os.path.join(specs, 'Rows.antt'), 'w').write(text)
+        open(os.path.join(specs, 'Lib.antt'), 'a').write('pub mod Rows\n')
+        run = subprocess.run(['rt', 'dev', crate], cwd=scratch, capture_output=True, text=True)
+        out = run.stdout + run.stderr
+        errors = [l for l in out.split('\n') if 'error:' in l]
+        for l in errors[:10]:
+            at = re.search(r'Rows\.antt:(\d+):', l)
+            print(l, *([text.split('\n')[int(at.group(1)) - 4:int(at.group(1))]] if at else []), sep='\n  ')
+        if not errors and 'logic=proved' not in out.split('\n')[-2] + out.split('\n')[-1]:
+            print('\n'.join(out.split('\n')[-15:]))
+            return 1
+        return len(errors)
+
+
 def main():
     args = argparse.ArgumentParser()
     args.add_argument('--oracle', default=os.path.join(ROOT, '../shared/oracle/target/release/oracle'))
@@ -96,30 +120,15 @@ def main():
     sources = [l.strip() for l in sys.stdin]
     answers = subprocess.run([args.oracle, 'batch'], input='\n'.join(sources) + '\n', capture_output=True, text=True,
                              check=True).stdout.split('\n')
+    unfold = unfolding(os.path.join(ROOT, 'crates/syntax/specs'), DEFINITIONS)
     total = wrong = 0
     for start in range(0, len(sources), args.rows):
-        with tempfile.TemporaryDirectory() as scratch:
-            for crate in ('syntax',):
-                shutil.copytree(os.path.join(ROOT, 'crates', crate), os.path.join(scratch, 'crates', crate),
-                                ignore=shutil.ignore_patterns('must-fail'))
-            open(os.path.join(scratch, 'crates.txt'), 'w').write('syntax:\n')
-            specs = os.path.join(scratch, 'crates/syntax/specs')
-            text, count = rows(sources[start:start + args.rows], answers[start:start + args.rows], args.texts, unfolding(specs))
-            open(os.path.join(specs, 'Rows.antt'), 'w').write(HEAD + text)
-            open(os.path.join(specs, 'Lib.antt'), 'a').write('pub mod Rows\n')
-            run = subprocess.run(['rt', 'dev', 'syntax'], cwd=scratch, capture_output=True, text=True)
-            out = run.stdout + run.stderr
-            errors = [l for l in out.split('\n') if 'error:' in l]
-            if errors or 'logic=proved' not in out:
-                shown = open(os.path.join(specs, 'Rows.antt')).read().split('\n')
-                for l in errors[:10]:
-                    at = re.search(r'Rows\.antt:(\d+):', l)
-                    print(l, *([shown[int(at.group(1)) - 4:int(at.group(1))]] if at else []), sep='\n  ')
-                print('\n'.join(out.split('\n')[-15:]))
-                wrong += max(1, len(errors))
-            total += count
+        text, count = rows(sources[start:start + args.rows], answers[start:start + args.rows], args.texts, unfold)
+        wrong += unproved(('utf8', 'syntax'), 'syntax', HEAD + text)
+        total += count
         print(f'{total} rows, {wrong} wrong', flush=True)
     sys.exit(1 if wrong else 0)
 
 
-main()
+if __name__ == '__main__':
+    main()

@@ -1,9 +1,8 @@
 -- Readers at places of the source: one after the other, as the definitions have them.
 -- An answer of the code is taken apart into `Found`, `Lost` or `Far` of the definition's answer, and made of one.
-use Prim.Native.Nat.{ℕ, zero, suc, _+_, _*_, _≤_, _<_}
+use Prim.Native.Nat.{ℕ, _+_}
 use mathlib.Core.Path.{_≡_, refl, sym, ap, ap₂, _∙_}
 use mathlib.Core.List.{List, [], _∷_, _++_, map}
-use mathlib.Core.Bool.{Bool, true, false}
 use mathlib.Core.Logic.{⊎-elim}
 use native.Mathlib.Nat.{add-zero, add-assoc}
 use native.Mathlib.Omega.{arith}
@@ -16,12 +15,13 @@ use Rattle.syntax.specs.declared.errors.ErrorKind.{ErrorKind}
 use Rattle.syntax.specs.declared.errors.ParserError.{ParserError}
 use Rattle.syntax.specs.Errors.{upKind, upFault, faultAt}
 use Rattle.syntax.specs.Marks.{Mark, plain, moveUp, node, textNode}
-use Rattle.syntax.specs.Reader.{Out, ok, bad, deep, Reader, after, next, _>>=_, _>>_, pure, fail, wrap, inNode}
+use Rattle.syntax.specs.Reader.{Out, ok, bad, deep, Reader, after, next, _>>=_, _>>_, pure, fail, wrap, Turn, again, repeat}
+use Rattle.laws.specs.Loop.{Moves, repeat-again}
 use Rattle.laws.specs.Moving.{map-append, moveUp-append, moveUp-twice, after-after}
 use Rattle.parser.specs.Tree.{Word, word, wordOf, wordsAt, Step}
 use Rattle.parser.specs.Did.{Says, reading, answer, marksOf, Did}
 use Rattle.parser.specs.declared.marks.Read.{Read}
-use Rattle.parser.specs.declared.marks.Read.the-variants.{Ok, Bad, Deep}
+use Rattle.parser.specs.declared.marks.Read.the-variants.{Ok}
 use Rattle.parser.proofs.marks.Read.{the-type}
 use Rattle.parser.proofs.Steps.{step-none, step-cut, step-then}
 
@@ -71,6 +71,14 @@ did-after {A} {R} {w} {cap} {at} {n} {t} {t₁} {t₂} {r} ms k o s d = record {
     go (ok a ns j) v = rw (words-append, words-up) (step-then s len v)
     go (bad f j) v = rw words-none (step-cut (step-then s len v))
     go (deep j) v = rw words-none (step-cut (step-then s len v))
+
+-- a turn of a loop that goes on, then the loop from there
+pub did-again : {S A R : Type 0} {w : Says A R} {cap at n a n′ : ℕ} {t t₁ t₂ : List ℕ} {r : R} {turn : S → List ℕ → Turn S A} (m : Moves turn) (s : List ℕ) (st : S) {st′ : S} {ms : List Mark} {k : ℕ}
+    → turn st (drop at s) ≡ again st′ ms k → a ≡ at + k → n′ ≡ n + length ms → Step cap n t t₁ (wordsAt at ms) → Did w cap a n′ t₁ t₂ r (repeat turn st′ (drop a s))
+    → Did w cap at n t t₂ r (repeat turn st (drop at s))
+did-again {w = w} {cap} {at} {n} {t₁ = t₁} {t₂} {r} {turn} m s st {st′} {ms} {k} h e c o d =
+    let d′ : Did w cap (at + k) (n + length ms) t₁ t₂ r (repeat turn st′ (drop (at + k) s)) = rw (e, c) at d in
+    rw (repeat-again m st (drop at s) h, drop-drop) (did-after ms k (repeat turn st′ (drop (at + k) s)) o d′)
 
 -- ---- what the definition answered: the code went on at a with n′ marks
 pub record Found {A : Type 0} (cap at n a n′ : ℕ) (t t₁ : List ℕ) (o : Out A) : Type 0 where
@@ -227,13 +235,13 @@ pub found-as : {A B : Type 0} {cap at n a n′ : ℕ} {t t₁ : List ℕ} {o : O
 found-as f y g = record { value = y; ms = f .ms; k = f .k; is = g (f .is); place = f .place; count = f .count; wrote = f .wrote }
 
 -- ---- texts and nodes
-text-words : (at a k kind : ℕ) → a ≡ at + k → wordsAt at (textNode kind 0 k) ≡ word kind at ∷ word (closing kind) a ∷ []
+pub text-placed : (at a e from till kind : ℕ) → a ≡ at + from → e ≡ at + till → wordsAt at (textNode kind from till) ≡ word kind a ∷ word (closing kind) e ∷ []
 unfolding wordsAt moveUp textNode
-text-words at a k kind e = rw (e, add-zero)
+text-placed at a e from till kind p q = rw (p, q)
 
 pub found-text : {A : Type 0} {cap at n n′ a k kind : ℕ} {t t₁ : List ℕ} {o : Out A} {x : A} → o ≡ ok x (textNode kind 0 k) k → a ≡ at + k → n′ ≡ n + 2 → Step cap n t t₁ (word kind at ∷ word (closing kind) a ∷ []) → Found cap at n a n′ t t₁ o
 unfolding textNode
-found-text {at = at} {a = a} {k} {kind} {x = x} e h c s = record { value = x; ms = textNode kind 0 k; k = k; is = e; place = h; count = c; wrote = rw (text-words at a k kind h) s }
+found-text {at = at} {a = a} {k} {kind} {x = x} e h c s = record { value = x; ms = textNode kind 0 k; k = k; is = e; place = h; count = c; wrote = rw (text-placed at at a 0 k kind (sym (add-zero at)) h) s }
 
 node-words : (at kind : ℕ) (ms : List Mark) → wordsAt at (node kind ms) ≡ word kind 0 ∷ (wordsAt at ms ++ (word (closing kind) 0 ∷ []))
 unfolding wordsAt moveUp node

@@ -48,6 +48,14 @@ pub record Room (s t : List ℕ) (cap at n k : ℕ) : Type 0 where
   pub holds : 8 * length s ≤ cap
   pub layout : 2 + 2 * cap ≤ length t
 
+-- the same of a reader of an entry, whose opening mark stands already
+pub record Entered (s t : List ℕ) (cap at n : ℕ) : Type 0 where
+  pub inside : at ≤ length s
+  pub spent : n ≤ 8 * at + 1
+  pub short : length s ≤ 1000000
+  pub holds : 8 * length s ≤ cap
+  pub layout : 2 + 2 * cap ≤ length t
+
 -- where a reader's result lies: inside the source, past `at`; its marks and c more are at most eight for each byte that was used
 abbrev pub Kept : ℕ → List ℕ → ℕ → ℕ → Read → Type 0
 Kept c s at n (Ok a m) = (at ≤ a) × (a ≤ length s) × (n ≤ m) × (m + c + 8 * at ≤ n + 8 * a)

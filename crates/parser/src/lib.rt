@@ -6,5 +6,6 @@ pub mod helper;
 pub mod layout;
 pub mod list;
 pub mod marks;
+pub mod pattern;
 pub mod string;
 pub mod text;

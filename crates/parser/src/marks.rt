@@ -2,6 +2,7 @@
 ghost use Prim.Native.Nat.{_+_, _*_, _≤_, _<_, _^_};
 ghost use mathlib.Core.Path.{_≡_};
 ghost use mathlib.Core.List.{[], _∷_};
+ghost use lib.ListN.{length, set};
 ghost use Rattle.syntax.specs.Kind.{closing};
 ghost use Rattle.parser.specs.Tree.{word, Step, Fits, Inserted};
 ghost use Rattle.parser.specs.Did.{Closable, Closed};
@@ -11,6 +12,15 @@ use syntax::errors::ParserError;
 // stopped; or the place of an opening that nests too deep.
 pub enum Read {
     Ok(usize, usize),
+    Bad(ParserError, usize),
+    Deep(usize),
+}
+
+// What a reader of an entry answers: as `Read`, with what the entry is. A comment has its level.
+pub enum ReadEntry {
+    Message(usize, usize),
+    Term(usize, usize),
+    Comment(usize, usize, usize),
     Bad(ParserError, usize),
     Deep(usize),
 }
@@ -43,6 +53,15 @@ pub fn put_text(
 {
     let m = put(tree, cap, n, kind, start);
     put(tree, cap, m, 100 + kind, end)
+}
+
+// Changes the kind of the i-th mark.
+pub fn set_kind(tree: &mut [u32], i: usize, kind: u32)
+    requires { ⌜ i + 2 < length (now tree) ⌝ }
+    ensures { λ r. ⌜ now (tree .exit) ≡ set (now (tree .entry)) (i + 2) kind ⌝ }
+{
+    let at = i + 2;
+    tree[at] = kind;
 }
 
 // Puts a mark without a place before those from the i-th of n on, which move up by one.

@@ -14,7 +14,8 @@ use Rattle.utf8.specs.Utf8.{isBoundary}
 use Rattle.syntax.specs.Marks.{Mark}
 use Rattle.syntax.specs.Layout.{count, capacity, kinds, places, markOf, marksBy, marksIn}
 use Rattle.syntax.specs.Writing.{sizesFit}
-use Rattle.syntax.specs.Shape.{maxOpen, between, stepMark, mayEnd, judge, verdict}
+use Rattle.syntax.specs.Limits.{maxOpen}
+use Rattle.syntax.specs.Shape.{between, stepMark, mayEnd, judge, verdict}
 use Rattle.syntax.specs.Shape as Definition
 use Rattle.laws.specs.Shape.Check.{Holds, holds-between}
 use Rattle.laws.specs.Shape.Bound.{mostFrames, Small, small-initial}

@@ -10,7 +10,8 @@ use lib.ListN.{length, getD, set}
 use lib.Seq.{getD-set-same, getD-set-other}
 use Rattle.syntax.specs.Kind as Kind
 use Rattle.syntax.specs.Marks.{Mark, plain}
-use Rattle.syntax.specs.Shape.{start, maxOpen, among, step, final, opens, Frame, frame, between, within, needs, enter, leave, stepMark}
+use Rattle.syntax.specs.Limits.{maxOpen}
+use Rattle.syntax.specs.Shape.{start, among, step, final, opens, Frame, frame, between, within, needs, enter, leave, stepMark}
 use Rattle.syntax.specs.Shape as Definition
 use Rattle.syntax.specs.Layout.{markOf}
 use Rattle.laws.specs.Bytes.{byCase}

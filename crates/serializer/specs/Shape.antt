@@ -6,7 +6,8 @@ use mathlib.Core.List.{List, [], _∷_}
 use mathlib.Core.Option.{Option, some, none}
 use lib.ListN.{length, getD}
 use Rattle.syntax.specs.Kind as Kind
-use Rattle.syntax.specs.Shape.{maxOpen, Frame, frame, between, within}
+use Rattle.syntax.specs.Limits.{maxOpen}
+use Rattle.syntax.specs.Shape.{Frame, frame, between, within}
 use Rattle.syntax.specs.Shape as Definition
 use Rattle.laws.specs.Shape.Check.{Around}
 use Rattle.laws.specs.Shape.Bound.{mostFrames, Small}

@@ -1,3 +1,3 @@
 // The serializer: a tree's marks are checked and written as normal text.
-pub mod models;
+mod models;
 pub mod shape;

@@ -14,3 +14,4 @@ pub mod Inline
 pub mod Arguments
 pub mod Select
 pub mod Placeable
+pub mod Table

@@ -109,10 +109,6 @@ final k q = finalBy models k q
 unfoldable pub opens : ℕ → ℕ
 opens j = elim (among j (Kind.placeable ∷ Kind.arguments ∷ [])) [ true ↦ 1 | false ↦ 0 ]
 
--- the most of them that may be open at one time; the definitions and laws hold for any `limit`
-abbrev pub maxOpen : ℕ
-maxOpen = 64
-
 -- In a node of the kind k that may open `left` more, the children ms lead from the state q to the state t.
 -- A T child has its places in order and on character boundaries of the source, which `boundary` tells.
 -- Another child is a node whose own children lead from its start to where it may end.

@@ -2,7 +2,7 @@
 use Prim.Native.Nat.{_<_}
 use mathlib.Core.Path.{sym}
 use native.Mathlib.Omega.{arith}
-use Rattle.syntax.specs.Shape.{maxOpen}
+use Rattle.syntax.specs.Limits.{maxOpen}
 use Rattle.laws.specs.Shape.Bound.{mostFrames}
 use Rattle.serializer.specs.Shape.{stateOf, outcome}
 use Rattle.serializer.proofs.Marks.{not-entered}
