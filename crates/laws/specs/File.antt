@@ -221,6 +221,10 @@ module _ {n : ℕ} {sub : Inside} (law : InsideBounds n sub) where
           let (l, g) = deep-within (entry-bounds law) (drop j s) h in
           (omega arith, omega (arith, u .within, length-drop j s))
 
+-- an entry uses a byte
+pub entry-moves : (n : ℕ) (s : List ℕ) {e : Entry} {ms : List Mark} {k : ℕ} → getEntry (level n) s ≡ ok e ms k → 0 < k
+entry-moves n s e = omega (arith, ok-uses (entry-bounds (level-bounds n)) s e .room)
+
 -- ---- a file
 
 -- the blank lines before the first entry

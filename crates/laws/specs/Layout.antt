@@ -36,10 +36,6 @@ drop-sizes : (c a b : ℕ) (ws : List ℕ) → drop (2 + c) (a ∷ b ∷ ws) ≡
 drop-sizes c a b ws = drop-append-add (a ∷ b ∷ []) ws c
 
 module _ (c : ℕ) (ms : List Mark) (rest : List ℕ) where
-  pub tree-count : count (treeWords c ms ++ rest) ≡ length ms
-  unfolding count treeWords
-  tree-count = refl
-
   pub tree-kinds : kinds (treeWords c ms ++ rest) ≡ map kindOf ms
   unfolding kinds count treeWords
   tree-kinds = first-array (length ms) c (map kindOf ms) (array c (map placeOf ms)) rest (length-map ms kindOf)
@@ -68,10 +64,6 @@ groups-length [] = refl
 groups-length (e ∷ es) = omega (arith, length-append (group e) (groups es), groups-length es)
 
 module _ (c : ℕ) (es : List Error) (rest : List ℕ) where
-  pub error-count : count (errorWords c es ++ rest) ≡ length es
-  unfolding count errorWords
-  error-count = refl
-
   pub error-kinds : kinds (errorWords c es ++ rest) ≡ map errorNumber es
   unfolding kinds count errorWords
   error-kinds = first-array (length es) c (map errorNumber es) (array (groupSize * c) (groups es)) rest (length-map es errorNumber)

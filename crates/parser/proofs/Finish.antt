@@ -45,8 +45,8 @@ module _ (s : List ℕ) {cap n : ℕ} (m : ℕ) {t t₁ : List ℕ} (u : Word) (
   pub step-trim : {t₂ : List ℕ} → Step cap m t₁ t₂ (trimWords s (drop m (marksIn cap (m + 2) t₁))) → Step cap n t t₂ (u ∷ trimWords s ws)
   step-trim {t₂} h =
       let e : trimWords s ws ≡ take (length ws - 2) ws ++ trimWords s (drop (length ws - 2) ws) =
-          ap (trimWords s) (sym split)
-          ∙ trim-append s (take (length ws - 2) ws) (drop (length ws - 2) ws) (let b = behind in omega arith) in
+      ap (trimWords s) (sym split)
+      ∙ trim-append s (take (length ws - 2) ws) (drop (length ws - 2) ws) (let b = behind in omega arith) in
       rw e (step-over (u ∷ take (length ws - 2) ws) (drop (length ws - 2) ws) parted start (rw last-two at h))
 
   pub last-within : Within s ws → Within s (drop m (marksIn cap (m + 2) t₁))
@@ -116,7 +116,7 @@ module _ {s : List ℕ} {cap at n : ℕ} {t₀ t : List ℕ} {st : Reading} {d :
     pattern-did : {t₂ t₃ : List ℕ} {m end : ℕ} (k : ℕ) → d .kept ≡ k → at ≤ end
         → Trimmed s cap t₁ t₂ st
         → (m ≡ st .«last_non_blank» + 1) × Step cap (st .«last_non_blank») t₂ t₃ (word 111 0 ∷ [])
-            → Did reading cap at n t₀ t₃ (Ok end m) (finish (drop at s) (ok d [] (end - at)))
+        → Did reading cap at n t₀ t₃ (Ok end m) (finish (drop at s) (ok d [] (end - at)))
     pattern-did zero ek l w p = absurd (some (h .kept ∙ none))
       where
         none : n + 1 + length (provisional at (take (d .kept) (d .elements))) ≡ n + 1

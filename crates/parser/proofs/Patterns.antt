@@ -63,7 +63,7 @@ module _ (s : List ℕ) (at : ℕ) {a : ℕ} (p : Passed s at (spaces (drop at s
       let r : at + (e - at) ≡ e = omega (arith, p .end, q .end) in
       let d : drop (e - at) x ≡ drop e s = drop-drop (e - at) at s ∙ ap (λ (n : ℕ). drop n s) r in
       let u : usedBy (skipBlankBlock (drop (spaces x + eol (drop (spaces x) x)) x)) ≡ b - e =
-          ap (λ (n : ℕ). usedBy (skipBlankBlock (drop n x))) k ∙ ap (λ (y : List ℕ). usedBy (skipBlankBlock y)) d ∙ ap usedBy (w .answers) ∙ used-ok _ _ in
+      ap (λ (n : ℕ). usedBy (skipBlankBlock (drop n x))) k ∙ ap (λ (y : List ℕ). usedBy (skipBlankBlock y)) d ∙ ap usedBy (w .answers) ∙ used-ok _ _ in
       rw (firstState, eol-at, z) (ap (λ (n : ℕ). stateAt n (roleOf LineStart)) (omega (arith, w .onward)))
 
 -- ---- the marks inside a placeable are none that is settled
@@ -228,7 +228,7 @@ module _ {sub : Inside} {s : List ℕ} {cap at n : ℕ} {t t₁ : List ℕ} {st 
 
   -- ---- at a text
   module _ (l : st .at < length s) (b : startsWith 123 (drop (st .at) s) ≡ false) {t₂ : List ℕ} {w : TextTurn}
-    (h : TextDid s cap t₁ t₂ st (λ d. textTurn d (drop (st .at) s)) w) where
+      (h : TextDid s cap t₁ t₂ st (λ d. textTurn d (drop (st .at) s)) w) where
     turned : Turned s cap at n t t₂ st (g .state) (textTurn (g .state) (drop (st .at) s)) w
     turned = h .held at n t (g .state) (g .holds)
 

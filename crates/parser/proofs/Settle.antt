@@ -136,7 +136,7 @@ settle-other s cap from to common t t′ i g h f =
 pub settle-line : (s : List ℕ) (cap from to common : ℕ) (t t′ : List ℕ) (i p : ℕ) → to ≤ cap → 2 + 2 * cap ≤ length t
     → Settling s cap from to common t t′ i → i < to → getD t′ (i + 2) 0 ≡ 200
     → p ≡ min (spaces (drop (getD t′ (cap + i + 2) 0) s)) common
-        → Settling s cap from to common t (set (set t′ (i + 2) 12) (cap + i + 2) (getD t′ (cap + i + 2) 0 + p)) (i + 1)
+    → Settling s cap from to common t (set (set t′ (i + 2) 12) (cap + i + 2) (getD t′ (cap + i + 2) 0 + p)) (i + 1)
 settle-line s cap from to common t t′ i p m l g h e q =
     let z = g .done .long in
     settle-next s cap from to common t t′ _ i g h

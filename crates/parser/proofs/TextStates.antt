@@ -23,7 +23,7 @@ crlf-le Eof = omega arith
 
 -- ---- what the code makes of a text, by what it tested
 module _ (st : Reading) (i : ℕ) (x : TextSlice) {p : ℕ} {q : TextElementPosition} {l v : Bool}
-  (el : l ≡ startsLine (st .role)) (ev : v ≡ isPart l x) (ep : p ≡ crlfWidth (x .ending)) (eq : q ≡ positionAfter (x .ending)) where
+    (el : l ≡ startsLine (st .role)) (ev : v ≡ isPart l x) (ep : p ≡ crlfWidth (x .ending)) (eq : q ≡ positionAfter (x .ending)) where
   abbrev made : ℕ → ℕ → ℕ → Reading
   made n b c = record { at = st .at + i + x .size + p; n = n; role = q; «last_non_blank» = b; «common_indent» = c }
 

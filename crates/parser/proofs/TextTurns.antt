@@ -99,8 +99,10 @@ module _ {s t : List ℕ} {cap : ℕ} {st : Reading} {i : ℕ} (ready : Ready s 
         onward = (m, omega arith, c);
         held = λ at n t₀ d hd. record {
           it = textState d i (sliceOf x) (widthOf x);
-          is = (ap (withText d i) q ∙ with-next d i (sliceOf x) [] (widthOf x) ∙ ap (again (textState d i (sliceOf x) (widthOf x)) []) z,
-              holds-text i x hd (omega arith) (ready .spaced) (w .1));
+          is = (
+            ap (withText d i) q ∙ with-next d i (sliceOf x) [] (widthOf x) ∙ ap (again (textState d i (sliceOf x) (widthOf x)) []) z,
+            holds-text i x hd (omega arith) (ready .spaced) (w .1),
+          );
         };
       })
 
@@ -158,7 +160,7 @@ did-as {s} {t} {t′} {cap} {st} {r} {f} {g} h e =
     }
 
 module _ {s t : List ℕ} {cap : ℕ} (st : Reading) (room : Room s t cap (st .at) (st .n) 1)
-  (h : (st .at < length s) × (startsWith 123 (drop (st .at) s) ≡ false)) {v : Bool} (ev : v ≡ startsLine (st .role)) where
+    (h : (st .at < length s) × (startsWith 123 (drop (st .at) s) ≡ false)) {v : Bool} (ev : v ≡ startsLine (st .role)) where
   fits : Fits t cap (st .n) 2
   fits = record { fits = omega (arith, room .spent, room .holds, h .0); layout = room .layout }
 

@@ -8,6 +8,16 @@ pub mod Lexical
 pub mod Grammar
 pub mod Blank
 pub mod Same
+pub mod Turns
+pub mod Texts
+pub mod Blocks
+pub mod Dedent
+pub mod Elements
+pub mod PatternTurns
+pub mod Growth
+pub mod BlankLines
+pub mod PatternAgrees
+pub mod WholePattern
 pub mod Near
 pub mod Words
 pub mod Inline
@@ -15,3 +25,9 @@ pub mod Arguments
 pub mod Select
 pub mod Placeable
 pub mod Table
+pub mod Attributes
+pub mod Messages
+pub mod Comments
+pub mod Pieces
+pub mod Resource
+pub mod Theorem
