@@ -235,7 +235,7 @@ module _ (n : ℕ) (s : List ℕ) where
   fewer : length (drop (leading s) s) < suc (length s)
   fewer = omega (arith, length-drop (leading s) s)
 
-  -- eight marks and one error a byte; the marks are good, their places within the file
+  -- eight marks and one error a byte
   pub parse-read : {ms : List Mark} {es : List Error} → parse n s ≡ read ms es → Uses 0 s ms (length s) × (length es ≤ length s)
   unfolding parse following
   parse-read {ms} {es} e = go (entries (suc (length s)) (level n) (drop k s)) refl e
