@@ -20,20 +20,14 @@ use Rattle.laws.specs.Bytes.{Whole, whole-drop, Fresh, byCase, clash}
 use Rattle.laws.specs.Stable.Expression.{level-law}
 use Rattle.laws.specs.Stable.Pattern.{span-same}
 use Rattle.laws.specs.Moving.{moveUp-zero}
-use Rattle.laws.specs.Balanced.{Places, Forest, forest-levels, forest-places}
-use Rattle.laws.specs.Bounds.Expression.{level-bounds}
-use Rattle.laws.specs.File.{parse-read}
+use Rattle.laws.specs.Formed.{places, balanced}
+use Rattle.laws.specs.Formed.Expression.{level-formed}
 use Rattle.laws.specs.Balanced.Nodes.{upNode, nodes-up, nodes-append, OkMarks, OkNodes, ok-nodes}
 use Rattle.cut.specs.Text.Source.{resource-same}
 use Rattle.cut.specs.Text.Piece.{Ends, resource-ends, wroteAll, wrote-ends, resource-append, Opening, opensNodes, opened-text}
 use Rattle.cut.specs.Text.Listing.{none-read, entries-ends, ends-up, entries-opening}
 use Rattle.cut.specs.Tree.{CutTree, cut-tree, start, from-start, from-length, first-part, second-part}
 use Rattle.cut.specs.Parts.{opensFree, between, Readings, Parts}
-
-places-ok : (k : ℕ) (ms : List Mark) → Places k ms → OkMarks (λ p. p ≤ k) ms
-places-ok k [] u = tt
-places-ok k (plain i ∷ ms) u = (tt, places-ok k ms (u .1))
-places-ok k (placed i p ∷ ms) u = (u .0 .1, places-ok k ms (u .1))
 
 any-ok : (ms : List Mark) → OkMarks (λ p. Unit {0}) ms
 any-ok [] = tt
@@ -42,10 +36,10 @@ any-ok (placed i p ∷ ms) = (tt, any-ok ms)
 
 module _ (A B : List ℕ) where
   -- the first part's text, in the uncut file
-  first-same : (junk w : Bool) (ms : List Mark) → Places (length A) ms → resource (A ++ B) junk w (nodes ms) ≡ resource A junk w (nodes ms)
+  first-same : (junk w : Bool) (ms : List Mark) → OkMarks (λ p. p ≤ length A) ms → resource (A ++ B) junk w (nodes ms) ≡ resource A junk w (nodes ms)
   first-same junk w ms u =
       ap (λ z. resource (A ++ B) junk w (nodes z)) (sym (moveUp-zero ms)) ∙ ap (resource (A ++ B) junk w) (nodes-up 0 ms)
-      ∙ resource-same A (A ++ B) 0 (λ p. p ≤ length A) span junk w (nodes ms) (ok-nodes (λ p. p ≤ length A) ms (places-ok (length A) ms u))
+      ∙ resource-same A (A ++ B) 0 (λ p. p ≤ length A) span junk w (nodes ms) (ok-nodes (λ p. p ≤ length A) ms u)
     where
       span : (p q : ℕ) → p ≤ length A → q ≤ length A → take (0 + q - (0 + p)) (drop (0 + p) (A ++ B)) ≡ take (q - p) (drop p A)
       span p q h g = let e : 0 + q - (0 + p) ≡ q - p = omega arith in let f : 0 + p ≡ p = omega arith in
@@ -62,9 +56,6 @@ module _ (n : ℕ) (A B : List ℕ) (ma mb mab : List Mark) (eb eab : List Error
   ma′ : List Mark
   ma′ = first-part n A B ma mb mab eb eab r .0
 
-  forest : Forest (length A) ma
-  forest = parse-read n A (r .first) .0 .forest
-
   -- the first part has an entry, or nothing
   data First : Type 0 where
     nothing : ma ≡ [] → First
@@ -73,8 +64,8 @@ module _ (n : ℕ) (A B : List ℕ) (ma mb mab : List Mark) (eb eab : List Error
   first-is : First
   unfolding from-start ma′ moveUp
   first-is = byCase (ltb 0 (length (from-start n A B ma mb mab eb eab r)))
-      (λ q. go (entries-ends (level n) (level-bounds n) A (suc (length A)) (from-start n A B ma mb mab eb eab r) ma′ (whole-drop (start n A B ma mb mab eb eab r) A (r .whole)) (first-part n A B ma mb mab eb eab r .1)) (ltb-true 0 (length (from-start n A B ma mb mab eb eab r)) q))
-      (λ q. nothing (sym (first-part n A B ma mb mab eb eab r .2) ∙ ap (moveUp (start n A B ma mb mab eb eab r)) (none-read (level n) (level-bounds n) (suc (length A)) ma′ []
+      (λ q. go (entries-ends (level n) (level-formed n) A (suc (length A)) (from-start n A B ma mb mab eb eab r) ma′ (whole-drop (start n A B ma mb mab eb eab r) A (r .whole)) (first-part n A B ma mb mab eb eab r .1)) (ltb-true 0 (length (from-start n A B ma mb mab eb eab r)) q))
+      (λ q. nothing (sym (first-part n A B ma mb mab eb eab r .2) ∙ ap (moveUp (start n A B ma mb mab eb eab r)) (none-read (level n) (level-formed n) (suc (length A)) ma′ []
       (ap (entries (suc (length A)) (level n)) (sym (empty-of (from-start n A B ma mb mab eb eab r) (ltb-false 0 (length (from-start n A B ma mb mab eb eab r)) q))) ∙ first-part n A B ma mb mab eb eab r .1))))
     where
       empty-of : (z : List ℕ) → length z ≤ 0 → z ≡ []
@@ -86,7 +77,7 @@ module _ (n : ℕ) (A B : List ℕ) (ma mb mab : List Mark) (eb eab : List Error
           let (x, xs, q) = s h in
           let k = start n A B ma mb mab eb eab r in
           something (upNode k x) (map (upNode k) xs) (ap nodes (sym (first-part n A B ma mb mab eb eab r .2)) ∙ nodes-up k ma′ ∙ ap (map (upNode k)) q)
-          (ends-up (level n) (level-bounds n) A k (x ∷ xs) (subst (Ends A) q e))
+          (ends-up (level n) (level-formed n) A k (x ∷ xs) (subst (Ends A) q e))
 
   some-between : (x : Node) (xs : List Node) → nodes ma ≡ x ∷ xs → (ms : List Mark) → ma ≡ ms → between ma mb ≡ (elim (opensFree mb) [ true ↦ 10 ∷ [] | false ↦ [] ])
   unfolding between nodes nodesFrom
@@ -98,10 +89,10 @@ module _ (n : ℕ) (A B : List ℕ) (ma mb mab : List Mark) (eb eab : List Error
   cut-text same junk = by first-is
     where
       opening : Opening B (nodes mb) × (opensNodes B (nodes mb) ≡ opensFree mb)
-      opening = entries-opening (level n) (level-bounds n) B (suc (length B)) B mb eb (second-part n A B ma mb mab eb eab r)
+      opening = entries-opening (level n) (level-formed n) B (suc (length B)) B mb eb (second-part n A B ma mb mab eb eab r)
 
       whole : serialize (A ++ B) junk mab ≡ resource (A ++ B) junk false (nodes ma ++ nodes (moveUp (length A) mb)) 0 0
-      whole = ap (serialize (A ++ B) junk) same ∙ ap (λ z. resource (A ++ B) junk false z 0 0) (nodes-append ma (moveUp (length A) mb) (forest-levels forest))
+      whole = ap (serialize (A ++ B) junk) same ∙ ap (λ z. resource (A ++ B) junk false z 0 0) (nodes-append ma (moveUp (length A) mb) (balanced n A ma [] (r .first)))
 
       text : List ℕ
       text = resource (A ++ B) junk false (nodes ma) 0 0
@@ -112,7 +103,7 @@ module _ (n : ℕ) (A B : List ℕ) (ma mb mab : List Mark) (eb eab : List Error
           ∙ sym (ap (λ z. serialize A junk z ++ (between z mb ++ serialize B junk mb)) e)
       by (something x xs e ends) =
           whole ∙ resource-append (A ++ B) junk false (nodes ma) (nodes (moveUp (length A) mb)) 0 0
-          ∙ ap₂ (λ a b. a ++ b) (ap (λ p. p 0 0) (first-same A B junk false ma (forest-places forest)))
+          ∙ ap₂ (λ a b. a ++ b) (ap (λ p. p 0 0) (first-same A B junk false ma (places n A ma [] (r .first))))
           (ap₂ (λ w l. resource (A ++ B) junk w (nodes (moveUp (length A) mb)) 0 l) (ap (wroteAll (A ++ B) false) e ∙ wrote-ends (A ++ B) false x xs (ends-any x xs ends)) last
           ∙ ap (λ p. p 0 10) (second-same A B junk true mb) ∙ opened-text B junk (nodes mb) (opening .0)
           ∙ ap (λ z. z ++ serialize B junk mb) (ap (λ v. elim v as (λ z. List ℕ) [ true ↦ 10 ∷ [] | false ↦ [] ]) (opening .1) ∙ sym (some-between x xs e ma refl)))

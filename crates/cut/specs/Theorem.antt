@@ -16,8 +16,9 @@ use Rattle.cut.specs.Parts as Parts
 use Rattle.cut.specs.Parts.{Exception, Parts, between}
 use Rattle.laws.specs.Bounds.{Uses}
 use Rattle.laws.specs.File.{parse-read}
-use Rattle.laws.specs.Layout.{Proper, AllProper, proper-append, forest-proper, tree-marks}
+use Rattle.laws.specs.Layout.{Proper, AllProper, proper-append, tree-marks}
 use Rattle.laws.specs.Call.{Read, read-of}
+use Rattle.laws.specs.Formed.{proper}
 use Rattle.cut.specs.Claim.{Tree, Slices, IsAccepted, treeIn, errorsIn, treeOf, errorsOf, textOf, joinTrees, joinErrors, Without, opensFree, gap, Fit, Claim, Joins, SameTree, Demand3}
 use Rattle.cut.specs.Words.{ofMarks, ofErrors, tree-in, errors-in, join-marks, join-errors, marks-same}
 use Rattle.cut.specs.Clean.{clean}
@@ -55,7 +56,7 @@ module _ (s : List ℕ) (l : Slices) (h : IsAccepted s l) where
   its-errors = ap errorsIn (did .list) ∙ errors-in (length s) (did .errors) (drop (errorLayout (length s)) (l .errors)) (fits .1)
 
   its-proper : AllProper (did .marks)
-  its-proper = forest-proper (fits .0 .forest)
+  its-proper = proper maxOpen s (did .marks) (did .errors) (did .reads)
 
   its-text : (junk : Bool) → textOf junk s l ≡ serialize s junk (did .marks)
   unfolding textOf

@@ -1,5 +1,5 @@
 -- What a reader may answer on a rest s, with n openings still allowed.
--- ok: it used no more than s; its marks are at most eight for each byte used, with c marks to spare, and make nodes (Balanced).
+-- ok: it used no more than s; its marks are at most eight for each byte used, with c marks to spare.
 -- bad: it stopped within s. deep: at a byte of s, with n bytes at least before it.
 -- Of a reader p with `b : Bounds n c p`: `ok-uses b s e`, `bad-within b s e` and `deep-within b s e` say it of the answer that e gives, as `e : p s ≡ ok a ms k`.
 -- Where what is nested is read at a level n, `level-bounds n` is the hypothesis that the readers of nesting ask for.
@@ -12,7 +12,6 @@ use Prim.Native.Nat.{ℕ, zero, suc, _+_, _-_, _*_, _≤_, _<_}
 use native.Mathlib.Nat.{not-suc-le-zero}
 use native.Mathlib.Omega.{arith}
 use mathlib.Core.Path.{_≡_, refl, subst}
-use mathlib.Core.Bool.{true, false}
 use mathlib.Core.List.{List, [], _∷_, _++_}
 use lib.ListN.{drop, length, length-append, length-drop}
 use Rattle.syntax.specs.Marks.{Mark, plain, moveUp, node, textNode}
@@ -21,12 +20,10 @@ use Rattle.syntax.specs.declared.errors.ParserError.{ParserError}
 use Rattle.syntax.specs.Reader.{Out, ok, bad, deep, Reader, after, next, _>>=_, _>>_, pure, fail, wrap, inNode, Turn, again, done, turnOf, loop, repeat}
 use Rattle.laws.specs.Moving.{moveUp-length}
 use Rattle.laws.specs.Loop.{Moved, Moves, repeat-again, repeat-done}
-use Rattle.laws.specs.Balanced.{Kind, Forest, empty, forest-text, forest-node, forest-append}
 
 pub record Uses (c : ℕ) (s : List ℕ) (ms : List Mark) (k : ℕ) : Type 0 where
   pub within : k ≤ length s
   pub room : c + length ms ≤ 8 * k
-  pub forest : Forest k ms
 
 -- the room to spare may depend on the value
 pub data Bounded {A : Type 0} (n : ℕ) (c : A → ℕ) (s : List ℕ) : Out A → Type 0 where
@@ -38,28 +35,26 @@ pub record Bounds {A : Type 0} (n : ℕ) (c : A → ℕ) (p : Reader A) : Type 0
   pub on : (s : List ℕ) → Bounded n c s (p s)
 
 pub uses-nil : {c : ℕ} {s : List ℕ} (k : ℕ) → k ≤ length s → c ≤ 8 * k → Uses c s [] k
-uses-nil k h l = record { within = h; room = omega arith; forest = empty }
+uses-nil k h l = record { within = h; room = omega arith }
 
-pub uses-text : {c : ℕ} {s : List ℕ} (k kind a e : ℕ) → Kind true kind → k ≤ length s → a ≤ e → e ≤ k → c + 2 ≤ 8 * k → Uses c s (textNode kind a e) k
+pub uses-text : {c : ℕ} {s : List ℕ} (k kind a e : ℕ) → k ≤ length s → c + 2 ≤ 8 * k → Uses c s (textNode kind a e) k
 unfolding textNode
-uses-text k kind a e q h l g r = record { within = h; room = omega arith; forest = forest-text kind a e q l g }
+uses-text k kind a e h r = record { within = h; room = omega arith }
 
 pub uses-less : {c d : ℕ} {s : List ℕ} {ms : List Mark} {k : ℕ} → d ≤ c → Uses c s ms k → Uses d s ms k
-uses-less l u = record { within = u .within; room = omega (arith, u .room); forest = u .forest }
+uses-less l u = record { within = u .within; room = omega (arith, u .room) }
 
 pub uses-after : {c d : ℕ} {s : List ℕ} {ms ns : List Mark} {k j : ℕ} → Uses c s ms k → Uses d (drop k s) ns j → Uses (c + d) s (ms ++ moveUp k ns) (k + j)
 uses-after {s = s} {ms} {ns} {k} {j} u v = record {
   within = omega (arith, u .within, v .within, length-drop k s);
   room = omega (arith, u .room, v .room, length-append ms (moveUp k ns), moveUp-length k ns);
-  forest = forest-append (u .forest) (v .forest);
 }
 
-pub uses-node : {c : ℕ} {s : List ℕ} {ms : List Mark} {k : ℕ} (kind : ℕ) → Kind false kind → 2 ≤ c → Uses c s ms k → Uses (c - 2) s (node kind ms) k
+pub uses-node : {c : ℕ} {s : List ℕ} {ms : List Mark} {k : ℕ} (kind : ℕ) → 2 ≤ c → Uses c s ms k → Uses (c - 2) s (node kind ms) k
 unfolding node
-uses-node {ms = ms} {k} kind q l u = record {
+uses-node {ms = ms} {k} kind l u = record {
   within = u .within;
   room = omega (arith, u .room, length-append ms (plain (100 + kind) ∷ []));
-  forest = forest-node kind q (u .forest);
 }
 
 module _ {A : Type 0} {n : ℕ} {s : List ℕ} where
@@ -74,11 +69,11 @@ module _ {A : Type 0} {n : ℕ} {s : List ℕ} where
   after-bounded {k = k} u (stopped j h) = stopped (k + j) (omega (arith, u .within, length-drop k s))
   after-bounded {k = k} u (tooDeep j h g) = tooDeep (k + j) (omega arith) (omega (arith, u .within, length-drop k s))
 
-  pub wrap-bounded : {c : ℕ} {o : Out A} (kind : ℕ) → Kind false kind → 2 ≤ c → Bounded n (λ _. c) s o → Bounded n (λ _. c - 2) s (wrap kind o)
+  pub wrap-bounded : {c : ℕ} {o : Out A} (kind : ℕ) → 2 ≤ c → Bounded n (λ _. c) s o → Bounded n (λ _. c - 2) s (wrap kind o)
   unfolding wrap
-  wrap-bounded kind q l (used u) = used (uses-node kind q l u)
-  wrap-bounded kind q l (stopped j h) = stopped j h
-  wrap-bounded kind q l (tooDeep j h g) = tooDeep j h g
+  wrap-bounded kind l (used u) = used (uses-node kind l u)
+  wrap-bounded kind l (stopped j h) = stopped j h
+  wrap-bounded kind l (tooDeep j h g) = tooDeep j h g
 
 module _ {A B : Type 0} {n : ℕ} where
   -- the room to spare by both values
@@ -128,9 +123,9 @@ pub fail-bounds : {A : Type 0} {n : ℕ} {c : A → ℕ} (kind : ErrorKind) → 
 unfolding fail
 fail-bounds kind = record { on = λ s. stopped 0 (omega arith) }
 
-pub node-bounds : {A : Type 0} {n c : ℕ} {p : Reader A} (kind : ℕ) → Kind false kind → 2 ≤ c → Bounds n (λ _. c) p → Bounds n (λ _. c - 2) (inNode kind p)
+pub node-bounds : {A : Type 0} {n c : ℕ} {p : Reader A} (kind : ℕ) → 2 ≤ c → Bounds n (λ _. c) p → Bounds n (λ _. c - 2) (inNode kind p)
 unfolding inNode
-node-bounds kind q l b = record { on = λ s. wrap-bounded kind q l (b .on s) }
+node-bounds kind l b = record { on = λ s. wrap-bounded kind l (b .on s) }
 
 -- a turn, with c marks to spare where it goes on and d where it is done
 pub data TurnBounded {S A : Type 0} (n c d : ℕ) (s : List ℕ) : Turn S A → Type 0 where

@@ -1,4 +1,4 @@
--- A reading call that is accepted: what was read, and that it stands in the slices.
+-- A reading call that is accepted: what was read, that it stands in the slices, and that the writing call takes it.
 use Prim.Native.Nat.{ℕ}
 use native.Mathlib.Omega.{arith}
 use mathlib.Core.Path.{_≡_, refl, sym, ap, _∙_}
@@ -7,15 +7,25 @@ use mathlib.Core.List.{List, [], _∷_, _++_}
 use mathlib.Core.Option.{Option, some, none}
 use lib.ListN.{length, drop}
 use lib.Dec.{ltb}
+use borrow.Author.Tests.{ltb-false}
 use Rattle.utf8.specs.Utf8.{firstIllFormed}
 use Rattle.syntax.specs.declared.answer.Answer.{Answer}
-use Rattle.syntax.specs.declared.answer.Answer.the-variants.{Accepted, TooLong, NotUtf8, TreeTooShort, ErrorsTooShort, TooDeep}
+use Rattle.syntax.specs.declared.answer.Answer.the-variants.{Accepted, TooLong, NotUtf8, TreeTooShort, ErrorsTooShort, TooDeep, OutputTooShort}
 use Rattle.syntax.specs.Limits.{maxLength, maxOpen}
 use Rattle.syntax.specs.Marks.{Mark}
 use Rattle.syntax.specs.Core.{Error, Reading, read, refused, parse}
-use Rattle.syntax.specs.Layout.{treeCapacity, treeLayout, errorLayout, treeWords, errorWords}
+use Rattle.syntax.specs.Layout.{treeCapacity, treeLayout, errorLayout, treeWords, errorWords, marksIn}
+use Rattle.syntax.specs.Serializer.{serialize}
+use Rattle.syntax.specs.Writing.{sizesFit, writeAnswer}
 use Rattle.syntax.specs.Reading.{answerOf, readAnswer, sliceAfter, marksOf, errorsOf, treeAfter, errorsAfter}
 use Rattle.laws.specs.Bytes.{byCase}
+use Rattle.laws.specs.File.{parse-read}
+use Rattle.laws.specs.Layout.{tree-marks, tree-fits}
+use Rattle.laws.specs.Formed.{proper, verdict-none}
+
+-- the writing call's answer for a text of n bytes and an output of o
+abbrev pub written : (o n : ℕ) → Answer
+written o n = elim (ltb o n) [ true ↦ OutputTooShort n | false ↦ Accepted n ]
 
 pub record Read (s t e : List ℕ) : Type 0 where
   pub marks : List Mark
@@ -66,3 +76,15 @@ module _ (s t e : List ℕ) (h : readAnswer s (length t) (length e) ≡ Accepted
         list = rw (h, q);
       }
       go (refused k) q a = let z : _≡_ {A = ℕ} 0 1 = cc in absurd (omega arith)
+
+  -- the writing call takes the tree that was left, whatever its output; it may refuse only for want of room
+  pub writes : (o : ℕ) (junk : Bool) → writeAnswer s (treeAfter s t e) o junk ≡ written o (length (serialize s junk (read-of .marks)))
+  unfolding writeAnswer
+  writes o junk =
+      let d = read-of in
+      let c = treeCapacity (length s) in
+      let r = parse-read maxOpen s (d .reads) .0 .room in
+      let m : marksIn (treeAfter s t e) ≡ d .marks = ap marksIn (d .tree) ∙ tree-marks c (d .marks) _ (omega arith) (proper maxOpen s (d .marks) (d .errors) (d .reads)) in
+      let f : sizesFit (treeAfter s t e) ≡ true = ap sizesFit (d .tree) ∙ tree-fits c (d .marks) _ (omega arith) (omega (arith, ltb-false maxLength (length s) short)) in
+      rw (short, writeAnswer, formed, f, m, verdict-none maxOpen s (d .marks) (d .errors) formed (d .reads))
+      (ap (λ ms. written o (length (serialize s junk ms))) m)

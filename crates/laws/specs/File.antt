@@ -4,14 +4,12 @@ use Prim.Native.Nat.{ℕ, zero, suc, _+_, _*_, _≤_, _<_}
 use native.Mathlib.Nat.{not-suc-le-zero, le-of-suc-le-suc}
 use native.Mathlib.Omega.{arith}
 use mathlib.Core.Path.{_≡_, refl, sym, ap, _∙_, subst}
-use mathlib.Core.Bool.{Bool, true, false, _&&_, _||_, not}
+use mathlib.Core.Bool.{Bool, true, _&&_, _||_, not}
 use mathlib.Core.List.{List, [], _∷_, _++_, map}
 use lib.ListN.{drop, length, length-append, length-drop, length-map}
 use lib.Seq.{drop-drop}
 use lib.Dec.{eqb, ltb}
-use borrow.Author.Tests.{lt-ltb, ne-eqb}
 use Rattle.syntax.specs.Bytes.{startsWith}
-use Rattle.syntax.specs.Kind.{isText}
 use Rattle.syntax.specs.Marks.{Mark, moveUp, node, textNode}
 use Rattle.syntax.specs.declared.errors.ParserError.{ParserError}
 use Rattle.syntax.specs.Reader.{Out, ok, bad, deep, repeat}
@@ -23,7 +21,6 @@ use Rattle.syntax.specs.Core.{Fields, fields, termFields, Entry, comment, messa
 use Rattle.laws.specs.Bytes.{pick}
 use Rattle.laws.specs.Answers.{Holds, holds-map}
 use Rattle.laws.specs.Lines.Join.{Levelled, levelled}
-use Rattle.laws.specs.Balanced.{Kind, forest-more, Places, forest-places}
 use Rattle.laws.specs.Bounds.{Uses, uses-nil, uses-text, uses-less, uses-after, uses-node, ok-uses, bad-within, deep-within}
 use Rattle.laws.specs.Bounds.Comment.{levelOf-some}
 use Rattle.laws.specs.Bounds.Pattern.{InsideBounds, block-le}
@@ -75,14 +72,7 @@ kind-le (comment l) v s = pick (λ i. i ≤ 6) (eqb l 1 && v) 6 (2 + l) (λ q. o
 
 -- with more bytes
 longer : {c : ℕ} {s : List ℕ} {ms : List Mark} {k : ℕ} → Uses c s ms k → (j : ℕ) → k + j ≤ length s → Uses c s ms (k + j)
-longer {ms = ms} {k} u j h = record { within = h; room = omega (arith, u .room); forest = forest-more (omega arith) (u .forest) }
-
-entry-kind : (i : ℕ) → i ≤ 6 → Kind false i
-unfolding isText
-entry-kind i l = (lt-ltb i 100 (omega arith), rw (no 0, no 1, no 2, no 5, no 10, no 11, no 12, no 13) refl)
-  where
-    no : (j : ℕ) → eqb i (7 + j) ≡ false
-    no j = ne-eqb i (7 + j) (λ e. omega arith)
+longer {ms = ms} {k} u j h = record { within = h; room = omega (arith, u .room) }
 
 -- ---- one entry
 
@@ -107,13 +97,12 @@ module _ {n : ℕ} {sub : Inside} (law : InsideBounds n sub) where
   pub first-uses : {b : ℕ} {bs : List ℕ} {ms : List Mark} {es : List Error} {k : ℕ} → First sub (b ∷ bs) ms es k → Uses 4 (b ∷ bs) ms k × (length es ≤ 1)
   first-uses {b} {bs} (entry {e} {ms} {k} h) =
       let u = ok-uses (entry-bounds law) (b ∷ bs) h in
-      let i = kindOfEntry e (near sub (b ∷ bs) k) in
-      let v = uses-node {c = 6} i (entry-kind i (kind-le e (near sub (b ∷ bs) k) (small-of sub (b ∷ bs) h))) (omega arith) u in
+      let v = uses-node {c = 6} (kindOfEntry e (near sub (b ∷ bs) k)) (omega arith) u in
       (longer v (usedBy (skipBlankBlock (drop k (b ∷ bs)))) (omega (arith, u .within, block-le (drop k (b ∷ bs)), length-drop k (b ∷ bs))), omega arith)
   first-uses {b} {bs} (junk {k = k} h) =
       let j = junkEnd k (b ∷ bs) in
       let (l, w) = junkEnd-within k (b ∷ bs) (bad-within (entry-bounds law) (b ∷ bs) h) in
-      let v = uses-text {c = 4} j 7 0 j (unfold isText in (refl, refl)) w (omega arith) (omega arith) (omega (arith, junk-moves sub b bs h)) in
+      let v = uses-text {c = 4} j 7 0 j w (omega (arith, junk-moves sub b bs h)) in
       (longer v (usedBy (skipBlankBlock (drop j (b ∷ bs)))) (omega (arith, w, block-le (drop j (b ∷ bs)), length-drop j (b ∷ bs))), omega arith)
 
   pub passed-uses : {s : List ℕ} {ms : List Mark} {es : List Error} {k : ℕ} → Passed sub s ms es k → Uses 0 s ms k × (length es ≤ k)
@@ -242,7 +231,7 @@ module _ (n : ℕ) (s : List ℕ) where
   fewer : length (drop (leading s) s) < suc (length s)
   fewer = omega (arith, length-drop (leading s) s)
 
-  -- eight marks and one error a byte; the marks are good, their places within the file
+  -- eight marks and one error a byte
   pub parse-read : {ms : List Mark} {es : List Error} → parse n s ≡ read ms es → Uses 0 s ms (length s) × (length es ≤ length s)
   unfolding parse following
   parse-read {ms} {es} e = go (entries (suc (length s)) (level n) (drop k s)) refl e
@@ -261,10 +250,6 @@ module _ (n : ℕ) (s : List ℕ) where
 
   pub parse-room : {ms : List Mark} {es : List Error} → parse n s ≡ read ms es → (length ms ≤ 8 * length s) × (length es ≤ length s)
   parse-room e = let (u, l) = parse-read e in (omega (arith, u .room), l)
-
-  -- T kinds, and no others, have places, at most the file's length
-  pub parse-places : {ms : List Mark} {es : List Error} → parse n s ≡ read ms es → Places (length s) ms
-  parse-places e = forest-places (parse-read e .0 .forest)
 
   -- what is refused lies in the file, past n openings
   pub parse-refused : {k : ℕ} → parse n s ≡ refused k → (n ≤ k) × (k < length s)

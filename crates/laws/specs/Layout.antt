@@ -1,18 +1,20 @@
 -- What stands in the words of a tree and of a list of errors is read back from them.
 use Prim.Native.Nat.{ℕ, _+_, _-_, _*_, _≤_, _<_}
 use native.Mathlib.Omega.{arith}
-use mathlib.Core.Path.{_≡_, refl, sym, ap, ap₂, _∙_}
-use mathlib.Core.Bool.{Bool, true, false, _||_}
+use mathlib.Core.Path.{_≡_, refl, ap, ap₂, _∙_}
+use mathlib.Core.Bool.{Bool, true, false, _||_, and-eq-true-iff}
 use mathlib.Core.List.{List, [], _∷_, _++_, map, append-assoc}
 use lib.ListN.{length, take, drop, replicate, length-append, length-replicate, length-map}
 use lib.Seq.{take-at, drop-at, drop-append-add}
-use lib.Dec.{eqb, ltb}
-use borrow.Author.Tests.{ltb-true, ne-eqb}
-use Rattle.laws.specs.Balanced.{Forest, empty, text, tree}
+use lib.Dec.{eqb}
+use borrow.Author.Tests.{le-leb, ne-eqb}
+use Rattle.laws.specs.Shape.Run.{Known, opened, closed, textOpened, textClosed, AllKnown}
 use Rattle.syntax.specs.Kind as Kind
 use Rattle.syntax.specs.Marks.{Mark, plain, placed, kindOf, placeOf}
 use Rattle.syntax.specs.Core.{Error}
-use Rattle.syntax.specs.Layout.{array, treeWords, groupSize, group, groups, errorNumber, errorWords, count, capacity, kinds, places, groupsIn, hasPlace, markOf, marksBy, marksIn}
+use Rattle.syntax.specs.Limits.{maxLength}
+use Rattle.syntax.specs.Writing.{sizesFit}
+use Rattle.syntax.specs.Layout.{array, treeCapacity, treeWords, groupSize, group, groups, errorNumber, errorWords, count, capacity, kinds, places, groupsIn, hasPlace, markOf, marksBy, marksIn}
 
 array-length : (c : ℕ) (ws : List ℕ) → length ws ≤ c → length (array c ws) ≡ c
 unfolding array
@@ -43,6 +45,18 @@ module _ (c : ℕ) (ms : List Mark) (rest : List ℕ) where
   tree-places h =
       ap (take (length ms)) (drop-sizes c (length ms) c ((array c (map kindOf ms) ++ array c (map placeOf ms)) ++ rest))
       ∙ second-array (length ms) c c (map kindOf ms) (map placeOf ms) rest (rw length-map h) (length-map ms placeOf)
+
+  -- the sizes fit, for the writer
+  pub tree-fits : length ms ≤ c → c ≤ treeCapacity maxLength → sizesFit (treeWords c ms ++ rest) ≡ true
+  unfolding sizesFit count capacity treeWords
+  tree-fits h l =
+      let ws = array c (map kindOf ms) ++ array c (map placeOf ms) in
+      let n = length (treeWords c ms ++ rest) in
+      let e = length-append (array c (map kindOf ms)) (array c (map placeOf ms)) in
+      let f = array-length c (map kindOf ms) (rw length-map h) in
+      let g = array-length c (map placeOf ms) (rw length-map h) in
+      let w : 2 + 2 * c ≤ n = omega (arith, length-append ws rest) in
+      and-eq-true-iff _ _ .1 (le-leb 2 n (omega arith), and-eq-true-iff _ _ .1 (le-leb c _ l, and-eq-true-iff _ _ .1 (le-leb (length ms) c h, le-leb (2 + 2 * c) n w)))
 
 groups-length : (es : List Error) → length (groups es) ≡ groupSize * length es
 unfolding groups group
@@ -84,11 +98,11 @@ text-below x h =
     let no : (k : ℕ) → k ≤ 20 → eqb x k ≡ false = λ k l. ne-eqb x k (λ e. omega arith) in
     rw (no 7 (omega arith), no 8 (omega arith), no 9 (omega arith), no 12 (omega arith), no 17 (omega arith), no 18 (omega arith), no 19 (omega arith), no 20 (omega arith))
 
--- a kind below 100 has a place if it is a T kind, and so has the kind that closes it
-below-place : (kind : ℕ) (v : Bool) → ltb kind 100 ≡ true → Kind.isText kind ≡ v → hasPlace kind ≡ v
+-- a kind has a place if it is a T kind, and so has the kind that closes it
+opening-place : (kind : ℕ) (v : Bool) → kind ≤ Kind.namedArgument → Kind.isText kind ≡ v → hasPlace kind ≡ v
 unfolding hasPlace Kind.isText
-below-place kind v h e =
-    let z : kind - 100 ≡ 0 = omega (arith, ltb-true kind 100 h) in
+opening-place kind v h e =
+    let z : kind - 100 ≡ 0 = omega arith in
     ap₂ (λ (a b : Bool). a || b) e (ap Kind.isText z) ∙ or-false v
 
 closing-place : (kind : ℕ) (v : Bool) → Kind.isText kind ≡ v → hasPlace (100 + kind) ≡ v
@@ -97,11 +111,15 @@ closing-place kind v e =
     let z : 100 + kind - 100 ≡ kind = omega arith in
     ap₂ (λ (a b : Bool). a || b) (text-below (100 + kind) (omega arith)) (ap Kind.isText z ∙ e)
 
-pub forest-proper : {k : ℕ} {ms : List Mark} → Forest k ms → AllProper ms
-forest-proper empty = tt
-forest-proper (text {kind} q h l f) = (below-place kind true (q .0) (q .1), (closing-place kind true (q .1), forest-proper f))
-forest-proper (tree {kind} {inner} {ms} q i f) =
-    (below-place kind false (q .0) (q .1), proper-append inner (plain (100 + kind) ∷ ms) (forest-proper i) (closing-place kind false (q .1), forest-proper f))
+known-mark : {m : Mark} → Known m → Proper m
+known-mark (opened j l h i) = opening-place j false h i
+known-mark (closed j l h i) = closing-place j false i
+known-mark (textOpened j a l h i) = opening-place j true h i
+known-mark (textClosed j e l h i) = closing-place j true i
+
+pub known-proper : (ms : List Mark) → AllKnown ms → AllProper ms
+known-proper [] k = tt
+known-proper (m ∷ ms) k = (known-mark (k .0), known-proper ms (k .1))
 
 proper-mark : (m : Mark) → Proper m → markOf (kindOf m) (placeOf m) ≡ m
 unfolding markOf

@@ -1,4 +1,4 @@
--- Laws of the definitions, for the proofs of code and of theorems to cite. All that a file's reading has is stated in File.
+-- Laws of the definitions, for the proofs of code and of theorems to cite. All that a file's reading has is stated in File and Formed.
 
 -- tests on bytes; sources that end in a newline, and what follows a cut
 pub mod Bytes
@@ -10,7 +10,7 @@ pub mod Answers
 pub mod Values
 -- `repeat` is a turn, and then `repeat`
 pub mod Loop
--- marks make nodes; T kinds alone have places
+-- the nodes that marks make
 pub mod Balanced
 -- every answer is within the bytes there are, with eight marks at most for each, and too deep only past as many openings as are allowed
 pub mod Bounds
@@ -32,3 +32,5 @@ pub mod Layout
 pub mod Call
 -- the shape of mark lists, its check and the verdict
 pub mod Shape
+-- the marks of a reading are well formed
+pub mod Formed

@@ -1,4 +1,4 @@
--- The values of inline expressions: which each reader can answer, and that a message reference's name is in what was used.
+-- The values of inline expressions: which each reader can answer, and what a message reference's name is.
 use Prim.Native.Nat.{ℕ, _≤_}
 use native.Mathlib.Omega.{arith}
 use mathlib.Core.Path.{_≡_, refl}
@@ -6,7 +6,7 @@ use mathlib.Core.Bool.{Bool, true, false}
 use mathlib.Core.List.{List, [], _∷_}
 use lib.ListN.{drop, take}
 use lib.Dec.{eqb}
-use Rattle.syntax.specs.Bytes.{starts, all, isLetter, isDigit, isCalleePart}
+use Rattle.syntax.specs.Bytes.{starts, run, all, isLetter, isDigit, isNamePart, isCalleePart}
 use Rattle.syntax.specs.Marks.{Mark}
 use Rattle.syntax.specs.Reader.{Out, ok, bad, deep, fail, _>>=_, _>>_, pure, next, after}
 use Rattle.syntax.specs.Helper.{expectByte, getIdentifier, getNumberLiteral}
@@ -15,41 +15,40 @@ use Rattle.syntax.specs.Expression.{Inline, string, number, variable, function,
 use Rattle.laws.specs.Bytes.{byCase, pick}
 use Rattle.laws.specs.Answers.{Holds, holds-map, plain-next}
 
-pub identifier-named : (kind : ℕ) (s : List ℕ) → Holds (λ n ms k. n ≡ k) (getIdentifier kind s)
-unfolding getIdentifier starts fail
-identifier-named kind [] = tt
-identifier-named kind (b ∷ bs) = byCase (isLetter b) (λ q. rw (q, getIdentifier) refl) (λ q. rw (q, getIdentifier) tt)
+pub identifier-named : (kind : ℕ) (s : List ℕ) → Holds (λ n ms k. (n ≡ k) × (n ≡ run isNamePart s)) (getIdentifier kind s)
+unfolding getIdentifier fail
+identifier-named kind s = pick (Holds (λ n ms k. (n ≡ k) × (n ≡ run isNamePart s))) (starts isLetter s) _ _ (λ q. (refl, refl)) (λ q. tt)
 
--- a message reference's name is in what was used
-abbrev pub NameUpto : ℕ → Inline → Type 0
-NameUpto n string = Unit {0}
-NameUpto n number = Unit {0}
-NameUpto n variable = Unit {0}
-NameUpto n function = Unit {0}
-NameUpto n inner = Unit {0}
-NameUpto n (message i a) = i ≤ n
-NameUpto n (term a) = Unit {0}
+-- a message reference's name is m bytes long, of the n that were used
+abbrev pub NameUpto : ℕ → ℕ → Inline → Type 0
+NameUpto m n string = Unit {0}
+NameUpto m n number = Unit {0}
+NameUpto m n variable = Unit {0}
+NameUpto m n function = Unit {0}
+NameUpto m n inner = Unit {0}
+NameUpto m n (message i a) = (i ≤ n) × (i ≡ m)
+NameUpto m n (term a) = Unit {0}
 
 abbrev Nameless : Inline → Type 0
-Nameless sh = (n : ℕ) → NameUpto n sh
+Nameless sh = (m n : ℕ) → NameUpto m n sh
 
-abbrev pub Fits : Out Inline → Type 0
-Fits o = Holds (λ sh ms k. NameUpto k sh) o
+abbrev pub Fits : ℕ → Out Inline → Type 0
+Fits m o = Holds (λ sh ms k. NameUpto m k sh) o
 
-nameless-fits : (o : Out Inline) → Holds (λ sh ms k. Nameless sh) o → Fits o
-nameless-fits o h = holds-map (λ sh ms k. Nameless sh) (λ sh ms k. NameUpto k sh) (λ sh ms k f. f k) o h
+nameless-fits : (m : ℕ) (o : Out Inline) → Holds (λ sh ms k. Nameless sh) o → Fits m o
+nameless-fits m o h = holds-map (λ sh ms k. Nameless sh) (λ sh ms k. NameUpto m k sh) (λ sh ms k f. f m k) o h
 
-asInline-fits : (o : Out Inline) → Fits o → Fits (asInline o)
+asInline-fits : (m : ℕ) (o : Out Inline) → Fits m o → Fits m (asInline o)
 unfolding asInline
-asInline-fits (ok a ms k) h = h
-asInline-fits (bad f k) h = tt
-asInline-fits (deep k) h = tt
+asInline-fits m (ok a ms k) h = h
+asInline-fits m (bad f k) h = tt
+asInline-fits m (deep k) h = tt
 
-asString-fits : (o : Out (Unit {0})) → Fits (asString o)
+asString-fits : (m : ℕ) (o : Out (Unit {0})) → Fits m (asString o)
 unfolding asString
-asString-fits (ok a ms k) = tt
-asString-fits (bad f k) = tt
-asString-fits (deep k) = tt
+asString-fits m (ok a ms k) = tt
+asString-fits m (bad f k) = tt
+asString-fits m (deep k) = tt
 
 -- what holds of the values that references can have
 module _ (P : Inline → Type 0) where
@@ -92,39 +91,42 @@ noInline-nameless true s = tt
 noInline-nameless false s = tt
 
 module _ (sub : Inside) where
-  after-fits : (n : ℕ) (ms : List Mark) (k : ℕ) (o : Out Inline) → n ≡ k → Holds (λ a ns j. NameUpto n a) o → Fits (after ms k o)
+  after-fits : (m : ℕ) (ms : List Mark) (k : ℕ) (o : Out Inline) → m ≤ k → Holds (λ a ns j. NameUpto m m a) o → Fits m (after ms k o)
   unfolding after
-  after-fits n ms k (ok (message i a) ns j) e h = omega arith
-  after-fits n ms k (ok string ns j) e h = tt
-  after-fits n ms k (ok number ns j) e h = tt
-  after-fits n ms k (ok variable ns j) e h = tt
-  after-fits n ms k (ok function ns j) e h = tt
-  after-fits n ms k (ok inner ns j) e h = tt
-  after-fits n ms k (ok (term a) ns j) e h = tt
-  after-fits n ms k (bad f j) e h = tt
-  after-fits n ms k (deep j) e h = tt
+  after-fits m ms k (ok (message i a) ns j) e h = (omega arith, h .1)
+  after-fits m ms k (ok string ns j) e h = tt
+  after-fits m ms k (ok number ns j) e h = tt
+  after-fits m ms k (ok variable ns j) e h = tt
+  after-fits m ms k (ok function ns j) e h = tt
+  after-fits m ms k (ok inner ns j) e h = tt
+  after-fits m ms k (ok (term a) ns j) e h = tt
+  after-fits m ms k (bad f j) e h = tt
+  after-fits m ms k (deep j) e h = tt
 
-  named-fits : (z s : List ℕ) (o : Out ℕ) → Holds (λ n ms k. n ≡ k) o → Fits (next s (λ n. getCallArguments sub >>= (λ call. referenceBy z n call)) o)
+  named-fits : (m : ℕ) (z s : List ℕ) (o : Out ℕ) → Holds (λ n ms k. (n ≡ k) × (n ≡ m)) o → Fits m (next s (λ n. getCallArguments sub >>= (λ call. referenceBy z n call)) o)
   unfolding next _>>=_
-  named-fits z s (ok n ms k) h = after-fits n ms k ((getCallArguments sub >>= (λ call. referenceBy z n call)) (drop k s)) h
-      (plain-next (NameUpto n) (drop k s) (λ call. referenceBy z n call) (getCallArguments sub (drop k s)) (λ v r. referenceBy-value (NameUpto n) tt n (λ a. omega arith) z v r))
-  named-fits z s (bad f k) h = tt
-  named-fits z s (deep k) h = tt
+  named-fits m z s (ok n ms k) h = after-fits m ms k ((getCallArguments sub >>= (λ call. referenceBy z n call)) (drop k s)) (omega arith)
+      (plain-next (NameUpto m m) (drop k s) (λ call. referenceBy z n call) (getCallArguments sub (drop k s)) (λ v r. referenceBy-value (NameUpto m m) tt n (λ a. (omega arith, h .1)) z v r))
+  named-fits m z s (bad f k) h = tt
+  named-fits m z s (deep k) h = tt
 
-  reference-fits : (s : List ℕ) → Fits (reference sub s)
+  reference-fits : (s : List ℕ) → Fits (run isNamePart s) (reference sub s)
   unfolding reference _>>=_
-  reference-fits s = named-fits s s (getIdentifier 9 s) (identifier-named 9 s)
+  reference-fits s = named-fits (run isNamePart s) s s (getIdentifier 9 s) (identifier-named 9 s)
 
-  pub inline-fits : (v : Bool) (s : List ℕ) → Fits (getInlineExpression sub v s)
+  pub inline-fits : (v : Bool) (s : List ℕ) → Fits (run isNamePart s) (getInlineExpression sub v s)
   unfolding getInlineExpression nonLiteral
-  inline-fits v [] = nameless-fits (noInline v []) (noInline-nameless v [])
+  inline-fits v [] = nameless-fits _ (noInline v []) (noInline-nameless v [])
   inline-fits v (b ∷ bs) =
-      pick Fits (eqb b 34) _ _ (λ q. asString-fits (stringLiteral s)) (λ q. pick Fits (isDigit b) _ _ (λ q. nameless-fits (numberLiteral s) (number-value Nameless (λ n. tt) s))
-      (λ q. pick Fits (isLetter b) _ _ (λ q. asInline-fits (reference sub s) (reference-fits s)) (λ q. pick Fits v _ _ (λ q. nameless-fits (noInline true s) (noInline-nameless true s))
-      (λ q. pick Fits (eqb b 45) _ _
-      (λ q. pick Fits (starts isLetter bs) _ _ (λ q. asInline-fits (termReference sub s) (nameless-fits (termReference sub s) (term-value Nameless sub (λ t n. tt) s))) (λ q. nameless-fits (numberLiteral s) (number-value Nameless (λ n. tt) s)))
-      (λ q. pick Fits (eqb b 36) _ _ (λ q. asInline-fits (variableReference s) (nameless-fits (variableReference s) (variable-value Nameless (λ n. tt) s)))
-      (λ q. pick Fits (eqb b 123) _ _ (λ q. asInline-fits (nestedPlaceable sub s) (nameless-fits (nestedPlaceable sub s) (nested-value Nameless sub (λ n. tt) s))) (λ q. nameless-fits (noInline false s) (noInline-nameless false s))))))))
+      pick (Fits m) (eqb b 34) _ _ (λ q. asString-fits m (stringLiteral s)) (λ q. pick (Fits m) (isDigit b) _ _ (λ q. nameless-fits m (numberLiteral s) (number-value Nameless (λ m n. tt) s))
+      (λ q. pick (Fits m) (isLetter b) _ _ (λ q. asInline-fits m (reference sub s) (reference-fits s)) (λ q. pick (Fits m) v _ _ (λ q. nameless-fits m (noInline true s) (noInline-nameless true s))
+      (λ q. pick (Fits m) (eqb b 45) _ _
+      (λ q. pick (Fits m) (starts isLetter bs) _ _ (λ q. asInline-fits m (termReference sub s) (nameless-fits m (termReference sub s) (term-value Nameless sub (λ t m n. tt) s))) (λ q. nameless-fits m (numberLiteral s) (number-value Nameless (λ m n. tt) s)))
+      (λ q. pick (Fits m) (eqb b 36) _ _ (λ q. asInline-fits m (variableReference s) (nameless-fits m (variableReference s) (variable-value Nameless (λ m n. tt) s)))
+      (λ q. pick (Fits m) (eqb b 123) _ _ (λ q. asInline-fits m (nestedPlaceable sub s) (nameless-fits m (nestedPlaceable sub s) (nested-value Nameless sub (λ m n. tt) s))) (λ q. nameless-fits m (noInline false s) (noInline-nameless false s))))))))
     where
       s : List ℕ
       s = b ∷ bs
+
+      m : ℕ
+      m = run isNamePart s

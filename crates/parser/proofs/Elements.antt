@@ -37,7 +37,7 @@ abbrev settled : Option ℕ → List Element → List Mark
 settled c [] = []
 settled c (e ∷ es) = settledOf c e ++ settled c es
 
-pub low-append : (ms ns : List Mark) → Low ms → Low ns → Low (ms ++ ns)
+low-append : (ms ns : List Mark) → Low ms → Low ns → Low (ms ++ ns)
 low-append [] ns p q = q
 low-append (m ∷ ms) ns p q = (p .0, low-append ms ns (p .1) q)
 

@@ -4,7 +4,7 @@ use mathlib.Core.Path.{_≡_, refl, sym, ap, ap₂, _∙_, subst}
 use mathlib.Core.List.{List, [], _∷_}
 use mathlib.Core.Bool.{true, false}
 use native.Mathlib.Omega.{arith}
-use borrow.Author.Tests.{lt-ltb, le-ltb, ltb-true}
+use borrow.Author.Tests.{lt-ltb, le-ltb}
 use lib.Dec.{eqb, ltb}
 use lib.ListN.{length, getD, drop, length-drop, drop-of-length-le}
 use lib.Seq.{drop-drop, drop-cons}
@@ -12,13 +12,14 @@ use Rattle.syntax.specs.declared.errors.ParserError.{ParserError}
 use Rattle.syntax.specs.Bytes.{startsWith, spaces, eol}
 use Rattle.syntax.specs.Errors.{upFault}
 use Rattle.syntax.specs.Helper.{skipBlankBlock}
-use Rattle.syntax.specs.Marks.{Mark, plain, moveUp}
+use Rattle.syntax.specs.Marks.{Mark, moveUp}
 use Rattle.syntax.specs.Reader.{Out, ok, bad, deep, after, again, done, repeat}
 use Rattle.syntax.specs.Pattern.{Inside, text, State, withPlaceable, textTurn, patternTurn, finish, stateAt, usedBy, firstState, getPattern}
 use Rattle.laws.specs.Moving.{after-after}
 use Rattle.laws.specs.Loop.{repeat-again, repeat-done}
-use Rattle.laws.specs.Balanced.{Forest, empty, tree}
-use Rattle.laws.specs.Balanced as Balanced
+use Rattle.laws.specs.Shape.Run.{Known, opened, closed, textOpened, textClosed, AllKnown}
+use Rattle.laws.specs.Formed.Pattern.{InsideFormed}
+use Rattle.laws.specs.Formed.Expression.{braced-known}
 use Rattle.laws.specs.Bounds.{Uses, Bounded, used, moves}
 use Rattle.laws.specs.Bounds.Pattern.{InsideBounds, patternTurn-bounds}
 use Rattle.parser.specs.declared.marks.Read.{Read}
@@ -34,7 +35,6 @@ use Rattle.parser.specs.Elements.{provisional, Low}
 use Rattle.parser.specs.Texts.{roleOf, afterPlaceable, Started, Holds, Turned, TextDid, Ends, Ended}
 use Rattle.parser.proofs.Steps.{step-then}
 use Rattle.parser.proofs.Dids.{fault-up, words-length, words-none, Found, found, failed-wrote, step-failed}
-use Rattle.parser.proofs.Elements.{low-append}
 use Rattle.parser.proofs.Held.{placedState, holds-placeable}
 
 -- ---- where a pattern starts
@@ -67,11 +67,15 @@ module _ (s : List ℕ) (at : ℕ) {a : ℕ} (p : Passed s at (spaces (drop at s
       rw (firstState, eol-at, z) (ap (λ (n : ℕ). stateAt n (roleOf LineStart)) (omega (arith, w .onward)))
 
 -- ---- the marks inside a placeable are none that is settled
-forest-low : {k : ℕ} {ms : List Mark} → Forest k ms → Low ms
-forest-low empty = tt
-forest-low (Balanced.text {kind} q h l f) = let z = ltb-true kind 100 (q .0) in (omega arith, (omega arith, forest-low f))
-forest-low (tree {kind} {inner} {ms} q i f) = let z = ltb-true kind 100 (q .0) in
-    (omega arith, low-append inner (plain (100 + kind) ∷ ms) (forest-low i) (omega arith, forest-low f))
+known-low : (ms : List Mark) → AllKnown ms → Low ms
+known-low [] k = tt
+known-low (m ∷ ms) k = (low (k .0) .0, known-low ms (k .1))
+  where
+    low : {m : Mark} → Known m → Low (m ∷ [])
+    low (opened j l h i) = (omega arith, tt)
+    low (closed j l h i) = (omega arith, tt)
+    low (textOpened j a l h i) = (omega arith, tt)
+    low (textClosed j e l h i) = (omega arith, tt)
 
 -- ---- the loop's invariant: the code's state holds one of the definition's, and what the loop gives from there on is what the pattern's reader gives
 pub record Going (sub : Inside) (s : List ℕ) (cap at n : ℕ) (t t₁ : List ℕ) (st : Reading) : Type 0 where
@@ -259,7 +263,7 @@ module _ {sub : Inside} {s : List ℕ} {cap at n : ℕ} {t t₁ : List ℕ} {st 
         (record { answers = ap₂ reads.Bad (k .0 .is .1 ∙ ap (λ (i : ℕ). upFault i f′) p ∙ sym (fault-up at (d .used) f′)) (omega (arith, o .0)); wrote = rw words-none (k .1) })
 
   -- ---- at a placeable, after the mark that opens it
-  module _ (l : st .at < length s) (b : startsWith 123 (drop (st .at) s) ≡ true) {left : ℕ} (law : InsideBounds left sub) {m₁ : ℕ} {t₂ t₃ : List ℕ} {r : Read}
+  module _ (l : st .at < length s) (b : startsWith 123 (drop (st .at) s) ≡ true) {left : ℕ} (law : InsideBounds left sub) (formed : InsideFormed left sub) {m₁ : ℕ} {t₂ t₃ : List ℕ} {r : Read}
       (p₁ : (m₁ ≡ st .n + 1) × Step cap (st .n) t₁ t₂ (word 13 0 ∷ [])) (h : Did reading cap (st .at) m₁ t₂ t₃ r (sub .braced (drop (st .at) s))) where
     braced-bounds : Bounded left (λ _. 20) (drop (st .at) s) (sub .braced (drop (st .at) s))
     braced-bounds = rw (drop-cons s (st .at) 0 l) (law .braced (getD s (st .at) 0) (drop (suc (st .at)) s))
@@ -297,7 +301,7 @@ module _ {sub : Inside} {s : List ℕ} {cap at n : ℕ} {t t₁ : List ℕ} {st 
           (turn-again law
           (brace-turn sub s (st .at) (g .state) l b ∙ ap (withPlaceable (g .state)) (inner .is)
           ∙ with-placeable (g .state) (inner .value) (inner .ms) (inner .k) ∙ ap (again (placedState (g .state) (inner .ms) (inner .k)) []) k)
-          (holds-placeable (g .holds) (inner .ms) (forest-low (uses .forest)) w (inner .k) i (omega (arith, p₁ .0, p₂ .0)))
+          (holds-placeable (g .holds) (inner .ms) (known-low (inner .ms) (braced-known formed (drop (st .at) s) (inner .is))) w (inner .k) i (omega (arith, p₁ .0, p₂ .0)))
           (record { inside = o .1; spent = omega (arith, o, p₂ .0); short = r .short; holds = r .holds; layout = rw (p₂ .1 .long ∙ o .3) (r .layout) }) (omega (arith, o .0)))
 
     -- it failed

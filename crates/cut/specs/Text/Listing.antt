@@ -22,10 +22,9 @@ use Rattle.laws.specs.Answers.{Holds, sure-ok}
 use Rattle.laws.specs.Stable.Helper.{block-sure}
 use Rattle.laws.specs.Entries.{following-read, entries-with, not-deep, Step, step-of, nil-named}
 use Rattle.cut.specs.Tree.Join.{and-false}
-use Rattle.laws.specs.Balanced.{Levels, Forest, forest-levels}
-use Rattle.laws.specs.Bounds.{ok-uses}
-use Rattle.laws.specs.Bounds.Pattern.{InsideBounds}
-use Rattle.laws.specs.Bounds.Entry.{entry-bounds}
+use Rattle.laws.specs.Balanced.{Levels}
+use Rattle.laws.specs.Formed.Pattern.{InsideFormed}
+use Rattle.laws.specs.Formed.Entry.{entry-levels}
 use Rattle.laws.specs.File.{Small, small-of, kind-le}
 use Rattle.laws.specs.Balanced.Nodes.{nodeOf, nodes-node, nodes-text, upNode, nodes-up}
 use Rattle.cut.specs.Text.Piece.{Ends, Opening, opensNodes, isFree}
@@ -41,10 +40,7 @@ not-six : (k : ℕ) → k ≤ 5 → eqb k 6 ≡ false
 not-six k h = ne-eqb k 6 (λ e. omega arith)
 
 module _ (sub : Inside) where
-  module _ {depth : ℕ} (mk : InsideBounds depth sub) where
-    entry-levels : (n : ℕ) (s : List ℕ) (ma : List Mark) (t : Step sub n s ma) → Levels 0 (t .ms)
-    entry-levels n s ma t = forest-levels (ok-uses (entry-bounds mk) s (t .entry) .forest)
-
+  module _ {depth : ℕ} (mk : InsideFormed depth sub) where
     abbrev near : (n : ℕ) (s : List ℕ) (ma : List Mark) (t : Step sub n s ma) → Bool
     near n s ma t = ltb (t .c) 2 && isNamed (getEntry sub (drop (t .k + t .u) s))
 
@@ -94,7 +90,7 @@ module _ (sub : Inside) where
               le = kind-le (t .e) (near n (b ∷ bs) ma t) (small-of sub (b ∷ bs) (t .entry))
 
               listed : nodes ma ≡ nodeOf K (t .ms) ∷ map (upNode j) (nodes (t .mr))
-              listed = ap nodes (sym (t .marks)) ∙ nodes-of K (t .ms) (t .mr) j le (entry-levels n (b ∷ bs) ma t)
+              listed = ap nodes (sym (t .marks)) ∙ nodes-of K (t .ms) (t .mr) j le (entry-levels mk (b ∷ bs) (t .entry))
 
               last : map (upNode j) (nodes (t .mr)) ≡ [] → eqb K 6 ≡ false
               last h = byCase (ltb 0 (length (drop (t .k + t .u) (b ∷ bs))))
@@ -140,7 +136,7 @@ module _ (sub : Inside) where
           by : (d : Entry) (ms : List Mark) (k : ℕ) → getEntry sub (c ∷ cs) ≡ ok d ms k → (kd : ℕ) → ((v : Bool) → kindOfEntry d v ≡ kd) → kd ≤ 6 → isFree S kd ≡ false → eqb kd 6 ≡ false → Named (nodes mr)
           by d ms k p kd f le a b =
               let (g, j, r, ns, es, rd, m) = entries-ok n c cs mr er d ms k e p in
-              (nodeOf kd ms, map (upNode j) (nodes ns), ap nodes (sym m) ∙ ap (λ i. nodes (node i ms ++ moveUp j ns)) (f (ltb g 2 && isNamed (getEntry sub r))) ∙ nodes-of kd ms ns j le (forest-levels (ok-uses (entry-bounds mk) (c ∷ cs) p .forest)), a, b)
+              (nodeOf kd ms, map (upNode j) (nodes ns), ap nodes (sym m) ∙ ap (λ i. nodes (node i ms ++ moveUp j ns)) (f (ltb g 2 && isNamed (getEntry sub r))) ∙ nodes-of kd ms ns j le (entry-levels mk (c ∷ cs) p), a, b)
 
           go : (o : Out Entry) → getEntry sub (c ∷ cs) ≡ o → isNamed (getEntry sub (c ∷ cs)) ≡ true → Named (nodes mr)
           go (ok message ms k) p q = by message ms k p 1 (λ v. unfold kindOfEntry in refl) (omega arith) refl refl
@@ -181,7 +177,7 @@ module _ (sub : Inside) where
                   K = kindOfEntry d (ltb g 2 && isNamed (getEntry sub r))
 
                   listed : nodes mb ≡ nodeOf K ms ∷ map (upNode j) (nodes mr)
-                  listed = ap nodes (sym m) ∙ nodes-of K ms mr j (kind-le d (ltb g 2 && isNamed (getEntry sub r)) (small-of sub (c ∷ cs) p)) (forest-levels (ok-uses (entry-bounds mk) (c ∷ cs) p .forest))
+                  listed = ap nodes (sym m) ∙ nodes-of K ms mr j (kind-le d (ltb g 2 && isNamed (getEntry sub r)) (small-of sub (c ∷ cs) p)) (entry-levels mk (c ∷ cs) p)
 
                   near-true : eqb K 6 ≡ true → (ltb g 2 && isNamed (getEntry sub r)) ≡ true
                   near-true q = byCase (ltb g 2 && isNamed (getEntry sub r)) (λ z. z) (λ z. clash q (not-six K (kind-low d (ltb g 2 && isNamed (getEntry sub r)) (small-of sub (c ∷ cs) p) z)))

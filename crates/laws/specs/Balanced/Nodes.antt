@@ -10,6 +10,7 @@ use borrow.Author.Tests.{eqb-true, eqb-false, le-ltb, ne-eqb}
 use Rattle.syntax.specs.Marks.{Mark, plain, placed, kindOf, up, moveUp, node, textNode}
 use Rattle.syntax.specs.Serializer.{Node, outside, opened, into, closed, nodesFrom, nodes}
 use Rattle.laws.specs.Moving.{moveUp-append}
+use Rattle.syntax.specs.Shape.{Run, stay, text, nest}
 use Rattle.laws.specs.Balanced.{Levels, Opened}
 
 into-nil : (o : Node) → into o [] ≡ o
@@ -121,6 +122,17 @@ module _ (P : ℕ → Type 0) where
   unfolding nodesFrom
   ok-from o d [] a b = tt
   ok-from o d (m ∷ ms) a b = ok-pick (ltb (kindOf m) 100) (eqb d 0) (eqb d 1) o d m ms a (b .0) (λ z i c. ok-from z i ms c (b .1))
+
+  ok-append : (ms ns : List Mark) → OkMarks ms → OkMarks ns → OkMarks (ms ++ ns)
+  ok-append [] ns a b = b
+  ok-append (m ∷ ms) ns a b = (a .0, ok-append ms ns (a .1) b)
+
+  -- of a run's marks, where P holds on boundaries
+  pub run-ok : {boundary : ℕ → Bool} {left k q t : ℕ} {ms : List Mark} → ((a : ℕ) → boundary a ≡ true → P a) → Run boundary left k q t ms → OkMarks ms
+  unfolding node textNode
+  run-ok f stay = tt
+  run-ok f (text j a e i s x y l rest) = (f a x, (f e y, run-ok f rest))
+  run-ok f (nest {j = j} {inner} {ms} i s o w g rest) = (tt, ok-append (inner ++ (plain (100 + j) ∷ [])) ms (ok-append inner (plain (100 + j) ∷ []) (run-ok f w) (tt, tt)) (run-ok f rest))
 
   pub ok-nodes : (ms : List Mark) → OkMarks ms → OkNodes (nodes ms)
   unfolding nodes

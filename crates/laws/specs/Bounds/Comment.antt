@@ -8,7 +8,6 @@ use lib.ListN.{drop, length, length-drop}
 use lib.Dec.{eqb, ltb}
 use borrow.Author.Tests.{eqb-true, eqb-false}
 use Rattle.syntax.specs.Bytes.{startsWith, run, eol}
-use Rattle.syntax.specs.Kind.{isText}
 use Rattle.syntax.specs.Reader.{ok, after, fail, done}
 use Rattle.syntax.specs.Comment.{lineLength, levelOf, lineEndUsed, lineRead, lineTurn, commentTurn, getComment}
 use Rattle.laws.specs.Bytes.{byCase, clash, pick, run-le, eol-le}
@@ -43,13 +42,13 @@ isOver level s = eqb (levelOf s) 0 || (not (eqb level 0) && not (eqb (levelOf s)
 module _ {n : ℕ} where
   -- a line of a comment: six marks to spare, also where it is the last and the comment's first
   line-bounded : (level l d : ℕ) (s r : List ℕ) → 0 < l → l + length r ≡ length s → d ≤ 6 → (eqb level 0 ≡ false → d ≡ 0) → TurnBounded n 6 d s (lineTurn level l r)
-  unfolding lineTurn lineRead after fail isText
+  unfolding lineTurn lineRead after fail
   line-bounded level l d s [] p w h z = ends (used (uses-nil l (omega arith) (omega arith)))
   line-bounded level l d s (b ∷ bs) p w h z =
-      pick (TurnBounded n 6 d s) (ltb 0 (eol (b ∷ bs))) _ _ (λ q. goes (uses-text (l + 0 + lineEndUsed (b ∷ bs)) 8 l (l + 0) (refl, refl) (omega (arith, lineEndUsed-le (b ∷ bs))) (omega arith) (omega arith) (omega arith)))
+      pick (TurnBounded n 6 d s) (ltb 0 (eol (b ∷ bs))) _ _ (λ q. goes (uses-text (l + 0 + lineEndUsed (b ∷ bs)) 8 l (l + 0) (omega (arith, lineEndUsed-le (b ∷ bs))) (omega arith)))
       (λ q. pick (TurnBounded n 6 d s) (eqb b 32) _ _
       (λ q. let m = lineLength bs in let u = lineEndUsed (drop m bs) in
-      goes (uses-text (l + 1 + m + u) 8 (l + 1) (l + 1 + m) (refl, refl) (omega (arith, lineLength-le bs, lineEndUsed-le (drop m bs), length-drop m bs)) (omega arith) (omega arith) (omega arith)))
+      goes (uses-text (l + 1 + m + u) 8 (l + 1) (l + 1 + m) (omega (arith, lineLength-le bs, lineEndUsed-le (drop m bs), length-drop m bs)) (omega arith)))
       (λ q. pick (TurnBounded n 6 d s) (eqb level 0) _ _
       (λ y. ends (stopped (l + 0) (omega arith)))
       (λ y. ends (used (uses-nil 0 (omega arith) (omega (arith, z y)))))))

@@ -1,13 +1,11 @@
 -- core.rs within bounds: attributes, entries, and the ends of junk.
 use Prim.Native.Nat.{ℕ, suc, _+_, _≤_, suc-le-suc}
 use native.Mathlib.Omega.{arith}
-use mathlib.Core.Path.{refl}
 use mathlib.Core.Bool.{Bool, _&&_, _||_, not}
 use mathlib.Core.List.{List, [], _∷_}
 use lib.ListN.{drop, length, length-drop}
 use lib.Dec.{eqb}
 use Rattle.syntax.specs.Bytes.{startsWith, isLetter, spaces}
-use Rattle.syntax.specs.Kind.{isText}
 use Rattle.syntax.specs.Reader.{Out}
 use Rattle.syntax.specs.Pattern.{Inside}
 use Rattle.syntax.specs.Core.{getAttribute, attributeBy, attributeTurn, getAttributes, Fields, fields, termFields, asMessage, asTerm, asComment, getEntry, toNextEntry, lineStartsAt, junkEnd}
@@ -45,8 +43,8 @@ module _ {n : ℕ} where
 
 module _ {n : ℕ} {sub : Inside} (law : InsideBounds n sub) where
   pub attribute-bounds : Bounds n (λ _. 16) (getAttribute sub)
-  unfolding getAttribute isText
-  attribute-bounds = node-bounds 10 (refl, refl) (omega arith) (then name-bounds (then inline-bounds (then (expectByte-bounds 61) (value-bounds law))))
+  unfolding getAttribute
+  attribute-bounds = node-bounds 10 (omega arith) (then name-bounds (then inline-bounds (then (expectByte-bounds 61) (value-bounds law))))
 
   pub attributeTurn-bounds : TurnBounds n (attributeTurn sub)
   unfolding attributeTurn

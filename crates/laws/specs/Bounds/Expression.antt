@@ -1,30 +1,21 @@
 -- expression.rs, with get_variants and get_placeable, within bounds.
 use Prim.Native.Nat.{ℕ, zero, suc, _+_, _-_, _≤_}
 use native.Mathlib.Omega.{arith}
-use mathlib.Core.Path.{refl}
 use mathlib.Core.Bool.{Bool, true, false, _&&_, _||_}
 use mathlib.Core.List.{List, [], _∷_}
 use lib.ListN.{drop, length, take, length-drop}
 use lib.Dec.{eqb}
 use Rattle.syntax.specs.Bytes.{startsWith, starts, second, all, isLetter, isDigit, isCalleePart}
-use Rattle.syntax.specs.Kind.{isText}
 use Rattle.syntax.specs.Marks.{Mark}
 use Rattle.syntax.specs.Reader.{Out, ok, bad, deep, after, _>>=_, _>>_, pure, Turn, turnOf}
 use Rattle.syntax.specs.Helper.{skipBlank, skipUnicodeEscapeSequence, getIdentifier}
 use Rattle.syntax.specs.Pattern.{Inside, getPattern}
 use Rattle.syntax.specs.Expression.{Inline, string, number, variable, function, inner, message, term, inlineKind, asInline, escapeTurn, stringTurn, stringLiteral, asString, numberLiteral, callArguments, getCallArguments, getAttributeAccessor, termReference, variableReference, messageReference, functionReference, referenceBy, reference, nestedPlaceable, noInline, nonLiteral, getInlineExpression, isAmong, isNone, separator, positional, namedValue, namedArgument, afterReference, pastBlank, argumentBy, argumentTurn, parenthesised, keyText, getVariantKey, needsValue, variant, variantKind, endVariants, variantWith, afterStar, turnAfter, variantTurn, getVariants, selector, alone, needsLineEnd, selectFrom, afterInline, inSelect, inlineOrSelect, getExpression, braced, tooDeep, level}
 use Rattle.laws.specs.Bytes.{pick, startsWith-some}
-use Rattle.laws.specs.Answers.{Holds}
-use Rattle.laws.specs.Values.{Fits, inline-fits, variable-value, term-value, nested-value, reference-value}
-use Rattle.laws.specs.Balanced.{Kind, forest-more}
 use Rattle.laws.specs.Bounds as Bounds
 use Rattle.laws.specs.Bounds.{Uses, uses-nil, uses-text, uses-less, uses-after, uses-node, Bounded, used, stopped, bounded-less, after-bounded, wrap-bounded, next-bounded, Bounds, bind-by, bind, then, then-inside, less, pure-bounds, fail-bounds, node-bounds, TurnBounded, goes, ends, turnOf-bounded, turn-less, TurnBounds, repeat-bounds}
 use Rattle.laws.specs.Bounds.Helper.{inline-bounds, eol-bounds, blank-bounds, takeByteIf-bounds, expectByte-bounds, numberLiteral-bounds, identifier-bounds, escape-bounds}
 use Rattle.laws.specs.Bounds.Pattern.{InsideBounds, spare, pattern-bounds}
-
-text-kinds : Kind true 9 × Kind true 17 × Kind true 18 × Kind true 19 × Kind true 20
-unfolding isText
-text-kinds = ((refl, refl), (refl, refl), (refl, refl), (refl, refl), (refl, refl))
 
 -- the room to spare of a select, past its selector
 abbrev ofSelect : Bool → ℕ
@@ -38,7 +29,7 @@ select-le false = omega arith
 
 module _ {n : ℕ} where
   pub name-bounds : Bounds n (λ _. 6) (getIdentifier 9)
-  name-bounds = identifier-bounds 9 (text-kinds .0)
+  name-bounds = identifier-bounds 9
 
   escape-bounded : (b : ℕ) (bs : List ℕ) → TurnBounded n 1 0 (b ∷ bs) (escapeTurn (b ∷ bs) bs)
   unfolding escapeTurn
@@ -68,13 +59,13 @@ module _ {n : ℕ} where
 
   asString-bounded : {s : List ℕ} {o : Out (Unit {0})} → Bounded n (λ _. 16) s o → Bounded n (λ _. 14) s (asString o)
   unfolding asString
-  asString-bounded (used {k = k} u) = used (uses-text k 19 1 (k - 1) (text-kinds .3) (u .within) (omega (arith, u .room)) (omega arith) (omega (arith, u .room)))
+  asString-bounded (used {k = k} u) = used (uses-text k 19 1 (k - 1) (u .within) (omega (arith, u .room)))
   asString-bounded (stopped k h) = stopped k h
   asString-bounded (Bounds.tooDeep k h g) = Bounds.tooDeep k h g
 
   pub number-bounds : Bounds n (λ _. 6) numberLiteral
   unfolding numberLiteral
-  number-bounds = then (numberLiteral-bounds 20 (text-kinds .4)) (pure-bounds _)
+  number-bounds = then (numberLiteral-bounds 20) (pure-bounds _)
 
   pub accessor-bounds : Bounds n (λ _. 0) getAttributeAccessor
   unfolding getAttributeAccessor
@@ -105,7 +96,7 @@ module _ {n : ℕ} where
   key-bounds = then blank-bounds (then {c = 6} key (then blank-bounds (expectByte-bounds 93)))
     where
       key : Bounds n (λ _. 6) keyText
-      key = unfold keyText in (record { on = λ s. pick (Bounded n (λ _. 6) s) (starts (λ b. isDigit b || eqb b 45) s) _ _ (λ q. numberLiteral-bounds 17 (text-kinds .1) .on s) (λ q. identifier-bounds 18 (text-kinds .2) .on s) })
+      key = unfold keyText in (record { on = λ s. pick (Bounded n (λ _. 6) s) (starts (λ b. isDigit b || eqb b 45) s) _ _ (λ q. numberLiteral-bounds 17 .on s) (λ q. identifier-bounds 18 .on s) })
 
   -- a value that has to be there gives its room
   needsValue-bounds : (v : Bool) → Bounds n (λ _. 4 - spare v) (needsValue v)
@@ -137,12 +128,11 @@ module _ {n : ℕ} where
 
   -- ---- what an inline expression is put in
 
-  asInline-bounded : {c : ℕ} {s : List ℕ} {o : Out Inline} → 2 ≤ c → Bounded n (λ _. c) s o → Holds (λ a ms k. Kind false (inlineKind a)) o
-      → Bounded n (λ _. c - 2) s (asInline o)
+  asInline-bounded : {c : ℕ} {s : List ℕ} {o : Out Inline} → 2 ≤ c → Bounded n (λ _. c) s o → Bounded n (λ _. c - 2) s (asInline o)
   unfolding asInline
-  asInline-bounded l (used {a} u) h = used (uses-node (inlineKind a) h l u)
-  asInline-bounded l (stopped k h) _ = stopped k h
-  asInline-bounded l (Bounds.tooDeep k h g) _ = Bounds.tooDeep k h g
+  asInline-bounded l (used {a} u) = used (uses-node (inlineKind a) l u)
+  asInline-bounded l (stopped k h) = stopped k h
+  asInline-bounded l (Bounds.tooDeep k h g) = Bounds.tooDeep k h g
 
   none : Bounds n ofSelect (pure false)
   unfolding pure
@@ -160,8 +150,8 @@ module _ {n : ℕ} where
   alone-bounds inner = none
 
   inSelect-bounded : {s : List ℕ} (o : Out Bool) → Bounded n (λ v. 4 + ofSelect v) s o → Bounded n (λ _. 4) s (inSelect o)
-  unfolding inSelect isText
-  inSelect-bounded (ok true ms k) (used u) = used (uses-less {c = 18} (omega arith) (uses-node {c = 20} 14 (refl, refl) (omega arith) u))
+  unfolding inSelect
+  inSelect-bounded (ok true ms k) (used u) = used (uses-less {c = 18} (omega arith) (uses-node {c = 20} 14 (omega arith) u))
   inSelect-bounded (ok false ms k) (used u) = used u
   inSelect-bounded (bad f k) (stopped j h) = stopped j h
   inSelect-bounded (deep k) (Bounds.tooDeep j h g) = Bounds.tooDeep j h g
@@ -170,11 +160,6 @@ module _ {n : ℕ} where
   unfolding turnAfter
   turnAfter-bounded l (goes u) = goes (uses-less (omega arith) (uses-after (uses-nil {c = 0} 1 l (omega arith)) u))
   turnAfter-bounded l (ends b) = ends (bounded-less (λ _. omega arith) (after-bounded (uses-nil {c = 0} 1 l (omega arith)) b))
-
-kinds : (v : Bool) → Kind false (variantKind v)
-unfolding variantKind isText
-kinds true = (refl, refl)
-kinds false = (refl, refl)
 
 -- bytes used, and blanks after them
 pub pastBlank-least : (k : ℕ) (s : List ℕ) → k ≤ pastBlank k s
@@ -225,20 +210,17 @@ module _ {n : ℕ} {sub : Inside} (law : InsideBounds n sub) where
   pub inline-expression-bounds : (v : Bool) → Bounds n (λ _. 4) (getInlineExpression sub v)
   inline-expression-bounds v = record { on = go }
     where
-      I : Inline → Type 0
-      I a = Kind false (inlineKind a)
-
       go : (s : List ℕ) → Bounded n (λ _. 4) s (getInlineExpression sub v s)
       go [] = unfold getInlineExpression in (noInline-bounds v .on [])
-      go (b ∷ bs) = unfold getInlineExpression nonLiteral inlineKind isText in
+      go (b ∷ bs) = unfold getInlineExpression nonLiteral in
           (pick P (eqb b 34) _ _ (λ q. bounded-less (λ _. omega arith) (asString-bounded (string-bounds .on s)))
           (λ q. pick P (isDigit b) _ _ (λ q. bounded-less (λ _. omega arith) (number-bounds .on s))
-          (λ q. pick P (isLetter b) _ _ (λ q. asInline-bounded (omega arith) (reference-bounds .on s) (reference-value I sub (refl, refl) (λ i a. (refl, refl)) s))
+          (λ q. pick P (isLetter b) _ _ (λ q. asInline-bounded (omega arith) (reference-bounds .on s))
           (λ q. pick P v _ _ (λ q. noInline-bounds true .on s)
           (λ q. pick P (eqb b 45) _ _
-          (λ q. pick P (starts isLetter bs) _ _ (λ q. bounded-less (λ _. omega arith) (asInline-bounded (omega arith) (term-bounds .on s) (term-value I sub (λ t. (refl, refl)) s))) (λ q. bounded-less (λ _. omega arith) (number-bounds .on s)))
-          (λ q. pick P (eqb b 36) _ _ (λ q. bounded-less (λ _. omega arith) (asInline-bounded (omega arith) (variable-bounds .on s) (variable-value I (refl, refl) s)))
-          (λ q. pick P (eqb b 123) _ _ (λ q. bounded-less (λ _. omega arith) (asInline-bounded (omega arith) (nested-bounded b bs) (nested-value I sub (refl, refl) s))) (λ q. noInline-bounds false .on s))))))))
+          (λ q. pick P (starts isLetter bs) _ _ (λ q. bounded-less (λ _. omega arith) (asInline-bounded (omega arith) (term-bounds .on s))) (λ q. bounded-less (λ _. omega arith) (number-bounds .on s)))
+          (λ q. pick P (eqb b 36) _ _ (λ q. bounded-less (λ _. omega arith) (asInline-bounded (omega arith) (variable-bounds .on s)))
+          (λ q. pick P (eqb b 123) _ _ (λ q. bounded-less (λ _. omega arith) (asInline-bounded (omega arith) (nested-bounded b bs))) (λ q. noInline-bounds false .on s))))))))
         where
           s : List ℕ
           s = b ∷ bs
@@ -258,30 +240,30 @@ module _ {n : ℕ} {sub : Inside} (law : InsideBounds n sub) where
   unfolding namedValue
   namedValue-bounds = then (expectByte-bounds 58) (then blank-bounds (inline-expression-bounds true))
 
-  named-bounded : (names : List (List ℕ)) (i k : ℕ) (s : List ℕ) → i ≤ k → k ≤ length s → 1 ≤ k → Bounded n (λ _. 16) s (namedArgument sub names i k s)
-  unfolding namedArgument _>>_ isText
-  named-bounded names i k s h l p = pick (Bounded n (λ _. 16) s) (isAmong (take i s) names) _ _ (λ q. stopped k l)
+  named-bounded : (names : List (List ℕ)) (i k : ℕ) (s : List ℕ) → k ≤ length s → 1 ≤ k → Bounded n (λ _. 16) s (namedArgument sub names i k s)
+  unfolding namedArgument _>>_
+  named-bounded names i k s l p = pick (Bounded n (λ _. 16) s) (isAmong (take i s) names) _ _ (λ q. stopped k l)
       (λ q. next-bounded (λ a v. omega arith)
-      (wrap-bounded 26 (refl, refl) (omega arith) (after-bounded {c = 6} (uses-text k 9 0 i (text-kinds .0) l (omega arith) h (omega arith)) (namedValue-bounds .on (drop k s))))
+      (wrap-bounded 26 (omega arith) (after-bounded {c = 6} (uses-text k 9 0 i l (omega arith)) (namedValue-bounds .on (drop k s))))
       (λ _. separator-bounds (take i s ∷ names)))
 
-  argumentBy-bounded : {s : List ℕ} (names : List (List ℕ)) (o : Out Inline) → Bounded n (λ _. 4) s o → Fits o → Bounded n (λ _. 4) s (argumentBy sub names s o)
+  argumentBy-bounded : {s : List ℕ} (names : List (List ℕ)) (o : Out Inline) → Bounded n (λ _. 4) s o → Bounded n (λ _. 4) s (argumentBy sub names s o)
   unfolding argumentBy afterReference
-  argumentBy-bounded {s} names (ok (message i false) ms k) (used u) f =
+  argumentBy-bounded {s} names (ok (message i false) ms k) (used u) =
       let l = pastBlank-least k s in
       let h = pastBlank-within k s (u .within) in
       let p = pastBlank k s in
-      pick (Bounded n (λ _. 4) s) (startsWith 58 (drop p s)) _ _ (λ q. bounded-less (λ _. omega arith) (named-bounded names i p s (omega arith) h (omega (arith, u .room))))
-      (λ q. positional-bounded names (record { within = h; room = omega (arith, u .room); forest = forest-more l (u .forest) }))
-  argumentBy-bounded names (ok (message i true) ms k) (used u) f = positional-bounded names u
-  argumentBy-bounded names (ok string ms k) (used u) f = positional-bounded names u
-  argumentBy-bounded names (ok number ms k) (used u) f = positional-bounded names u
-  argumentBy-bounded names (ok variable ms k) (used u) f = positional-bounded names u
-  argumentBy-bounded names (ok function ms k) (used u) f = positional-bounded names u
-  argumentBy-bounded names (ok inner ms k) (used u) f = positional-bounded names u
-  argumentBy-bounded names (ok (term a) ms k) (used u) f = positional-bounded names u
-  argumentBy-bounded names (bad e k) (stopped j h) f = stopped j h
-  argumentBy-bounded names (deep k) (Bounds.tooDeep j h g) f = Bounds.tooDeep j h g
+      pick (Bounded n (λ _. 4) s) (startsWith 58 (drop p s)) _ _ (λ q. bounded-less (λ _. omega arith) (named-bounded names i p s h (omega (arith, u .room))))
+      (λ q. positional-bounded names (record { within = h; room = omega (arith, u .room) }))
+  argumentBy-bounded names (ok (message i true) ms k) (used u) = positional-bounded names u
+  argumentBy-bounded names (ok string ms k) (used u) = positional-bounded names u
+  argumentBy-bounded names (ok number ms k) (used u) = positional-bounded names u
+  argumentBy-bounded names (ok variable ms k) (used u) = positional-bounded names u
+  argumentBy-bounded names (ok function ms k) (used u) = positional-bounded names u
+  argumentBy-bounded names (ok inner ms k) (used u) = positional-bounded names u
+  argumentBy-bounded names (ok (term a) ms k) (used u) = positional-bounded names u
+  argumentBy-bounded names (bad e k) (stopped j h) = stopped j h
+  argumentBy-bounded names (deep k) (Bounds.tooDeep j h g) = Bounds.tooDeep j h g
 
   pub argumentTurn-bounds : TurnBounds n (argumentTurn sub)
   argumentTurn-bounds = record { on = go }
@@ -290,11 +272,11 @@ module _ {n : ℕ} {sub : Inside} (law : InsideBounds n sub) where
       go names [] = unfold argumentTurn in (ends (used (uses-nil 0 (omega arith) (omega arith))))
       go names (b ∷ bs) = unfold argumentTurn in
           (pick (TurnBounded n 1 0 (b ∷ bs)) (eqb b 41) _ _ (λ q. ends (used (uses-nil 0 (omega arith) (omega arith))))
-          (λ q. turn-less (omega arith) (omega arith) (turnOf-bounded {d = 0} (argumentBy-bounded names (getInlineExpression sub false (b ∷ bs)) (inline-expression-bounds false .on (b ∷ bs)) (inline-fits sub false (b ∷ bs))))))
+          (λ q. turn-less (omega arith) (omega arith) (turnOf-bounded {d = 0} (argumentBy-bounded names (getInlineExpression sub false (b ∷ bs)) (inline-expression-bounds false .on (b ∷ bs))))))
 
   pub parenthesised-bounds : Bounds (suc n) (λ _. 14) (parenthesised sub)
-  unfolding parenthesised isText
-  parenthesised-bounds = node-bounds 25 (refl, refl) (omega arith) (then-inside (omega arith) (expectByte-bounds 40) (then blank-bounds (then (repeat-bounds argumentTurn-bounds []) (expectByte-bounds 41))))
+  unfolding parenthesised
+  parenthesised-bounds = node-bounds 25 (omega arith) (then-inside (omega arith) (expectByte-bounds 40) (then blank-bounds (then (repeat-bounds argumentTurn-bounds []) (expectByte-bounds 41))))
 
   -- ---- variants
 
@@ -307,7 +289,7 @@ module _ {n : ℕ} {sub : Inside} (law : InsideBounds n sub) where
 
   variantWith-bounds : (default hasDefault : Bool) → Bounds n (λ _. 24) (variantWith sub default hasDefault)
   unfolding variantWith
-  variantWith-bounds default hasDefault = then (node-bounds (variantKind default) (kinds default) (omega arith) variant-bounds) (then blank-bounds (pure-bounds _))
+  variantWith-bounds default hasDefault = then (node-bounds (variantKind default) (omega arith) variant-bounds) (then blank-bounds (pure-bounds _))
 
   afterStar-bounded : (default hasDefault : Bool) (s : List ℕ) → TurnBounded n 24 0 s (afterStar sub default hasDefault s)
   unfolding afterStar

@@ -12,7 +12,6 @@ use Rattle.syntax.specs.Bytes.{startsWith, starts, isLetter, isDigit, isNamePar
 use Rattle.syntax.specs.Reader.{Out, ok, again, done}
 use Rattle.syntax.specs.Helper.{skipBlankInline, skipEol, blankTurn, skipBlank, blockTurn, skipBlankBlock, takeByteIf, expectByte, skipDigits, fraction, number, asText, getNumberLiteral, getIdentifier, skipUnicodeEscapeSequence}
 use Rattle.laws.specs.Bytes.{clash, pick, run-le, spaces-le, eol-le, startsWith-some}
-use Rattle.laws.specs.Balanced.{Kind}
 use Rattle.laws.specs.Bounds.{uses-nil, uses-text, Bounded, used, stopped, tooDeep, Bounds, bind, then, less, pure-bounds, fail-bounds, TurnBounded, goes, ends, TurnBounds, repeat-bounds}
 
 pub name-some : (s : List ℕ) → starts isLetter s ≡ true → 0 < run isNamePart s
@@ -75,21 +74,21 @@ module _ {n : ℕ} where
   unfolding number
   number-bounds = then (takeByteIf-bounds 45) (then digits-bounds (bind (takeByteIf-bounds 46) fraction-bounds))
 
-  asText-bounded : {s : List ℕ} {o : Out (Unit {0})} (kind : ℕ) → Kind true kind → Bounded n (λ _. 8) s o → Bounded n (λ _. 6) s (asText kind o)
+  asText-bounded : {s : List ℕ} {o : Out (Unit {0})} (kind : ℕ) → Bounded n (λ _. 8) s o → Bounded n (λ _. 6) s (asText kind o)
   unfolding asText
-  asText-bounded kind q (used {k = k} u) = used (uses-text k kind 0 k q (u .within) (omega arith) (omega arith) (omega (arith, u .room)))
-  asText-bounded kind q (stopped k h) = stopped k h
-  asText-bounded kind q (tooDeep k h g) = tooDeep k h g
+  asText-bounded kind (used {k = k} u) = used (uses-text k kind 0 k (u .within) (omega (arith, u .room)))
+  asText-bounded kind (stopped k h) = stopped k h
+  asText-bounded kind (tooDeep k h g) = tooDeep k h g
 
-  pub numberLiteral-bounds : (kind : ℕ) → Kind true kind → Bounds n (λ _. 6) (getNumberLiteral kind)
+  pub numberLiteral-bounds : (kind : ℕ) → Bounds n (λ _. 6) (getNumberLiteral kind)
   unfolding getNumberLiteral
-  numberLiteral-bounds kind q = record { on = λ s. asText-bounded kind q (number-bounds .on s) }
+  numberLiteral-bounds kind = record { on = λ s. asText-bounded kind (number-bounds .on s) }
 
-  pub identifier-bounds : (kind : ℕ) → Kind true kind → Bounds n (λ _. 6) (getIdentifier kind)
+  pub identifier-bounds : (kind : ℕ) → Bounds n (λ _. 6) (getIdentifier kind)
   unfolding getIdentifier
-  identifier-bounds kind q = record {
+  identifier-bounds kind = record {
     on = λ s. pick (Bounded n (λ _. 6) s) (starts isLetter s) _ _
-        (λ h. used (uses-text (run isNamePart s) kind 0 (run isNamePart s) q (run-le isNamePart s) (omega arith) (omega arith) (omega (arith, name-some s h))))
+        (λ h. used (uses-text (run isNamePart s) kind 0 (run isNamePart s) (run-le isNamePart s) (omega (arith, name-some s h))))
         (λ h. fail-bounds (ExpectedCharRange 1) .on s);
   }
 

@@ -1,5 +1,5 @@
 -- pattern.rs within bounds.
-use Prim.Native.Nat.{ℕ, zero, suc, _+_, _-_, _*_, _≤_, _<_}
+use Prim.Native.Nat.{ℕ, zero, suc, _+_, _*_, _≤_, _<_}
 use native.Mathlib.Omega.{arith}
 use mathlib.Core.Path.{_≡_, refl, sym, subst}
 use mathlib.Core.Bool.{Bool, true, false, _&&_, _||_, not}
@@ -9,7 +9,6 @@ use lib.ListN.{drop, length, take, length-append, length-drop, length-take}
 use lib.Dec.{eqb, ltb}
 use borrow.Author.Tests.{eqb-true, eqb-false, ltb-true}
 use Rattle.syntax.specs.Bytes.{run, eol, spaces}
-use Rattle.syntax.specs.Kind.{isText}
 use Rattle.syntax.specs.Marks.{Mark, plain, moveUp, textNode, node}
 use Rattle.syntax.specs.Reader.{Out, ok, bad, deep, after, Turn, again, done, repeat}
 use Rattle.syntax.specs.Helper.{skipBlankBlock}
@@ -17,7 +16,6 @@ use Rattle.syntax.specs.Pattern.{Inside, Role, initialLineStart, lineStart, con
 use Rattle.laws.specs.Bytes.{byCase, clash, pick, run-le, spaces-le, eol-le}
 use Rattle.laws.specs.Moving.{moveUp-length}
 use Rattle.laws.specs.Answers.{Holds, TurnHolds, loop-holds}
-use Rattle.laws.specs.Balanced.{Forest, empty, forest-text, forest-node, forest-join, forest-more, forest-up}
 use Rattle.laws.specs.Bounds.{uses-nil, Bounded, used, stopped, tooDeep, after-bounded, Bounds, TurnBounded, goes, ends, TurnBounds, repeat-bounds}
 use Rattle.laws.specs.Bounds.Helper.{block-bounds}
 
@@ -106,21 +104,21 @@ marksOf [] = 0
 marksOf (placeable ms ∷ es) = 2 + length ms + marksOf es
 marksOf (text a e i l ∷ es) = 2 + marksOf es
 
--- placeables are good, and texts in order, up to k
+-- texts end at k at most
 abbrev pub Els : ℕ → List Element → Type 0
 Els k [] = Unit {0}
-Els k (placeable ms ∷ es) = Forest k ms × Els k es
-Els k (text a e i l ∷ es) = (a + i ≤ e) × (e ≤ k) × Els k es
+Els k (placeable ms ∷ es) = Els k es
+Els k (text a e i l ∷ es) = (e ≤ k) × Els k es
 
 pub els-more : (k j : ℕ) → k ≤ j → (es : List Element) → Els k es → Els j es
 els-more k j h [] p = tt
-els-more k j h (placeable ms ∷ es) p = (forest-more h (p .0), els-more k j h es (p .1))
-els-more k j h (text a e i l ∷ es) p = (p .0, omega (arith, p .1), els-more k j h es (p .2))
+els-more k j h (placeable ms ∷ es) p = els-more k j h es p
+els-more k j h (text a e i l ∷ es) p = (omega (arith, p .0), els-more k j h es (p .1))
 
 els-snoc : (k : ℕ) (es : List Element) (e : Element) → Els k es → Els k (e ∷ []) → Els k (es ++ (e ∷ []))
 els-snoc k [] e p q = q
-els-snoc k (placeable ms ∷ es) e p q = (p .0, els-snoc k es e (p .1) q)
-els-snoc k (text a f i l ∷ es) e p q = (p .0, p .1, els-snoc k es e (p .2) q)
+els-snoc k (placeable ms ∷ es) e p q = els-snoc k es e p q
+els-snoc k (text a f i l ∷ es) e p q = (p .0, els-snoc k es e (p .1) q)
 
 marks-snoc : (es : List Element) (e : Element) → marksOf (es ++ (e ∷ [])) ≡ marksOf es + marksOf (e ∷ [])
 marks-snoc [] e = omega arith
@@ -144,23 +142,10 @@ dedented-le c a i false = omega arith
 dedented-le none a i true = omega arith
 dedented-le (some c) a i true = omega arith
 
-textMarks-forest : (s : List ℕ) (v : Bool) (a e k : ℕ) → a ≤ e → e ≤ k → Forest k (textMarks s v a e)
-unfolding textMarks isText
-textMarks-forest s true a e k h l = forest-text 12 a (a + trimmed (take (e - a) (drop a s))) (refl, refl) (omega arith) (omega (arith, trimmed-le (take (e - a) (drop a s)), length-take (e - a) (drop a s)))
-textMarks-forest s false a e k h l = forest-text 12 a e (refl, refl) h l
-
 textMarks-length : (s : List ℕ) (v : Bool) (a e : ℕ) → length (textMarks s v a e) ≡ 2
 unfolding textMarks textNode
 textMarks-length s true a e = refl
 textMarks-length s false a e = refl
-
-elementMarks-forest : (s : List ℕ) (c : Option ℕ) (k m : ℕ) (es : List Element) → Els k es → Forest k (elementMarks s c m es)
-unfolding elementMarks isText
-elementMarks-forest s c k zero es p = empty
-elementMarks-forest s c k (suc m) [] p = empty
-elementMarks-forest s c k (suc m) (placeable ms ∷ es) p = forest-join (forest-node 13 (refl, refl) (p .0)) (elementMarks-forest s c k m es (p .1))
-elementMarks-forest s c k (suc m) (text a e i l ∷ es) p = forest-join
-    (textMarks-forest s (eqb m 0) (dedented c a i l) e k (omega (arith, dedented-le c a i l, p .0)) (p .1)) (elementMarks-forest s c k m es (p .2))
 
 elementMarks-length : (s : List ℕ) (c : Option ℕ) (m : ℕ) (es : List Element) → length (elementMarks s c m es) ≤ marksOf es
 unfolding elementMarks node
@@ -207,7 +192,7 @@ module _ (st : State) (indent k : ℕ) (t : Slice) (h : t .size ≤ k) where
   text-els : (v : Bool) → Grown st → Els (st .used + (indent + k)) (elements-with v)
   unfolding elements-with
   text-els true g = els-snoc (st .used + (indent + k)) (st .elements) (text (st .used) (st .used + indent + t .size) indent (isLineStart (st .role)))
-      (els-more (st .used) (st .used + (indent + k)) (omega arith) (st .elements) (g .els)) (omega arith, omega arith, tt)
+      (els-more (st .used) (st .used + (indent + k)) (omega arith) (st .elements) (g .els)) (omega arith, tt)
   text-els false g = els-more (st .used) (st .used + (indent + k)) (omega arith) (st .elements) (g .els)
 
   text-room : (v : Bool) → (v ≡ true → 0 < t .size) → Grown st → marksOf (elements-with v) + 6 * length (elements-with v) ≤ 8 * (st .used + (indent + k))
@@ -259,7 +244,7 @@ withPlaceable-grows st (ok u ms k) (used v) = λ g. (new g, refl)
 
     new : Grown st → Grown past
     new g = record {
-      els = els-snoc (st .used + k) (st .elements) e (els-more (st .used) (st .used + k) (omega arith) (st .elements) (g .els)) (forest-up (st .used) (v .forest), tt);
+      els = els-snoc (st .used + k) (st .elements) e (els-more (st .used) (st .used + k) (omega arith) (st .elements) (g .els)) tt;
       room = omega (arith, g .room, v .room, marks-snoc (st .elements) e, length-append (st .elements) (e ∷ []), moveUp-length (st .used) ms);
       kept = omega (arith, length-append (st .elements) (e ∷ []));
     }
@@ -286,12 +271,11 @@ abbrev pub spare : Bool → ℕ
 spare v = elim v [ true ↦ 4 | false ↦ 0 ]
 
 finish-bounded : {n : ℕ} (s : List ℕ) (o : Out State) → Bounded n (λ _. 0) s o → Holds (λ st ms k. Grown st × (st .used ≤ k)) o → Bounded n spare s (finish s o)
-unfolding finish isText node
+unfolding finish node
 finish-bounded {n} s (ok st ms k) (used u) (g, l) = pick (Bounded n spare s) (eqb (st .kept) 0) _ _ (λ q. used (uses-nil k (u .within) (omega arith)))
     (λ q. used (record {
       within = u .within;
       room = omega (arith, g .room, g .kept, eqb-false (st .kept) 0 q, elementMarks-length s (st .common) (st .kept) (st .elements), length-append (elementMarks s (st .common) (st .kept) (st .elements)) (plain 111 ∷ []));
-      forest = forest-node 11 (refl, refl) (elementMarks-forest s (st .common) k (st .kept) (st .elements) (els-more (st .used) k l (st .elements) (g .els)));
     }))
 finish-bounded s (bad f k) (stopped j h) g = stopped j h
 finish-bounded s (deep k) (tooDeep j h i) g = tooDeep j h i

@@ -9,7 +9,7 @@ use lib.ListN.{drop, length, take, length-drop}
 use lib.Seq.{take-append-le}
 use lib.Dec.{eqb, ltb}
 use borrow.Author.Tests.{ltb-true, ltb-false}
-use Rattle.syntax.specs.Bytes.{startsWith}
+use Rattle.syntax.specs.Bytes.{startsWith, run, isNamePart}
 use Rattle.syntax.specs.declared.errors.ErrorKind.the-variants as Errors
 use Rattle.syntax.specs.Marks.{Mark, textNode}
 use Rattle.syntax.specs.Reader.{Out, ok, bad, deep, Reader, fail, _>>_, next, after, wrap}
@@ -149,7 +149,7 @@ module _ (sub : Inside) (law : InsideLaw sub) where
         (holds-map (λ b ns j. k ≤ j) (λ b ns j. Upto loose y (length x) j → argumentBy sub names (x ++ y) o′ ≡ positional names ms k (x ++ y))
         (λ b ns j l u. ap (argumentBy sub names (x ++ y)) (c (omega arith)) ∙ e) (positional names ms k x) (positional-least x y w names ms k x))
 
-    argumentBy-keeps : (o o′ : Out Inline) → Fits o → Carries (Upto loose y (length x)) o o′
+    argumentBy-keeps : (o o′ : Out Inline) → Fits (run isNamePart x) o → Carries (Upto loose y (length x)) o o′
         → Carries (Upto loose y (length x)) (argumentBy sub names x o) (argumentBy sub names (x ++ y) o′)
     unfolding argumentBy
     argumentBy-keeps (ok (message n false) ms k) o′ f c =

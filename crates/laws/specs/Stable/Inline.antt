@@ -9,7 +9,7 @@ use lib.ListN.{drop, length, take}
 use lib.Seq.{take-append-le}
 use lib.Dec.{eqb}
 use borrow.Author.Tests.{eqb-true}
-use Rattle.syntax.specs.Bytes.{startsWith, starts, all, isLetter, isDigit, isCalleePart}
+use Rattle.syntax.specs.Bytes.{startsWith, starts, all, isLetter, isDigit, isCalleePart, run, isNamePart}
 use Rattle.syntax.specs.declared.errors.ErrorKind.the-variants as Errors
 use Rattle.syntax.specs.Marks.{node}
 use Rattle.syntax.specs.Reader.{Out, ok, bad, deep, Reader, fail, _>>=_, _>>_, pure, next, after}
@@ -90,7 +90,7 @@ module _ (sub : Inside) (law : InsideLaw sub) where
   referenceBy-same x y n h true = ap functionReference (sym (take-append-le n x y h))
   referenceBy-same x y n h false = refl
 
-  named-at : (x y s : List ℕ) (o : Out ℕ) → Within (length x) o → Holds (λ n ms k. n ≡ k) o
+  named-at : (x y s : List ℕ) (o : Out ℕ) → Within (length x) o → Holds (λ n ms k. (n ≡ k) × (n ≡ run isNamePart s)) o
       → next s (λ n. getCallArguments sub >>= (λ call. referenceBy x n call)) o ≡ next s (λ n. getCallArguments sub >>= (λ call. referenceBy (x ++ y) n call)) o
   unfolding next
   named-at x y s (ok n ms k) h e = ap (λ f. after ms k ((getCallArguments sub >>= f) (drop k s))) (fun-ext (referenceBy-same x y n (omega arith)))

@@ -188,10 +188,10 @@ elementMarks-same : (x y : List ℕ) (c : Option ℕ) (n : ℕ) (es : List Eleme
 unfolding elementMarks
 elementMarks-same x y c zero es p = refl
 elementMarks-same x y c (suc n) [] p = refl
-elementMarks-same x y c (suc n) (placeable ms ∷ es) p = ap (λ r. node 13 ms ++ r) (elementMarks-same x y c n es (p .1))
+elementMarks-same x y c (suc n) (placeable ms ∷ es) p = ap (λ r. node 13 ms ++ r) (elementMarks-same x y c n es p)
 elementMarks-same x y c (suc n) (text a e i l ∷ es) p =
-    ap (λ r. r ++ elementMarks (x ++ y) c n es) (textMarks-same x y (eqb n 0) (dedented c a i l) e (p .1))
-    ∙ ap (λ r. textMarks x (eqb n 0) (dedented c a i l) e ++ r) (elementMarks-same x y c n es (p .2))
+    ap (λ r. r ++ elementMarks (x ++ y) c n es) (textMarks-same x y (eqb n 0) (dedented c a i l) e (p .0))
+    ∙ ap (λ r. textMarks x (eqb n 0) (dedented c a i l) e ++ r) (elementMarks-same x y c n es (p .1))
 
 -- where a pattern starts
 abbrev firstOf : ℕ → ℕ → ℕ → State
