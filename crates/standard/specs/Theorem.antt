@@ -21,7 +21,8 @@ use Rattle.standard.specs.Turns.{Fitting}
 use Rattle.laws.specs.Bytes.{byCase}
 use Rattle.laws.specs.Call.{read-of}
 use Rattle.laws.specs.File.{parse-read, parse-reads}
-use Rattle.laws.specs.Layout.{forest-proper, tree-marks}
+use Rattle.laws.specs.Formed.{proper}
+use Rattle.laws.specs.Layout.{tree-marks}
 use Rattle.laws.specs.Limit.Readings.{parse-kept}
 use Rattle.standard.specs.Dialect.{rust}
 use Rattle.standard.specs.Grammar as Grammar
@@ -45,7 +46,7 @@ pub accepted-is-standard : (s tree errors : List ℕ) → readAnswer s (length t
 accepted-is-standard s t e h =
     let r = read-of s t e h in
     let u = parse-read maxOpen s (r .reads) .0 in
-    ap marksIn (r .tree) ∙ tree-marks (treeCapacity (length s)) (r .marks) (drop (treeLayout (length s)) t) (omega (arith, u .room)) (forest-proper (u .forest))
+    ap marksIn (r .tree) ∙ tree-marks (treeCapacity (length s)) (r .marks) (drop (treeLayout (length s)) t) (omega (arith, u .room)) (proper maxOpen s (r .marks) (r .errors) (r .reads))
     ∙ sym (resource-is-standard maxOpen s (r .marks) (r .errors) (r .reads))
 
 -- There is junk exactly where no entry can be read: the production Entry fails where the reading finds an error, and fits where it reads an entry
