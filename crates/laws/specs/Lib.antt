@@ -32,3 +32,5 @@ pub mod Layout
 pub mod Call
 -- the shape of mark lists, its check and the verdict
 pub mod Shape
+-- elements stored one after another
+pub mod Sets
