@@ -34,3 +34,5 @@ pub mod Call
 pub mod Shape
 -- the marks of a reading are well formed
 pub mod Formed
+-- elements stored one after another
+pub mod Sets

@@ -1,6 +1,6 @@
 -- An error in a list's words: a kind in the first array, and a group in the second.
 use Prim.Native.Nat.{ℕ, zero, suc, _+_, _-_, _*_, _≤_, _<_}
-use native.Mathlib.Nat.{add-zero, add-suc, suc-add, add-comm}
+use native.Mathlib.Nat.{add-suc, add-comm}
 use native.Mathlib.Numerals.{add-one}
 use native.Mathlib.Omega.{arith}
 use mathlib.Core.Path.{_≡_, refl, sym, ap, ap₂, _∙_}
@@ -11,12 +11,8 @@ use Rattle.syntax.specs.declared.errors.KindWords.{KindWords}
 use Rattle.syntax.specs.Errors.{wordsOf}
 use Rattle.syntax.specs.Core.{Error}
 use Rattle.syntax.specs.Layout.{groups, group, errorNumber}
+use Rattle.laws.specs.Sets.{sets-append}
 use Rattle.parser.specs.ErrorList.{Spare, ErrorStep}
-
--- words written in two goes
-sets-append : (l : List ℕ) (i : ℕ) (xs ys : List ℕ) → sets (sets l i xs) (i + length xs) ys ≡ sets l i (xs ++ ys)
-sets-append l i [] ys = ap (λ k. sets l k ys) (add-zero i)
-sets-append l i (x ∷ xs) ys = ap (λ k. sets (sets (set l i x) (suc i) xs) k ys) (add-suc i (length xs) ∙ sym (suc-add i (length xs))) ∙ sets-append (set l i x) (suc i) xs ys
 
 -- words before, from and past what is written
 before-set : (m p i : ℕ) (l : List ℕ) (a : ℕ) → p + m ≤ i → take m (drop p (set l i a)) ≡ take m (drop p l)

@@ -3,3 +3,4 @@ pub mod Table
 pub mod Marks
 pub mod Stack
 pub mod Check
+pub mod Pieces

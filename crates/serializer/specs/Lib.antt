@@ -1,3 +1,4 @@
--- What the contracts of the shape check cite.
+-- What the contracts of the shape check and of the writer cite.
 pub mod Models
 pub mod Shape
+pub mod Writer

@@ -1,0 +1,123 @@
+-- Pieces written one after another.
+use Prim.Native.Nat.{ℕ, suc, _+_, _-_, _*_, _^_, _≤_, _<_}
+use native.Mathlib.Nat.{add-zero}
+use native.Mathlib.Numerals.{add-one}
+use native.Mathlib.Omega.{arith}
+use mathlib.Core.Path.{_≡_, refl, sym, ap, ap₂, _∙_}
+use mathlib.Core.List.{List, [], _∷_, _++_}
+use lib.ListN.{length, length-append, set, take, getD, replicate, length-replicate, replicate-append-replicate}
+use lib.Seq.{sets, length-sets, take-suc}
+use borrow.Author.Tests.{eq-eqb, ne-eqb}
+use Rattle.laws.specs.Sets.{sets-append, sets-last}
+use Rattle.syntax.specs.Byte as Byte
+use Rattle.syntax.specs.Serializer.{Piece, lastOf, _⊕_, empty, indented, literal, newline, star}
+use Rattle.serializer.specs.declared.writer.TextWriter.{TextWriter}
+use Rattle.serializer.specs.Writer.{textAt, bytes, Room, Wrote}
+
+lastOf-append : (b : ℕ) (s t : List ℕ) → lastOf b (s ++ t) ≡ lastOf (lastOf b s) t
+unfolding lastOf
+lastOf-append b [] t = refl
+lastOf-append b (x ∷ s) t = lastOf-append x s t
+
+-- nothing is written
+pub wrote-nothing : {o : List ℕ} {w : TextWriter} → Wrote o o w w empty
+unfolding empty lastOf
+wrote-nothing {w = w} = record { stored = refl; end = sym (add-zero (w .at)); ending = refl; level = refl }
+
+pub wrote-none : {o : List ℕ} {w : TextWriter} → Wrote o o w w (bytes [])
+unfolding lastOf
+wrote-none {w = w} = record { stored = refl; end = sym (add-zero (w .at)); ending = refl; level = refl }
+
+-- the output stays as long as it is
+pub wrote-length : {o o′ : List ℕ} {w w′ : TextWriter} {p : Piece} → Wrote o o′ w w′ p → length o′ ≡ length o
+wrote-length {o} {w = w} {p = p} h = ap length (h .stored) ∙ length-sets o (w .at) (textAt w p)
+
+-- a byte is stored, or there is no room for it
+pub wrote-byte : {o o′ : List ℕ} {w w′ : TextWriter} (b : ℕ) → o′ ≡ set o (w .at) b → w′ ≡ (record { at = w .at + 1; last = b; indent = w .indent }) → Wrote o o′ w w′ (bytes (b ∷ []))
+unfolding lastOf
+wrote-byte b e f = record { stored = e; end = ap (λ z. z .at) f; ending = ap (λ z. z .last) f; level = ap (λ z. z .indent) f }
+
+-- another piece with the same bytes here
+pub wrote-as : {o o′ : List ℕ} {w w′ : TextWriter} {p : Piece} (q : Piece) → textAt w p ≡ textAt w q → Wrote o o′ w w′ p → Wrote o o′ w w′ q
+wrote-as {o} {w = w} q e h =
+    record { stored = h .stored ∙ ap (λ t. sets o (w .at) t) e; end = h .end ∙ ap (λ t. w .at + length t) e; ending = h .ending ∙ ap (λ t. lastOf (w .last) t) e; level = h .level }
+
+-- a piece, and then another
+module _ {o o₁ : List ℕ} {w w₁ : TextWriter} {p : Piece} (h : Wrote o o₁ w w₁ p) (q : Piece) where
+  second : textAt w₁ q ≡ q (w .indent) (lastOf (w .last) (textAt w p))
+  second = ap₂ q (h .level) (h .ending)
+
+  pub wrote-then : {o₂ : List ℕ} {w₂ : TextWriter} → Wrote o₁ o₂ w₁ w₂ q → Wrote o o₂ w w₂ (p ⊕ q)
+  unfolding _⊕_
+  wrote-then l =
+      let t = textAt w p in
+      let u = q (w .indent) (lastOf (w .last) t) in
+      record {
+        stored = cc (second, sets-append o (w .at) t u);
+        end = omega (arith, length-append t u, ap length second, h .end, l .end);
+        ending = cc (second, lastOf-append (w .last) t u);
+        level = l .level ∙ h .level;
+      }
+
+  pub room-after : Room w (p ⊕ q) → Room w₁ q
+  unfolding _⊕_
+  room-after r = omega (arith, length-append (textAt w p) (q (w .indent) (lastOf (w .last) (textAt w p))), ap length second, h .end)
+
+pub room-before : (w : TextWriter) (p q : Piece) → Room w (p ⊕ q) → Room w p
+unfolding _⊕_
+room-before w p q r = omega (arith, length-append (textAt w p) (q (w .indent) (lastOf (w .last) (textAt w p))))
+
+-- one byte more of a slice
+pub wrote-more : {o o₁ o₂ : List ℕ} {w w₁ w₂ : TextWriter} (t : List ℕ) (i : ℕ) → i < length t
+    → Wrote o o₁ w w₁ (bytes (take i t)) → Wrote o₁ o₂ w₁ w₂ (bytes (getD t i 0 ∷ [])) → Wrote o o₂ w w₂ (bytes (take (i + 1) t))
+unfolding _⊕_
+wrote-more {o} {o₂ = o₂} {w} {w₂ = w₂} t i l h k = rw (add-one, take-suc t i 0 l) (wrote-then h (bytes (getD t i 0 ∷ [])) k)
+
+-- the spaces of one level more
+pub wrote-level : {o o₁ o₂ : List ℕ} {w w₁ w₂ : TextWriter} (n : ℕ) → Wrote o o₁ w w₁ (bytes (replicate (4 * n) 32)) → Wrote o₁ o₂ w₁ w₂ (bytes (replicate 4 32)) → Wrote o o₂ w w₂ (bytes (replicate (4 * (n + 1)) 32))
+unfolding _⊕_
+wrote-level n h k =
+    let e : 4 * (n + 1) ≡ 4 * n + 4 = omega arith in
+    rw (e, ← replicate-append-replicate (4 * n) 4 Byte.space) (wrote-then h (bytes (replicate 4 32)) k)
+
+-- the bytes of a line end, and of a literal, where the writer stands
+module _ (w : TextWriter) where
+  pub newline-doubled : w .last ≡ Byte.carriageReturn → textAt w newline ≡ Byte.carriageReturn ∷ Byte.lineFeed ∷ []
+  unfolding newline
+  newline-doubled e = rw (eq-eqb (w .last) Byte.carriageReturn e, newline)
+
+  pub newline-alone : (w .last ≡ Byte.carriageReturn → ⊥) → textAt w newline ≡ Byte.lineFeed ∷ []
+  unfolding newline
+  newline-alone e = rw (ne-eqb (w .last) Byte.carriageReturn e, newline)
+
+  pub literal-indented : (t : List ℕ) → w .last ≡ Byte.lineFeed → textAt w (literal t) ≡ replicate (4 * w .indent) Byte.space ++ t
+  unfolding literal
+  literal-indented t e = rw (eq-eqb (w .last) Byte.lineFeed e, literal)
+
+  pub literal-plain : (t : List ℕ) → (w .last ≡ Byte.lineFeed → ⊥) → textAt w (literal t) ≡ t
+  unfolding literal
+  literal-plain t e = rw (ne-eqb (w .last) Byte.lineFeed e, literal)
+
+  star-length : 1 ≤ w .indent → length (textAt w star) ≡ 4 * w .indent
+  unfolding star
+  star-length h = rw (length-append (replicate (4 * w .indent - 1) Byte.space) (Byte.star ∷ []), length-replicate (4 * w .indent - 1) Byte.space) (omega arith)
+
+  pub room-star : 1 ≤ w .indent → Room w star → w .at + 4 * w .indent < 2 ^ 63
+  room-star h r = omega (arith, star-length h)
+
+  -- the star in the place of the last space
+  pub wrote-star : {o o₁ o₂ : List ℕ} {w₁ w₂ w₃ : TextWriter} → 1 ≤ w .indent → Wrote o o₁ w w₁ (bytes (replicate (4 * w .indent) Byte.space))
+      → w₂ .at ≡ w₁ .at - 1 → w₂ .indent ≡ w₁ .indent → Wrote o₁ o₂ w₂ w₃ (bytes (Byte.star ∷ [])) → Wrote o o₂ w w₃ star
+  unfolding star lastOf
+  wrote-star {o} {w₂ = w₂} h a e i b =
+      let m = 4 * w .indent - 1 in
+      let n : 4 * w .indent ≡ m + 1 = omega arith in
+      let spaces : replicate (4 * w .indent) Byte.space ≡ replicate m Byte.space ++ (Byte.space ∷ []) = ap (λ k. replicate k Byte.space) n ∙ sym (replicate-append-replicate m 1 Byte.space) in
+      let long : length (replicate m Byte.space) ≡ m = length-replicate m Byte.space in
+      let place : w₂ .at ≡ w .at + length (replicate m Byte.space) = omega (arith, a .end, length-replicate (4 * w .indent) Byte.space) in
+      record {
+        stored = b .stored ∙ ap₂ (λ r k. set r k Byte.star) (a .stored ∙ ap (λ t. sets o (w .at) t) spaces) place ∙ sets-last o (w .at) (replicate m Byte.space) Byte.space Byte.star;
+        end = omega (arith, b .end, star-length h);
+        ending = b .ending ∙ sym (lastOf-append (w .last) (replicate m Byte.space) (Byte.star ∷ []));
+        level = b .level ∙ i ∙ a .level;
+      }
