@@ -6,3 +6,4 @@ pub mod Check
 pub mod Pieces
 pub mod Texts
 pub mod Walk
+pub mod Comments

@@ -8,7 +8,7 @@ use lib.ListN.{length, drop}
 use Rattle.syntax.specs.Kind as Kind
 use Rattle.syntax.specs.Bytes.{ascii}
 use Rattle.syntax.specs.Marks.{Mark, plain, kindOf, node, textNode}
-use Rattle.syntax.specs.Shape.{start, Content}
+use Rattle.syntax.specs.Shape.{start, among, Content}
 use Rattle.syntax.specs.Serializer.{Node, outside, nodes, Piece, _⊕_, literal, newline, if, blankLine}
 
 abbrev pub firstKind : List Mark → ℕ
@@ -70,3 +70,12 @@ pub record Inside (boundary : ℕ → Bool) (ms : List Mark) (i k q : ℕ) : Typ
 -- a comment's line with the text t
 unfoldable pub lineOf : (prefix t : List ℕ) → Piece
 lineOf prefix t = literal prefix ⊕ if (not (blankLine [] t)) (literal (ascii " ") ⊕ literal t) ⊕ newline
+
+-- the kinds of comments, all with lines alone
+unfoldable pub isComment : ℕ → Bool
+isComment k = among k (Kind.comment ∷ Kind.groupComment ∷ Kind.resourceComment ∷ Kind.attachedComment ∷ [])
+
+pub record CommentAt (boundary : ℕ → Bool) (ms : List Mark) (i : ℕ) : Type 0 where
+  pub kind : ℕ
+  pub comment : isComment kind ≡ true
+  pub at : At boundary ms i kind

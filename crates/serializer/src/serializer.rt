@@ -1,17 +1,26 @@
 // The serializer: it walks over the marks of a tree that the check has accepted, and writes their normal text.
-ghost use Prim.Native.Nat.{ℕ, _<_};
+ghost use Prim.Native.Nat.{_<_};
 ghost use mathlib.Core.Path.{_≡_};
 ghost use mathlib.Core.Bool.{true, _||_};
-ghost use mathlib.Core.List.{List, []};
+ghost use mathlib.Core.List.{[]};
 ghost use lib.Dec.{eqb};
 ghost use Rattle.utf8.specs.Utf8.{isBoundary};
 ghost use Rattle.syntax.specs.Byte as Byte;
 ghost use Rattle.syntax.specs.Layout.{count, marksIn};
 ghost use Rattle.syntax.specs.Writing.{sizesFit};
-ghost use Rattle.syntax.specs.Serializer.{blankLine, hasNewline, textOf};
+ghost use Rattle.syntax.specs.Serializer.{blankLine, hasNewline, textOf, comment};
 ghost use Rattle.serializer.specs.Writer.{Room, Wrote};
-ghost use Rattle.serializer.specs.Walk.{kindAt, nodeAt, TextAt, lineOf};
+ghost use Rattle.serializer.specs.Walk.{kindAt, nodeAt, after, TextAt, CommentAt, lineOf};
 use crate::writer::TextWriter;
+
+// The kinds that the code tests for.
+const COMMENT_LINE: u32 = 8;
+
+// Where the serializer stands: in the text, and in the marks.
+pub struct Serializer {
+    writer: TextWriter,
+    mark: usize,
+}
 
 fn matches_fluent_ws(b: u8) -> bool
     ensures { λ r. ⌜ r ≡ (eqb b Byte.space || (eqb b Byte.carriageReturn || eqb b Byte.lineFeed)) ⌝ }
@@ -84,5 +93,33 @@ fn serialize_comment_line(
             .write_literal(output, b" ")
             .write_literal(output, line)
             .newline(output)
+    }
+}
+
+impl Serializer {
+    fn serialize_comment(
+        self,
+        source: &[u8],
+        tree: &[u32],
+        output: &mut [u8],
+        prefix: &[u8],
+    ) -> Self
+        requires { ⌜ sizesFit (now tree) ≡ true ⌝ }
+        requires { ⌜ CommentAt (isBoundary (now source)) (marksIn (now tree)) (self .mark) ⌝ }
+        requires { ⌜ Room (self .writer) (comment (now source) (now prefix) (nodeAt (marksIn (now tree)) (self .mark) .inner)) ⌝ }
+        ensures { λ r. ⌜ Wrote (now (output .entry)) (now (output .exit)) (self .writer) (r .writer) (comment (now (source .entry)) (now (prefix .entry)) (nodeAt (marksIn (now (tree .entry))) (self .mark) .inner)) ⌝ }
+        ensures { λ r. ⌜ r .mark ≡ after (marksIn (now (tree .entry))) (self .mark) ⌝ }
+    {
+        let mut writer = self.writer;
+        let mut mark = self.mark + 1;
+        while kind_at(tree, mark) == COMMENT_LINE {
+            let line = text_at(source, tree, mark);
+            writer = serialize_comment_line(writer, output, prefix, line);
+            mark += 2;
+        }
+        Serializer {
+            writer,
+            mark: mark + 1,
+        }
     }
 }

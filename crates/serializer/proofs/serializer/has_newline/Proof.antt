@@ -5,7 +5,6 @@ use mathlib.Core.Path.{_≡_, refl, sym, _∙_}
 use mathlib.Core.List.{[]}
 use lib.ListN.{length, drop}
 use borrow.Author.Tests.{eq-eqb, ne-eqb}
-use Rattle.syntax.specs.Byte as Byte
 use Rattle.syntax.specs.Serializer.{hasNewline}
 use Rattle.serializer.proofs.Texts.{newline-on, newline-off, newline-end}
 use Rattle.serializer.proofs.serializer.has_newline.Statement.{statement}
