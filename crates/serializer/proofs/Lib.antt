@@ -4,3 +4,6 @@ pub mod Marks
 pub mod Stack
 pub mod Check
 pub mod Pieces
+pub mod Texts
+pub mod Walk
+pub mod Comments

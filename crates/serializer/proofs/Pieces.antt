@@ -1,18 +1,21 @@
 -- Pieces written one after another.
-use Prim.Native.Nat.{ℕ, suc, _+_, _-_, _*_, _^_, _≤_, _<_}
+use Prim.Native.Nat.{ℕ, _+_, _-_, _*_, _^_, _≤_, _<_}
 use native.Mathlib.Nat.{add-zero}
 use native.Mathlib.Numerals.{add-one}
 use native.Mathlib.Omega.{arith}
 use mathlib.Core.Path.{_≡_, refl, sym, ap, ap₂, _∙_}
-use mathlib.Core.List.{List, [], _∷_, _++_}
+use mathlib.Core.Bool.{true, false, not}
+use mathlib.Core.List.{List, [], _∷_, _++_, append-assoc, append-nil}
 use lib.ListN.{length, length-append, set, take, getD, replicate, length-replicate, replicate-append-replicate}
 use lib.Seq.{sets, length-sets, take-suc}
 use borrow.Author.Tests.{eq-eqb, ne-eqb}
 use Rattle.laws.specs.Sets.{sets-append, sets-last}
 use Rattle.syntax.specs.Byte as Byte
-use Rattle.syntax.specs.Serializer.{Piece, lastOf, _⊕_, empty, indented, literal, newline, star}
+use Rattle.syntax.specs.Bytes.{ascii}
+use Rattle.syntax.specs.Serializer.{Piece, lastOf, _⊕_, empty, literal, newline, star, if, blankLine}
 use Rattle.serializer.specs.declared.writer.TextWriter.{TextWriter}
 use Rattle.serializer.specs.Writer.{textAt, bytes, Room, Wrote}
+use Rattle.serializer.specs.Walk.{lineOf}
 
 lastOf-append : (b : ℕ) (s t : List ℕ) → lastOf b (s ++ t) ≡ lastOf (lastOf b s) t
 unfolding lastOf
@@ -121,3 +124,66 @@ module _ (w : TextWriter) where
         ending = b .ending ∙ sym (lastOf-append (w .last) (replicate m Byte.space) (Byte.star ∷ []));
         level = b .level ∙ i ∙ a .level;
       }
+
+-- pieces in a row
+pub then-assoc : (p q r : Piece) → ((p ⊕ q) ⊕ r) ≡ (p ⊕ (q ⊕ r))
+unfolding _⊕_
+then-assoc p q r i level last = same level last i
+  where
+    same : (level last : ℕ) → ((p ⊕ q) ⊕ r) level last ≡ (p ⊕ (q ⊕ r)) level last
+    same level last =
+        let t = p level last in
+        let u = q level (lastOf last t) in
+        append-assoc t u (r level (lastOf last (t ++ u))) ∙ ap (λ b. t ++ (u ++ r level b)) (lastOf-append last t u)
+
+then-empty : (p : Piece) → (p ⊕ empty) ≡ p
+unfolding _⊕_ empty
+then-empty p i level last = append-nil (p level last) i
+
+empty-then : (p : Piece) → (empty ⊕ p) ≡ p
+unfolding _⊕_ empty lastOf
+empty-then p = refl
+
+abbrev pub row : List Piece → Piece
+row [] = empty
+row (p ∷ ps) = p ⊕ row ps
+
+pub record Row (whole : Piece) (rest : List Piece) : Type 0 where
+  pub same : whole ≡ row rest
+
+-- On the way: with the rest written, the whole is.
+pub record Going (out₀ out : List ℕ) (w₀ w : TextWriter) (whole : Piece) (rest : List Piece) : Type 0 where
+  pub room : Room w (row rest)
+  pub done : (out′ : List ℕ) (w′ : TextWriter) → Wrote out out′ w w′ (row rest) → Wrote out₀ out′ w₀ w′ whole
+
+pub going : {whole : Piece} {rest : List Piece} (o : List ℕ) (w : TextWriter) → Row whole rest → Room w whole → Going o o w w whole rest
+going o w e r = record { room = rw (e .same) at r; done = λ o′ w′ h. rw (e .same) h }
+
+module _ {o₀ o : List ℕ} {w₀ w : TextWriter} {whole p : Piece} {rest : List Piece} (g : Going o₀ o w₀ w whole (p ∷ rest)) where
+  pub room-first : Room w p
+  room-first = room-before w p (row rest) (g .room)
+
+  pub going-on : {o₁ : List ℕ} {w₁ : TextWriter} → Wrote o o₁ w w₁ p → Going o₀ o₁ w₀ w₁ whole rest
+  going-on h = record { room = room-after h (row rest) (g .room); done = λ o′ w′ l. g .done o′ w′ (wrote-then h (row rest) l) }
+
+-- nothing is left
+pub gone : {o₀ o : List ℕ} {w₀ w : TextWriter} {whole : Piece} → Going o₀ o w₀ w whole [] → Wrote o₀ o w₀ w whole
+gone {o = o} {w = w} g = g .done o w wrote-nothing
+
+-- a comment's line, blank or not
+pub line-blank : (prefix t : List ℕ) → blankLine [] t ≡ true → Row (lineOf prefix t) (literal prefix ∷ newline ∷ [])
+unfolding lineOf if
+line-blank prefix t e = record { same = rw (e, lineOf) (ap (λ p. literal prefix ⊕ p) (empty-then newline ∙ sym (then-empty newline))) }
+
+pub line-full : (prefix t : List ℕ) → blankLine [] t ≡ false → Row (lineOf prefix t) (literal prefix ∷ literal (ascii " ") ∷ literal t ∷ newline ∷ [])
+unfolding lineOf if
+line-full prefix t e =
+    record {
+      same =
+          rw (e, lineOf)
+          (ap (λ p. literal prefix ⊕ p) (then-assoc (literal (ascii " ")) (literal t) newline ∙ ap (λ p. literal (ascii " ") ⊕ literal t ⊕ p) (sym (then-empty newline))));
+    }
+
+pub line-room : (w : TextWriter) (prefix t : List ℕ) → Room w (lineOf prefix t) → Room w (literal prefix)
+unfolding lineOf
+line-room w prefix t r = room-before w (literal prefix) (if (not (blankLine [] t)) (literal (ascii " ") ⊕ literal t) ⊕ newline) r

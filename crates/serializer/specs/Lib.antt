@@ -2,3 +2,4 @@
 pub mod Models
 pub mod Shape
 pub mod Writer
+pub mod Walk

@@ -1,7 +1,7 @@
 -- What the text writer does, by the definition's pieces of text.
 use Prim.Native.Nat.{ℕ, _+_, _<_, _^_}
 use mathlib.Core.Path.{_≡_}
-use mathlib.Core.List.{List, []}
+use mathlib.Core.List.{List}
 use lib.ListN.{length}
 use lib.Seq.{sets}
 use Rattle.syntax.specs.Serializer.{Piece, lastOf}

@@ -1,4 +1,5 @@
 // The serializer: a tree's marks are checked and written as normal text.
 mod models;
+mod serializer;
 pub mod shape;
-pub mod writer;
+mod writer;

@@ -1,9 +1,9 @@
 -- `TextWriter::write_bytes` meets its contract: in the loop the bytes so far have been written.
 use Prim.Native.Nat.{_-_, _≤_}
 use native.Mathlib.Omega.{arith}
-use mathlib.Core.Path.{_≡_, refl, sym, ap, _∙_}
+use mathlib.Core.Path.{sym}
 use lib.ListN.{length, take, length-take}
-use lib.Seq.{length-sets, take-all}
+use lib.Seq.{take-all}
 use Rattle.serializer.specs.Writer.{bytes, Wrote}
 use Rattle.serializer.proofs.Pieces.{wrote-none, wrote-more, wrote-length}
 use Rattle.serializer.proofs.writer.TextWriter.write_bytes.Statement.{statement}

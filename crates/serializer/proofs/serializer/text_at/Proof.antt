@@ -1,0 +1,94 @@
+-- `text_at` meets its contract.
+use Prim.Native.Nat.{_+_}
+use native.Mathlib.Omega.{arith}
+use Rattle.syntax.specs.Layout.{count, capacity}
+use Rattle.serializer.proofs.Check.{sizes}
+use Rattle.serializer.proofs.Walk.{text-words}
+use Rattle.serializer.proofs.serializer.text_at.Statement.{statement}
+use Rattle.serializer.proofs.serializer.text_at.Tie as tie
+
+shared-slice-read-places : tie.Need-shared-slice-read-places
+unfolding count capacity
+shared-slice-read-places c = omega (arith, sizes (c .before .args .tree .now) (c .before .pre .0), text-words (c .before .args .tree .now) (sizes (c .before .args .tree .now) (c .before .pre .0)) (c .before .args .source .now) (c .before .args .mark) (c .before .pre .1))
+
+cast-places : tie.Need-cast-places
+cast-places c = omega (arith, c .shared-slice-known .given 1)
+
+add-places : tie.Need-add-places
+unfolding count capacity
+add-places c = omega (arith, sizes (c .before .args .tree .now) (c .before .pre .0), text-words (c .before .args .tree .now) (sizes (c .before .args .tree .now) (c .before .pre .0)) (c .before .args .source .now) (c .before .args .mark) (c .before .pre .1))
+
+add-start : tie.Need-add-start
+unfolding count capacity
+add-start c = omega (arith, sizes (c .before .args .tree .now) (c .before .pre .0), text-words (c .before .args .tree .now) (sizes (c .before .args .tree .now) (c .before .pre .0)) (c .before .args .source .now) (c .before .args .mark) (c .before .pre .1))
+
+mul-start : tie.Need-mul-start
+unfolding count capacity
+mul-start c = omega (arith, sizes (c .before .args .tree .now) (c .before .pre .0), text-words (c .before .args .tree .now) (sizes (c .before .args .tree .now) (c .before .pre .0)) (c .before .args .source .now) (c .before .args .mark) (c .before .pre .1))
+
+shared-slice-read-start : tie.Need-shared-slice-read-start
+unfolding count capacity
+shared-slice-read-start c = omega (arith, sizes (c .before .before .args .tree .now) (c .before .before .pre .0), text-words (c .before .before .args .tree .now) (sizes (c .before .before .args .tree .now) (c .before .before .pre .0)) (c .before .before .args .source .now) (c .before .before .args .mark) (c .before .before .pre .1))
+
+cast-start : tie.Need-cast-start
+unfolding count capacity
+cast-start c =
+    let a = c .before .before .args in omega (arith, c .shared-slice-known2 .given (2 + capacity (a .tree .now) + a .mark))
+
+add-end : tie.Need-add-end
+unfolding count capacity
+add-end c = omega (arith, sizes (c .before .before .args .tree .now) (c .before .before .pre .0), text-words (c .before .before .args .tree .now) (sizes (c .before .before .args .tree .now) (c .before .before .pre .0)) (c .before .before .args .source .now) (c .before .before .args .mark) (c .before .before .pre .1))
+
+add-end-2 : tie.Need-add-end-2
+unfolding count capacity
+add-end-2 c = omega (arith, sizes (c .before .before .args .tree .now) (c .before .before .pre .0), text-words (c .before .before .args .tree .now) (sizes (c .before .before .args .tree .now) (c .before .before .pre .0)) (c .before .before .args .source .now) (c .before .before .args .mark) (c .before .before .pre .1))
+
+mul-end : tie.Need-mul-end
+unfolding count capacity
+mul-end c = omega (arith, sizes (c .before .before .args .tree .now) (c .before .before .pre .0), text-words (c .before .before .args .tree .now) (sizes (c .before .before .args .tree .now) (c .before .before .pre .0)) (c .before .before .args .source .now) (c .before .before .args .mark) (c .before .before .pre .1))
+
+shared-slice-read-end : tie.Need-shared-slice-read-end
+unfolding count capacity
+shared-slice-read-end c = omega (arith, sizes (c .before .before .before .args .tree .now) (c .before .before .before .pre .0), text-words (c .before .before .before .args .tree .now) (sizes (c .before .before .before .args .tree .now) (c .before .before .before .pre .0)) (c .before .before .before .args .source .now) (c .before .before .before .args .mark) (c .before .before .before .pre .1))
+
+cast-end : tie.Need-cast-end
+unfolding count capacity
+cast-end c =
+    let a = c .before .before .before .args in omega (arith, c .shared-slice-known3 .given (2 + capacity (a .tree .now) + a .mark + 1))
+
+sub-result : tie.Need-sub-result
+unfolding count capacity
+sub-result c = omega (arith, sizes (c .before .before .before .args .tree .now) (c .before .before .before .pre .0), text-words (c .before .before .before .args .tree .now) (sizes (c .before .before .before .args .tree .now) (c .before .before .before .pre .0)) (c .before .before .before .args .source .now) (c .before .before .before .args .mark) (c .before .before .before .pre .1))
+
+part-result-start : tie.Need-part-result-start
+unfolding count capacity
+part-result-start c = omega (arith, sizes (c .before .before .before .args .tree .now) (c .before .before .before .pre .0), text-words (c .before .before .before .args .tree .now) (sizes (c .before .before .before .args .tree .now) (c .before .before .before .pre .0)) (c .before .before .before .args .source .now) (c .before .before .before .args .mark) (c .before .before .before .pre .1))
+
+part-result-end : tie.Need-part-result-end
+unfolding count capacity
+part-result-end c = omega (arith, sizes (c .before .before .before .args .tree .now) (c .before .before .before .pre .0), text-words (c .before .before .before .args .tree .now) (sizes (c .before .before .before .args .tree .now) (c .before .before .before .pre .0)) (c .before .before .before .args .source .now) (c .before .before .before .args .mark) (c .before .before .before .pre .1))
+
+returns : tie.Need-returns
+unfolding count capacity
+returns c = text-words (c .before .before .before .before .args .tree .now) (sizes (c .before .before .before .before .args .tree .now) (c .before .before .before .before .pre .0)) (c .before .before .before .before .args .source .now) (c .before .before .before .before .args .mark) (c .before .before .before .before .pre .1) .same
+
+pub text-at-spec : {M : Type 1} → statement M
+text-at-spec =
+    tie.close
+    (tie.spec
+    shared-slice-read-places
+    cast-places
+    add-places
+    add-start
+    mul-start
+    shared-slice-read-start
+    cast-start
+    add-end
+    add-end-2
+    mul-end
+    shared-slice-read-end
+    cast-end
+    sub-result
+    part-result-start
+    part-result-end
+    returns)
