@@ -11,11 +11,13 @@ use lib.ListN.{length, take, drop, getD, length-append}
 use lib.Seq.{drop-drop, drop-append-seam}
 use borrow.Author.Tests.{eqb-true, ltb-true, ltb-false, lt-ltb, le-ltb, eq-eqb, ne-eqb}
 use Rattle.utf8.specs.Utf8.{isBoundary}
+use Rattle.syntax.specs.Byte as Byte
 use Rattle.syntax.specs.Kind as Kind
+use Rattle.syntax.specs.Bytes.{startsWith}
 use Rattle.syntax.specs.Marks.{Mark, plain, placed, kindOf, placeOf, node, textNode}
 use Rattle.syntax.specs.Layout.{count, capacity, hasPlace, markOf, marksIn}
 use Rattle.syntax.specs.Shape.{start, among, models, step, finalBy, final, Run, stay, text, nest, Content}
-use Rattle.syntax.specs.Serializer.{Node, nodes, between, textOf, isSelect}
+use Rattle.syntax.specs.Serializer.{Node, nodesFrom, nodes, between, textOf, isSelect, leadingDot}
 use Rattle.laws.specs.Bytes.{byCase, clash}
 use Rattle.laws.specs.Balanced.{Levels, Opened, levels-append}
 use Rattle.laws.specs.Balanced.Nodes.{nodeOf, nodes-node, nodes-text}
@@ -302,3 +304,37 @@ module _ {boundary : ℕ → Bool} {ms : List Mark} {i j : ℕ} (a : At boundary
   pub select-within : j ≡ Kind.placeable → Within
   unfolding Kind.isText
   select-within e = let m = enter a (rw e) in within-from e m (next (m .first))
+
+-- the first element of a pattern
+module _ {boundary : ℕ → Bool} {ms : List Mark} {i : ℕ} (a : At boundary ms i Kind.pattern) where
+  entered : Entered boundary ms i Kind.pattern
+  unfolding Kind.isText
+  entered = enter a refl
+
+  pub pattern-first : Inside boundary ms (i + 1) Kind.pattern start
+  pattern-first = entered .first
+
+  pub no-leading : (source : List ℕ) → (kindAt ms (i + 1) ≡ Kind.text → ⊥) → leadingDot source (nodes (nodeAt ms i .inner)) ≡ false
+  unfolding leadingDot nodes nodesFrom
+  no-leading source h = rw (← entered .inner) (go (next pattern-first))
+    where
+      go : Next boundary ms (i + 1) Kind.pattern start → leadingDot source (nodes (innerAt ms (i + 1))) ≡ false
+      go (ends c z f) = rw z
+      go (goes j r s b n ns l) = rw (ns, leadingDot, ne-eqb (nodeAt ms (i + 1) .kind) Kind.text (λ e. h (at-kind b ∙ sym (node-kind b) ∙ e)))
+
+  pub record Leading (source : List ℕ) : Type 0 where
+    pub text : TextAt boundary ms (i + 1)
+    pub same : leadingDot source (nodes (nodeAt ms i .inner)) ≡ startsWith Byte.dot (textOf source (nodeAt ms (i + 1)))
+
+  pub leading : (source : List ℕ) → kindAt ms (i + 1) ≡ Kind.text → Leading source
+  unfolding leadingDot Kind.isText
+  leading source h = go (next pattern-first)
+    where
+      go : Next boundary ms (i + 1) Kind.pattern start → Leading source
+      go (ends c z f) = absurd (omega arith)
+      go (goes j r s b n ns l) =
+          let e : j ≡ Kind.text = sym (at-kind b) ∙ h in
+          record {
+            text = record { kind = j; isText = rw e; at = b };
+            same = rw (← entered .inner, ns, leadingDot, eq-eqb (nodeAt ms (i + 1) .kind) Kind.text (node-kind b ∙ e));
+          }

@@ -10,13 +10,15 @@ ghost use Rattle.syntax.specs.Byte as Byte;
 ghost use Rattle.syntax.specs.Kind as Kind;
 ghost use Rattle.syntax.specs.Layout.{count, marksIn};
 ghost use Rattle.syntax.specs.Writing.{sizesFit};
-ghost use Rattle.syntax.specs.Serializer.{Node, if, literal, newline, blankLine, hasNewline, isSelect, textOf, comment, freeComment};
+ghost use Rattle.syntax.specs.Serializer.{Node, nodes, if, literal, newline, blankLine, hasNewline, isSelect, leadingDot, textOf, comment, freeComment};
 ghost use Rattle.serializer.specs.Writer.{Room, Wrote};
 ghost use Rattle.serializer.specs.Walk.{kindAt, nodeAt, after, At, NodeAt, TextAt, CommentAt, lineOf};
 use crate::writer::TextWriter;
 
 // The kinds that the code tests for.
 const COMMENT_LINE: u32 = 8;
+
+const TEXT: u32 = 12;
 
 // Where the serializer stands: in the text, and in the marks.
 pub struct Serializer {
@@ -88,6 +90,23 @@ fn is_select_expr(tree: &[u32], mark: usize) -> bool
         13 => is_select_expr(tree, mark + 1),
         _ => false,
     }
+}
+
+// Whether the pattern at a mark starts with a text that starts with a dot.
+fn has_leading_text_dot(source: &[u8], tree: &[u32], mark: usize) -> bool
+    requires { ⌜ sizesFit (now tree) ≡ true ⌝ }
+    requires { ⌜ At (isBoundary (now source)) (marksIn (now tree)) mark Kind.pattern ⌝ }
+    ensures { λ r. ⌜ r ≡ leadingDot (now (source .entry)) (nodes (nodeAt (marksIn (now (tree .entry))) mark .inner)) ⌝ }
+{
+    let first = mark + 1;
+    if kind_at(tree, first) != TEXT {
+        return false;
+    }
+    let text = text_at(source, tree, first);
+    if text.len() == 0 {
+        return false;
+    }
+    text[0] == b'.'
 }
 
 // The newline before a free comment, where an entry that is no junk was written.
