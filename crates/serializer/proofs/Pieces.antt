@@ -4,7 +4,7 @@ use native.Mathlib.Nat.{add-zero}
 use native.Mathlib.Numerals.{add-one}
 use native.Mathlib.Omega.{arith}
 use mathlib.Core.Path.{_≡_, refl, sym, ap, ap₂, _∙_}
-use mathlib.Core.Bool.{true, false, not}
+use mathlib.Core.Bool.{Bool, true, false, not}
 use mathlib.Core.List.{List, [], _∷_, _++_, append-assoc, append-nil}
 use lib.ListN.{length, length-append, set, take, getD, replicate, length-replicate, replicate-append-replicate}
 use lib.Seq.{sets, length-sets, take-suc}
@@ -12,7 +12,8 @@ use borrow.Author.Tests.{eq-eqb, ne-eqb}
 use Rattle.laws.specs.Sets.{sets-append, sets-last}
 use Rattle.syntax.specs.Byte as Byte
 use Rattle.syntax.specs.Bytes.{ascii}
-use Rattle.syntax.specs.Serializer.{Piece, lastOf, _⊕_, empty, literal, newline, star, if, blankLine}
+use Rattle.syntax.specs.Marks.{Mark}
+use Rattle.syntax.specs.Serializer.{Piece, lastOf, _⊕_, empty, literal, newline, star, if, blankLine, comment, freeComment}
 use Rattle.serializer.specs.declared.writer.TextWriter.{TextWriter}
 use Rattle.serializer.specs.Writer.{textAt, bytes, Room, Wrote}
 use Rattle.serializer.specs.Walk.{lineOf}
@@ -187,3 +188,8 @@ line-full prefix t e =
 pub line-room : (w : TextWriter) (prefix t : List ℕ) → Room w (lineOf prefix t) → Room w (literal prefix)
 unfolding lineOf
 line-room w prefix t r = room-before w (literal prefix) (if (not (blankLine [] t)) (literal (ascii " ") ⊕ literal t) ⊕ newline) r
+
+-- a free comment
+pub free-row : (source : List ℕ) (wrote : Bool) (prefix : List ℕ) (ms : List Mark) → Row (freeComment source wrote prefix ms) (if wrote newline ∷ comment source prefix ms ∷ newline ∷ [])
+unfolding freeComment
+free-row source wrote prefix ms = record { same = ap (λ p. if wrote newline ⊕ comment source prefix ms ⊕ p) (sym (then-empty newline)) }

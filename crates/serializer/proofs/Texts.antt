@@ -1,14 +1,15 @@
 -- Tests on a text, byte by byte.
 use Prim.Native.Nat.{ℕ, _+_, _≤_, _<_}
 use native.Mathlib.Numerals.{add-one}
-use mathlib.Core.Path.{_≡_, sym, ap, _∙_}
+use native.Mathlib.Omega.{arith}
+use mathlib.Core.Path.{_≡_, refl, sym, ap, _∙_}
 use mathlib.Core.Bool.{Bool, true, false, _&&_, _||_}
-use mathlib.Core.List.{List, []}
+use mathlib.Core.List.{List, [], _∷_}
 use lib.Dec.{eqb}
 use lib.ListN.{length, drop, getD, drop-of-length-le}
 use lib.Seq.{drop-cons}
 use Rattle.syntax.specs.Byte as Byte
-use Rattle.syntax.specs.Bytes.{all}
+use Rattle.syntax.specs.Bytes.{startsWith, all}
 use Rattle.syntax.specs.Serializer.{blankLine, hasNewline}
 
 abbrev blank : ℕ → Bool
@@ -43,3 +44,14 @@ module _ (t : List ℕ) (i : ℕ) (h : length t ≤ i) where
   pub newline-end : hasNewline [] (drop i t) ≡ false
   unfolding hasNewline
   newline-end = ap (λ r. hasNewline [] r) (drop-of-length-le t h)
+
+-- the first byte
+pub starts-none : (b : ℕ) (t : List ℕ) → length t ≡ 0 → startsWith b t ≡ false
+unfolding startsWith
+starts-none b [] h = refl
+starts-none b (x ∷ t) h = absurd (omega arith)
+
+pub starts-byte : (b : ℕ) (t : List ℕ) → (length t ≡ 0 → ⊥) → startsWith b t ≡ eqb (getD t 0 0) b
+unfolding startsWith
+starts-byte b [] h = absurd (h refl)
+starts-byte b (x ∷ t) h = refl

@@ -53,6 +53,12 @@ pub record At (boundary : ℕ → Bool) (ms : List Mark) (i j : ℕ) : Type 0 wh
   pub known : j ≤ Kind.namedArgument
   pub child : Child boundary j marks
 
+-- some node starts at the mark i
+pub record NodeAt (ms : List Mark) (i : ℕ) : Type 0 where
+  pub boundary : ℕ → Bool
+  pub kind : ℕ
+  pub at : At boundary ms i kind
+
 -- a T node starts at the mark i
 pub record TextAt (boundary : ℕ → Bool) (ms : List Mark) (i : ℕ) : Type 0 where
   pub kind : ℕ

@@ -1,20 +1,24 @@
 // The serializer: it walks over the marks of a tree that the check has accepted, and writes their normal text.
-ghost use Prim.Native.Nat.{_<_};
+ghost use Prim.Native.Nat.{ℕ, _<_};
 ghost use mathlib.Core.Path.{_≡_};
 ghost use mathlib.Core.Bool.{true, _||_};
-ghost use mathlib.Core.List.{[]};
+ghost use mathlib.Core.List.{List, [], _∷_};
+ghost use lib.ListN.{length};
 ghost use lib.Dec.{eqb};
 ghost use Rattle.utf8.specs.Utf8.{isBoundary};
 ghost use Rattle.syntax.specs.Byte as Byte;
+ghost use Rattle.syntax.specs.Kind as Kind;
 ghost use Rattle.syntax.specs.Layout.{count, marksIn};
 ghost use Rattle.syntax.specs.Writing.{sizesFit};
-ghost use Rattle.syntax.specs.Serializer.{blankLine, hasNewline, textOf, comment};
+ghost use Rattle.syntax.specs.Serializer.{Node, nodes, if, literal, newline, blankLine, hasNewline, isSelect, leadingDot, textOf, comment, freeComment};
 ghost use Rattle.serializer.specs.Writer.{Room, Wrote};
-ghost use Rattle.serializer.specs.Walk.{kindAt, nodeAt, after, TextAt, CommentAt, lineOf};
+ghost use Rattle.serializer.specs.Walk.{kindAt, nodeAt, after, At, NodeAt, TextAt, CommentAt, lineOf};
 use crate::writer::TextWriter;
 
 // The kinds that the code tests for.
 const COMMENT_LINE: u32 = 8;
+
+const TEXT: u32 = 12;
 
 // Where the serializer stands: in the text, and in the marks.
 pub struct Serializer {
@@ -75,6 +79,52 @@ fn text_at<'a>(source: &'a [u8], tree: &[u32], mark: usize) -> &'a [u8]
     &source[start..end]
 }
 
+// Whether the expression at a mark is a select, or a placeable around one, at any depth.
+fn is_select_expr(tree: &[u32], mark: usize) -> bool
+    requires { ⌜ sizesFit (now tree) ≡ true ⌝ }
+    requires { ⌜ NodeAt (marksIn (now tree)) mark ⌝ }
+    ensures { λ r. ⌜ ((source : List ℕ) (n : ℕ) (more : List Node) → length (nodeAt (marksIn (now (tree .entry))) mark .inner) < n → r ≡ isSelect source n (nodeAt (marksIn (now (tree .entry))) mark ∷ more)) ⌝ }
+{
+    match kind_at(tree, mark) {
+        14 => true,
+        13 => is_select_expr(tree, mark + 1),
+        _ => false,
+    }
+}
+
+// Whether the pattern at a mark starts with a text that starts with a dot.
+fn has_leading_text_dot(source: &[u8], tree: &[u32], mark: usize) -> bool
+    requires { ⌜ sizesFit (now tree) ≡ true ⌝ }
+    requires { ⌜ At (isBoundary (now source)) (marksIn (now tree)) mark Kind.pattern ⌝ }
+    ensures { λ r. ⌜ r ≡ leadingDot (now (source .entry)) (nodes (nodeAt (marksIn (now (tree .entry))) mark .inner)) ⌝ }
+{
+    let first = mark + 1;
+    if kind_at(tree, first) != TEXT {
+        return false;
+    }
+    let text = text_at(source, tree, first);
+    if text.len() == 0 {
+        return false;
+    }
+    text[0] == b'.'
+}
+
+// The newline before a free comment, where an entry that is no junk was written.
+fn newline_after_entry(
+    writer: TextWriter,
+    output: &mut [u8],
+    wrote_non_junk_entry: bool,
+) -> TextWriter
+    requires { ⌜ Room writer (if «wrote_non_junk_entry» newline) ⌝ }
+    ensures { λ r. ⌜ Wrote (now (output .entry)) (now (output .exit)) writer r (if «wrote_non_junk_entry» newline) ⌝ }
+{
+    if wrote_non_junk_entry {
+        writer.newline(output)
+    } else {
+        writer
+    }
+}
+
 // A line of serialize_comment.
 fn serialize_comment_line(
     w: TextWriter,
@@ -120,6 +170,47 @@ impl Serializer {
         Serializer {
             writer,
             mark: mark + 1,
+        }
+    }
+
+    fn serialize_free_comment(
+        self,
+        source: &[u8],
+        tree: &[u32],
+        output: &mut [u8],
+        prefix: &[u8],
+        wrote_non_junk_entry: bool,
+    ) -> Self
+        requires { ⌜ sizesFit (now tree) ≡ true ⌝ }
+        requires { ⌜ CommentAt (isBoundary (now source)) (marksIn (now tree)) (self .mark) ⌝ }
+        requires { ⌜ Room (self .writer) (freeComment (now source) «wrote_non_junk_entry» (now prefix) (nodeAt (marksIn (now tree)) (self .mark) .inner)) ⌝ }
+        ensures { λ r. ⌜ Wrote (now (output .entry)) (now (output .exit)) (self .writer) (r .writer) (freeComment (now (source .entry)) «wrote_non_junk_entry» (now (prefix .entry)) (nodeAt (marksIn (now (tree .entry))) (self .mark) .inner)) ⌝ }
+        ensures { λ r. ⌜ r .mark ≡ after (marksIn (now (tree .entry))) (self .mark) ⌝ }
+    {
+        let writer = newline_after_entry(self.writer, output, wrote_non_junk_entry);
+        let begun = Serializer {
+            writer,
+            mark: self.mark,
+        };
+        let written = begun.serialize_comment(source, tree, output, prefix);
+        Serializer {
+            writer: written.writer.newline(output),
+            mark: written.mark,
+        }
+    }
+
+    fn serialize_junk(self, source: &[u8], tree: &[u32], output: &mut [u8]) -> Self
+        requires { ⌜ sizesFit (now tree) ≡ true ⌝ }
+        requires { ⌜ At (isBoundary (now source)) (marksIn (now tree)) (self .mark) Kind.junk ⌝ }
+        requires { ⌜ Room (self .writer) (literal (textOf (now source) (nodeAt (marksIn (now tree)) (self .mark)))) ⌝ }
+        ensures { λ r. ⌜ Wrote (now (output .entry)) (now (output .exit)) (self .writer) (r .writer) (literal (textOf (now (source .entry)) (nodeAt (marksIn (now (tree .entry))) (self .mark)))) ⌝ }
+        ensures { λ r. ⌜ r .mark ≡ after (marksIn (now (tree .entry))) (self .mark) ⌝ }
+    {
+        let mark = self.mark;
+        let junk = text_at(source, tree, mark);
+        Serializer {
+            writer: self.writer.write_literal(output, junk),
+            mark: mark + 2,
         }
     }
 }
