@@ -7,3 +7,4 @@ pub mod Pieces
 pub mod Texts
 pub mod Walk
 pub mod Comments
+pub mod Skips

@@ -20,6 +20,9 @@ const COMMENT_LINE: u32 = 8;
 
 const TEXT: u32 = 12;
 
+// The kind from which on a mark closes a node.
+const CLOSING: u32 = 100;
+
 // Where the serializer stands: in the text, and in the marks.
 pub struct Serializer {
     writer: TextWriter,
@@ -107,6 +110,25 @@ fn has_leading_text_dot(source: &[u8], tree: &[u32], mark: usize) -> bool
         return false;
     }
     text[0] == b'.'
+}
+
+// The mark after the node that starts at a mark.
+fn after_node(tree: &[u32], mark: usize) -> usize
+    requires { ⌜ sizesFit (now tree) ≡ true ⌝ }
+    requires { ⌜ NodeAt (marksIn (now tree)) mark ⌝ }
+    ensures { λ r. ⌜ r ≡ after (marksIn (now (tree .entry))) mark ⌝ }
+{
+    let mut depth: usize = 1;
+    let mut next = mark + 1;
+    while 0 < depth {
+        if kind_at(tree, next) < CLOSING {
+            depth += 1;
+        } else {
+            depth -= 1;
+        }
+        next += 1;
+    }
+    next
 }
 
 // The newline before a free comment, where an entry that is no junk was written.
