@@ -1,0 +1,67 @@
+-- `expression::get_string_literal` meets its contract.
+use Rattle.parser.specs.Shape.{expressing}
+use Rattle.parser.proofs.Steps.{step-none}
+use Rattle.parser.proofs.Dids.{did-lost}
+use Rattle.parser.proofs.Places.{found-within}
+use Rattle.parser.proofs.Texts.{did-string, string-ends, lost-string}
+use lib.ListN.{length, drop, take}
+use Prim.Native.Nat.{ℕ, zero, suc, _+_, _-_, _*_, _≤_, _<_}
+use native.Mathlib.Omega.{arith}
+use mathlib.Core.Path.{_≡_, refl, sym, ap, ap₂, _∙_}
+use borrow.Author.Needs.{needs}
+use Rattle.parser.proofs.expression.get_string_literal.Statement.{statement}
+use Rattle.parser.proofs.expression.get_string_literal.Tie as tie
+use Rattle.parser.proofs.expression.get_string_literal.Reads as reads
+use Rattle.parser.proofs.expression.get_string_literal.Lts as lts
+use Rattle.parser.proofs.marks.put_text.Reads as put-text-reads
+use Rattle.parser.proofs.string.skip_string_literal.Reads as skip-string-literal-reads
+
+-- src/expression.rt:304:11
+skip-string-literal-requires : tie.Need-skip-string-literal-requires
+skip-string-literal-requires c κs = search needs
+
+-- src/expression.rt:305:19
+enum-known-end : tie.Need-enum-known-end
+enum-known-end c = search needs
+
+-- src/expression.rt:306:48
+add-put-text : tie.Need-add-put-text
+add-put-text c = search needs
+
+-- src/expression.rt:306:56
+sub-put-text : tie.Need-sub-put-text
+sub-put-text c = omega (arith, string-ends (c .before .before .before .before .before .before .before .args .source .now) (c .before .before .before .before .skip-string-literal .ensures) (c .before .before .end .given .1))
+
+-- src/expression.rt:306:17
+put-text-requires : tie.Need-put-text-requires
+put-text-requires c κs = omega (arith, string-ends (c .before .before .before .before .before .before .before .args .source .now) (c .before .before .before .before .skip-string-literal .ensures) (c .before .before .end .given .1), found-within (c .before .before .before .before .skip-string-literal .ensures) (c .before .before .end .given .1), c .before .before .before .before .before .before .before .pre)
+
+-- src/expression.rt:309:20
+enum-known-e : tie.Need-enum-known-e
+enum-known-e c = search needs
+
+-- src/expression.rt:294:1
+same-length : tie.Need-same-length
+same-length c = search needs
+
+-- src/expression.rt:294:1
+returns : tie.Need-returns
+returns c = did-string (c .before .before .before .before .before .before .before .before .before .before .args .source .now) (c .before .before .before .before .before .before .before .skip-string-literal .ensures) (c .before .before .before .before .before .end .given .1) (c .before .before .put-text .ensures .0) (c .before .before .put-text .ensures .1)
+
+-- src/expression.rt:294:1
+returns-2 : tie.Need-returns-2
+returns-2 c = did-lost (expressing (c .before .before .before .before .before .before .args .at)) (lost-string (c .before .before .before .before .before .before .args .source .now) (c .before .before .before .skip-string-literal .ensures) (c .before .e .given .1)) (step-none _ _ _)
+
+pub get-string-literal-spec : {M : Type 1} → statement M
+get-string-literal-spec =
+    tie.close
+    (tie.spec
+    skip-string-literal-requires
+    enum-known-end
+    add-put-text
+    sub-put-text
+    put-text-requires
+    enum-known-e
+    same-length
+    returns
+    returns-2)

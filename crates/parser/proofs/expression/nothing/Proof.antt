@@ -1,0 +1,21 @@
+-- `expression::nothing` meets its contract.
+use Rattle.parser.specs.Shape.{startOf}
+use native.Mathlib.Omega.{arith}
+use mathlib.Core.Path.{_≡_, refl, sym, ap, ap₂, _∙_}
+use Rattle.parser.proofs.expression.nothing.Statement.{statement}
+use Rattle.parser.proofs.expression.nothing.Tie as tie
+use Rattle.parser.proofs.expression.nothing.Reads as reads
+use Rattle.parser.proofs.expression.nothing.Lts as lts
+
+-- src/expression.rt:237:1
+returns : tie.Need-returns
+unfolding startOf
+returns c = rw (c .if1 .taken, startOf)
+
+-- src/expression.rt:237:1
+returns-2 : tie.Need-returns-2
+unfolding startOf
+returns-2 c = rw (c .if1 .left, startOf)
+
+pub nothing-spec : {M : Type 1} → statement M
+nothing-spec = tie.close (tie.spec returns returns-2)
