@@ -239,16 +239,16 @@ pub text-placed : (at a e from till kind : ℕ) → a ≡ at + from → e ≡ at
 unfolding wordsAt moveUp textNode
 text-placed at a e from till kind p q = rw (p, q)
 
-pub found-text : {A : Type 0} {cap at n n′ a k kind : ℕ} {t t₁ : List ℕ} {o : Out A} {x : A} → o ≡ ok x (textNode kind 0 k) k → a ≡ at + k → n′ ≡ n + 2 → Step cap n t t₁ (word kind at ∷ word (closing kind) a ∷ []) → Found cap at n a n′ t t₁ o
+unfoldable pub found-text : {A : Type 0} {cap at n n′ a k kind : ℕ} {t t₁ : List ℕ} {o : Out A} {x : A} → o ≡ ok x (textNode kind 0 k) k → a ≡ at + k → n′ ≡ n + 2 → Step cap n t t₁ (word kind at ∷ word (closing kind) a ∷ []) → Found cap at n a n′ t t₁ o
 unfolding textNode
 found-text {at = at} {a = a} {k} {kind} {x = x} e h c s = record { value = x; ms = textNode kind 0 k; k = k; is = e; place = h; count = c; wrote = rw (text-placed at at a 0 k kind (sym (add-zero at)) h) s }
 
-node-words : (at kind : ℕ) (ms : List Mark) → wordsAt at (node kind ms) ≡ word kind 0 ∷ (wordsAt at ms ++ (word (closing kind) 0 ∷ []))
+pub node-words : (at kind : ℕ) (ms : List Mark) → wordsAt at (node kind ms) ≡ word kind 0 ∷ (wordsAt at ms ++ (word (closing kind) 0 ∷ []))
 unfolding wordsAt moveUp node
 node-words at kind ms = ap (λ (l : List Word). word kind 0 ∷ l) (words-append at ms (plain (closing kind) ∷ []))
 
 -- an opening mark, what stands in the node, and the closing mark
-pub found-wrap : {A : Type 0} {cap at n n₁ m m′ a : ℕ} {t t₁ t₂ t₃ : List ℕ} (kind : ℕ) {o : Out A} → Step cap n t t₁ (word kind 0 ∷ []) → n₁ ≡ n + 1 → Found cap at n₁ a m t₁ t₂ o
+unfoldable pub found-wrap : {A : Type 0} {cap at n n₁ m m′ a : ℕ} {t t₁ t₂ t₃ : List ℕ} (kind : ℕ) {o : Out A} → Step cap n t t₁ (word kind 0 ∷ []) → n₁ ≡ n + 1 → Found cap at n₁ a m t₁ t₂ o
     → Step cap m t₂ t₃ (word (closing kind) 0 ∷ []) → m′ ≡ m + 1 → Found cap at n a m′ t t₃ (wrap kind o)
 unfolding wrap node
 found-wrap {cap = cap} {at} {n} {n₁} {m} {m′} {a} {t} {t₁} {t₂} {t₃} kind {o} s e f z g =

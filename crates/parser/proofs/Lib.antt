@@ -18,4 +18,12 @@ pub mod Lines
 pub mod Turns
 pub mod Slices
 pub mod Strings
+pub mod Words
 pub mod Comments
+pub mod Outcome
+pub mod Got
+pub mod Rows
+pub mod Files
+pub mod Shapes
+pub mod Ends
+pub mod Entries

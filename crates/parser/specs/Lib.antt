@@ -11,3 +11,7 @@ pub mod Slice
 pub mod Did
 pub mod Entry
 pub mod Line
+pub mod Call
+pub mod Resource
+pub mod Fields
+pub mod Stub

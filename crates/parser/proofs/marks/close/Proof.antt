@@ -34,15 +34,15 @@ same-length c = search needs
 
 -- src/marks.rt:72:1
 returns : tie.Need-returns
-returns c = rw (c .before .before .before .before .before .r .given .1) (ap₂ Ok refl (c .before .before .put .ensures .0), c .before .before .put .ensures .1)
+returns c = rw (c .before .before .before .before .before .r .given .1) (record { holds = (ap₂ Ok refl (c .before .before .put .ensures .0), c .before .before .put .ensures .1) })
 
 -- src/marks.rt:72:1
 returns-2 : tie.Need-returns-2
-returns-2 c = rw (c .before .r2 .given .1) (refl, refl)
+returns-2 c = rw (c .before .r2 .given .1) (record { holds = (refl, refl) })
 
 -- src/marks.rt:72:1
 returns-3 : tie.Need-returns-3
-returns-3 c = rw (c .before .r3 .given .1) (refl, refl)
+returns-3 c = rw (c .before .r3 .given .1) (record { holds = (refl, refl) })
 
 pub close-spec : {M : Type 1} → statement M
 close-spec =

@@ -1,0 +1,252 @@
+// core.rs: entries.
+ghost use Prim.Native.Nat.{_≤_};
+ghost use mathlib.Core.Path.{_≡_};
+ghost use lib.ListN.{drop};
+ghost use Rattle.syntax.specs.Expression.{level};
+ghost use Rattle.syntax.specs.Core.{getAttribute, getAttributes, fields, termFields, asMessage, asTerm, getEntry};
+ghost use Rattle.parser.specs.Did.{reading, Did, Room, Entered, Reaches, withValue};
+ghost use Rattle.parser.specs.Entry.{entrying};
+ghost use Rattle.parser.specs.Fields.{Named, having, NameLies};
+ghost use Rattle.parser.specs.Stub.{Oracle};
+use crate::comment::get_comment;
+use crate::errors::error;
+use crate::helper::Place;
+use crate::helper::expect_byte;
+use crate::helper::get_identifier;
+use crate::helper::is_current_byte;
+use crate::helper::skip_blank_block;
+use crate::helper::skip_blank_inline;
+use crate::marks::Read;
+use crate::marks::ReadEntry;
+use crate::marks::close;
+use crate::marks::put;
+use crate::marks::put_text;
+use crate::stub::get_pattern;
+use syntax::errors::ErrorKind;
+use syntax::errors::ParserError;
+
+// The identifier of a message, a term or an attribute, and its '=': the identifier's length, the place after the '=' and
+// the count of marks.
+pub enum Name {
+    Ok(usize, usize, usize),
+    Bad(ParserError, usize),
+}
+
+// What a message or a term has: its identifier's length, whether it has a pattern, and whether it has attributes; then the
+// place after it and the count of marks.
+pub enum Fields {
+    Ok(usize, bool, bool, usize, usize),
+    Bad(ParserError, usize),
+    Deep(usize),
+}
+
+fn get_name(source: &[u8], at: usize, tree: &mut [u32], cap: usize, n: usize) -> Name
+    requires { ⌜ Entered (now source) (now tree) cap at n ⌝ }
+    ensures { λ r. ⌜ Named (now (source .entry)) cap at n (now (tree .entry)) (now (tree .exit)) r ⌝ }
+{
+    match get_identifier(source, at) {
+        Place::At(end) => {
+            let m = put_text(tree, cap, n, 9, at, end);
+            let equals = skip_blank_inline(source, end);
+            match expect_byte(source, equals, b'=') {
+                Place::At(start) => {
+                    let length = end - at;
+                    Name::Ok(length, start, m)
+                }
+                Place::Bad(e, k) => Name::Bad(e, k),
+            }
+        }
+        Place::Bad(e, k) => Name::Bad(e, k),
+    }
+}
+
+// A pattern has marks.
+fn needs_value(r: Read, n: usize) -> Read
+    requires { ⌜ Reaches r 1000000 ⌝ }
+    ensures { λ x. ⌜ x ≡ withValue n r ⌝ }
+{
+    let Read::Ok(at, m) = r else {
+        return r;
+    };
+    if m == n {
+        return Read::Bad(error(ErrorKind::MissingValue, at), at);
+    }
+    r
+}
+
+// After the '.'.
+fn get_attribute(
+    source: &[u8],
+    at: usize,
+    left: usize,
+    tree: &mut [u32],
+    cap: usize,
+    n: usize,
+) -> Read
+    requires { ⌜ Room (now source) (now tree) cap at n 1 ⌝ }
+    requires { ⌜ Oracle ⌝ }
+    ensures { λ r. ⌜ Did reading cap at n (now (tree .entry)) (now (tree .exit)) r (getAttribute (level left) (drop at (now (source .entry)))) ⌝ }
+{
+    let m = put(tree, cap, n, 10, 0);
+    match get_name(source, at, tree, cap, m) {
+        Name::Ok(_, start, m) => {
+            let value = get_pattern(source, start, left, tree, cap, m);
+            let value = needs_value(value, m);
+            close(tree, cap, 10, value)
+        }
+        Name::Bad(e, k) => Read::Bad(e, k),
+    }
+}
+
+fn get_attributes(
+    source: &[u8],
+    at: usize,
+    left: usize,
+    tree: &mut [u32],
+    cap: usize,
+    n: usize,
+) -> Read
+    requires { ⌜ Room (now source) (now tree) cap at n 0 ⌝ }
+    requires { ⌜ Oracle ⌝ }
+    ensures { λ r. ⌜ Did reading cap at n (now (tree .entry)) (now (tree .exit)) r (getAttributes (level left) (drop at (now (source .entry)))) ⌝ }
+{
+    let mut line_start = at;
+    let mut count = n;
+    loop {
+        let dot = skip_blank_inline(source, line_start);
+        if !is_current_byte(source, dot, b'.') {
+            return Read::Ok(line_start, count);
+        }
+        let attribute = get_attribute(source, dot + 1, left, tree, cap, count);
+        if let Read::Ok(end, m) = attribute {
+            line_start = end;
+            count = m;
+        } else {
+            // Its line is not read, and its marks are cut off.
+            if let Read::Deep(k) = attribute {
+                return Read::Deep(k);
+            }
+            return Read::Ok(line_start, count);
+        }
+    }
+}
+
+// What messages and terms have in common.
+fn get_fields(
+    source: &[u8],
+    at: usize,
+    left: usize,
+    tree: &mut [u32],
+    cap: usize,
+    n: usize,
+) -> Fields
+    requires { ⌜ Entered (now source) (now tree) cap at n ⌝ }
+    requires { ⌜ Oracle ⌝ }
+    ensures { λ r. ⌜ Did having cap at n (now (tree .entry)) (now (tree .exit)) r (fields (level left) (drop at (now (source .entry)))) × NameLies (now (source .entry)) at r ⌝ }
+{
+    match get_name(source, at, tree, cap, n) {
+        Name::Ok(length, start, m) => match get_pattern(source, start, left, tree, cap, m) {
+            Read::Ok(end, count) => {
+                let block = skip_blank_block(source, end);
+                let start = block.end;
+                match get_attributes(source, start, left, tree, cap, count) {
+                    Read::Ok(end, total) => {
+                        Fields::Ok(length, count != m, total != count, end, total)
+                    }
+                    Read::Bad(e, k) => Fields::Bad(e, k),
+                    Read::Deep(k) => Fields::Deep(k),
+                }
+            }
+            Read::Bad(e, k) => Fields::Bad(e, k),
+            Read::Deep(k) => Fields::Deep(k),
+        },
+        Name::Bad(e, k) => Fields::Bad(e, k),
+    }
+}
+
+pub fn get_message(
+    source: &[u8],
+    at: usize,
+    left: usize,
+    tree: &mut [u32],
+    cap: usize,
+    n: usize,
+) -> ReadEntry
+    requires { ⌜ Entered (now source) (now tree) cap at n ⌝ }
+    requires { ⌜ Oracle ⌝ }
+    ensures { λ r. ⌜ Did entrying cap at n (now (tree .entry)) (now (tree .exit)) r (asMessage (fields (level left) (drop at (now (source .entry))))) ⌝ }
+{
+    match get_fields(source, at, left, tree, cap, n) {
+        Fields::Ok(length, value, attributes, end, m) => {
+            if value || attributes {
+                return ReadEntry::Message(end, m);
+            }
+            let name_end = at + length;
+            let kind = ErrorKind::ExpectedMessageField(at as u32, name_end as u32);
+            let error = ParserError {
+                start: at as u32,
+                end: end as u32,
+                kind,
+            };
+            ReadEntry::Bad(error, end)
+        }
+        Fields::Bad(e, k) => ReadEntry::Bad(e, k),
+        Fields::Deep(k) => ReadEntry::Deep(k),
+    }
+}
+
+pub fn get_term(
+    source: &[u8],
+    at: usize,
+    left: usize,
+    tree: &mut [u32],
+    cap: usize,
+    n: usize,
+) -> ReadEntry
+    requires { ⌜ Entered (now source) (now tree) cap at n ⌝ }
+    requires { ⌜ Oracle ⌝ }
+    ensures { λ r. ⌜ Did entrying cap at n (now (tree .entry)) (now (tree .exit)) r (asTerm (termFields (level left) (drop at (now (source .entry))))) ⌝ }
+{
+    match expect_byte(source, at, b'-') {
+        Place::At(start) => match get_fields(source, start, left, tree, cap, n) {
+            Fields::Ok(length, value, _, end, m) => {
+                if value {
+                    return ReadEntry::Term(end, m);
+                }
+                let name_end = start + length;
+                let kind = ErrorKind::ExpectedTermField(start as u32, name_end as u32);
+                let error = ParserError {
+                    start: at as u32,
+                    end: end as u32,
+                    kind,
+                };
+                ReadEntry::Bad(error, end)
+            }
+            Fields::Bad(e, k) => ReadEntry::Bad(e, k),
+            Fields::Deep(k) => ReadEntry::Deep(k),
+        },
+        Place::Bad(e, k) => ReadEntry::Bad(e, k),
+    }
+}
+
+// What stands in an entry: the marks of its node are the caller's to write.
+pub fn get_entry(
+    source: &[u8],
+    at: usize,
+    left: usize,
+    tree: &mut [u32],
+    cap: usize,
+    n: usize,
+) -> ReadEntry
+    requires { ⌜ Entered (now source) (now tree) cap at n ⌝ }
+    requires { ⌜ Oracle ⌝ }
+    ensures { λ r. ⌜ Did entrying cap at n (now (tree .entry)) (now (tree .exit)) r (getEntry (level left) (drop at (now (source .entry)))) ⌝ }
+{
+    if is_current_byte(source, at, b'#') {
+        return get_comment(source, at, tree, cap, n);
+    }
+    if is_current_byte(source, at, b'-') {
+        return get_term(source, at, left, tree, cap, n);
+    }
+    get_message(source, at, left, tree, cap, n)
+}
