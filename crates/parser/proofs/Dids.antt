@@ -230,10 +230,6 @@ far-here {at = at} = record { k = 0; is = refl; place = sym (add-zero at) }
 pub quiet : {A : Type 0} {cap at n a : ℕ} {t : List ℕ} {o : Out A} {x : A} {k : ℕ} → o ≡ ok x [] k → a ≡ at + k → Found cap at n a n t t o
 quiet {cap = cap} {at} {n} {t = t} {x = x} {k = k} e h = record { value = x; ms = []; k = k; is = e; place = h; count = sym (add-zero n); wrote = rw words-none (step-none cap n t) }
 
--- what was found, with marks that another reader gives too
-pub found-as : {A B : Type 0} {cap at n a n′ : ℕ} {t t₁ : List ℕ} {o : Out A} {o′ : Out B} (f : Found cap at n a n′ t t₁ o) (y : B) → (o ≡ ok (f .value) (f .ms) (f .k) → o′ ≡ ok y (f .ms) (f .k)) → Found cap at n a n′ t t₁ o′
-found-as f y g = record { value = y; ms = f .ms; k = f .k; is = g (f .is); place = f .place; count = f .count; wrote = f .wrote }
-
 -- ---- texts and nodes
 pub text-placed : (at a e from till kind : ℕ) → a ≡ at + from → e ≡ at + till → wordsAt at (textNode kind from till) ≡ word kind a ∷ word (closing kind) e ∷ []
 unfolding wordsAt moveUp textNode
@@ -261,10 +257,6 @@ found-wrap {cap = cap} {at} {n} {n₁} {m} {m′} {a} {t} {t₁} {t₂} {t₃} k
 pub lost-wrap : {A : Type 0} {at j : ℕ} {f : ParserError} (kind : ℕ) {o : Out A} → Lost at f j o → Lost at f j (wrap kind o)
 unfolding wrap
 lost-wrap kind l = record { fault = l .fault; k = l .k; is = rw (l .is); moved = l .moved; place = l .place }
-
-pub far-wrap : {A : Type 0} {at j : ℕ} (kind : ℕ) {o : Out A} → Far at j o → Far at j (wrap kind o)
-unfolding wrap
-far-wrap kind l = record { k = l .k; is = rw (l .is); place = l .place }
 
 -- a failure after an opening mark leaves no mark
 pub step-failed : {cap n n₁ : ℕ} {t t₁ t₂ : List ℕ} {ws : List Word} → Step cap n t t₁ ws → n₁ ≡ n + length ws → Step cap n₁ t₁ t₂ [] → Step cap n t t₂ []

@@ -62,12 +62,6 @@ Kept c s at n (Ok a m) = (at ≤ a) × (a ≤ length s) × (n ≤ m) × (m + c +
 Kept c s at n (Bad f k) = k ≤ length s
 Kept c s at n (Deep k) = Unit {0}
 
--- what follows a result, where it is no failure: as the definition's rest gives it from there on
-abbrev pub Then : {B R : Type 0} → Says B R → ℕ → List ℕ → List ℕ → (ℕ → Out B) → Read → R → Type 0
-Then w cap t t′ rest (Ok a m) x = Did w cap a m t t′ x (rest a)
-Then w cap t t′ rest (Bad f k) x = (x ≡ w .no f k) × (t′ ≡ t)
-Then w cap t t′ rest (Deep k) x = (x ≡ w .far k) × (t′ ≡ t)
-
 -- there is room for one more mark after a result
 abbrev pub Closable : List ℕ → ℕ → Read → Type 0
 Closable t cap (Ok a m) = Fits t cap m 1

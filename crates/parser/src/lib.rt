@@ -1,11 +1,11 @@
 // The parser: bytes are read into marks and errors.
-pub mod bytes;
-pub mod comment;
-pub mod errors;
-pub mod helper;
-pub mod layout;
-pub mod list;
-pub mod marks;
-pub mod pattern;
-pub mod string;
-pub mod text;
+mod bytes;
+mod comment;
+mod errors;
+mod helper;
+mod layout;
+mod list;
+mod marks;
+mod pattern;
+mod string;
+mod text;

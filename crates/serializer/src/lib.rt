@@ -1,5 +1,5 @@
 // The serializer: a tree's marks are checked and written as normal text.
 mod models;
 mod serializer;
-pub mod shape;
+mod shape;
 mod writer;

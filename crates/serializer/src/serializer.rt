@@ -82,7 +82,7 @@ fn text_at<'a>(source: &'a [u8], tree: &[u32], mark: usize) -> &'a [u8]
     &source[start..end]
 }
 
-// Whether the expression at a mark is a select, or a placeable around one, at any depth.
+// Whether the expression at a mark is a select (14), or a placeable (13) around one, at any depth.
 fn is_select_expr(tree: &[u32], mark: usize) -> bool
     requires { ⌜ sizesFit (now tree) ≡ true ⌝ }
     requires { ⌜ NodeAt (marksIn (now tree)) mark ⌝ }

@@ -3,29 +3,28 @@
 use Prim.Native.Nat.{ℕ, _+_}
 use native.Mathlib.Omega.{arith}
 use native.Mathlib.Nat.{add-zero}
-use mathlib.Core.Path.{_≡_, refl, sym, ap, ap₂, _∙_, subst, subst₂}
+use mathlib.Core.Path.{_≡_, refl, sym, ap, ap₂, _∙_, subst₂}
 use mathlib.Core.Bool.{Bool, true, false}
 use mathlib.Core.List.{List, [], _∷_, _++_, append-nil}
-use lib.ListN.{drop, take}
+use lib.ListN.{drop}
 use lib.Seq.{drop-drop}
 use Rattle.syntax.specs.Byte as Byte
 use Rattle.syntax.specs.Kind as Kind
 use Rattle.syntax.specs.Bytes.{startsWith}
 use Rattle.syntax.specs.Marks.{Mark, plain, up, moveUp, node}
-use Rattle.syntax.specs.declared.errors.ErrorKind.{ErrorKind}
 use Rattle.syntax.specs.declared.errors.ErrorKind.the-variants.{ExpectedToken}
 use Rattle.syntax.specs.Errors.{faultAt}
 use Rattle.syntax.specs.Reader as Reader
-use Rattle.syntax.specs.Reader.{Out, ok, bad, deep, Reader, wrap, inNode}
-use Rattle.syntax.specs.Helper.{skipBlank, skipBlankInline, expectByte, asText}
+use Rattle.syntax.specs.Reader.{Out, ok, bad, deep, Reader, wrap}
+use Rattle.syntax.specs.Helper.{skipBlank, skipBlankInline, expectByte}
 use Rattle.syntax.specs.Pattern as Pattern
 use Rattle.syntax.specs.Pattern.{getPattern}
 use Rattle.laws.specs.Bytes.{byCase}
 use Rattle.laws.specs.Moving.{map-append, after-after, moveUp-twice}
 use Rattle.standard.specs.Dialect.{rust}
 use Rattle.standard.specs.Peg as Peg
-use Rattle.standard.specs.Peg.{Answer, fits, fails, Parser, _/_, byte, in-node, as-text, ahead, void}
-use Rattle.standard.specs.Steps.{moveUp-none, Uses, byte-fits, byte-fails, first, second, text-fits, text-fails, node-fits, node-fails}
+use Rattle.standard.specs.Peg.{Answer, fits, fails, Parser, byte, in-node, ahead, void}
+use Rattle.standard.specs.Steps.{moveUp-none, Uses, byte-fits, byte-fails, first, node-fits, node-fails}
 use Rattle.standard.specs.Lexical.{line-end, blank?, blank-inline?, blank-block}
 use Rattle.standard.specs.Grammar as Grammar
 use Rattle.standard.specs.Blank.{behind, skipBlank-is, blank?-is, blank-inline?-is}
@@ -92,14 +91,6 @@ module _ {A B C D : Type 0} where
       → Matches f p p′ → Matches g q q′ → Matches g (Reader._>>_ p q) (Peg._>>_ p′ q′)
   unfolding Reader._>>_ Peg._>>_
   then {f} {g} {p} {p′} {q} {q′} h l = record { same = λ s. same-next f g s (λ _. q) (λ _. q′) (p s) (p′ s) (h .same s) (λ x r. l .same r) }
-
-pub same-pure : {A B : Type 0} (f : A → B) (a : A) → Matches f (Reader.pure a) (Peg.pure (f a))
-unfolding Reader.pure Peg.pure
-same-pure f a = record { same = λ s. refl }
-
-pub same-fail : {A B : Type 0} (f : A → B) (k : ErrorKind) → Matches f (Reader.fail k) Peg.never
-unfolding Reader.fail Peg.never
-same-fail f k = record { same = λ s. refl }
 
 -- readers step by step
 module _ {A B : Type 0} where
@@ -169,17 +160,6 @@ wrap-after k kind (ok x ms j) = ap (λ r. ok x r (k + j)) (node-up k kind ms)
 wrap-after k kind (bad e j) = refl
 wrap-after k kind (deep j) = refl
 
-pub inside-node : {A B : Type 0} {f : A → B} {p : Reader A} {q : Parser B} (kind : ℕ) → Matches f p q → Matches f (inNode kind p) (in-node kind q)
-unfolding inNode
-inside-node {f} {p} {q} kind h = record { same = λ s. same-wrap f kind (p s) q s (h .same s) }
-
--- all that was read, as a text
-pub same-text : {A : Type 0} (f : Unit {0} → A) (kind : ℕ) (o : Out (Unit {0})) (p : Parser A) (s : List ℕ) → Same f o (p s) → Same (λ k. take k s) (asText kind o) (as-text kind p s)
-unfolding asText
-same-text f kind (ok u ms k) p s h = text-fits kind p s h
-same-text f kind (bad e k) p s h = text-fails kind p s h
-same-text f kind (deep k) p s h = tt
-
 -- blanks
 pub same-blank : Matches nothing skipBlank blank?
 same-blank = record { same = λ s. subst₂ (Same nothing) (sym (skipBlank-is s)) (sym (blank?-is s)) refl }
@@ -195,14 +175,3 @@ unfolding Reader.after Peg.after
 same-skip f ms k i j l (ok x ns n) a e h = rw h (ap₂ (λ r m. fits (f x) (ms ++ r) m) (moveUp-twice j l ns ∙ ap (λ m. moveUp m ns) (sym e) ∙ sym (moveUp-twice k i ns)) (omega arith))
 same-skip f ms k i j l (bad d n) a e h = rw h refl
 same-skip f ms k i j l (deep n) a e h = tt
-
--- a choice by a test: what the grammar tries first fails where the test does, and what it tries next fails where the test passes
-pub same-choice : {A B : Type 0} (f : A → B) (v : Bool) (o o′ : Out A) (p q : Parser B) (s : List ℕ)
-    → (v ≡ true → Same f o (p s) × (q s ≡ fails)) → (v ≡ false → (p s ≡ fails) × Same f o′ (q s)) → Same {A = A} f (elim v [ true ↦ o | false ↦ o′ ]) ((p / q) s)
-same-choice {A} f true o o′ p q s h l = go o (h refl .0)
-  where
-    go : (o : Out A) → Same f o (p s) → Same f o ((p / q) s)
-    go (ok x ms k) e = first p q s e
-    go (bad d k) e = second p q s e ∙ h refl .1
-    go (deep k) e = tt
-same-choice f false o o′ p q s h l = subst (Same f o′) (sym (second p q s (l refl .0))) (l refl .1)

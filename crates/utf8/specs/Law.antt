@@ -6,13 +6,13 @@ use mathlib.Core.Logic.{_⊎_, inl, inr}
 use mathlib.Core.Path.{_≡_, refl, sym, ap, _∙_, subst}
 use mathlib.Core.Bool.{true, false}
 use mathlib.Core.Option.{Option, none, some, Option·map, map-eq-none-iff}
-use mathlib.Core.List.{List, [], _∷_, _++_}
+use mathlib.Core.List.{List, [], _∷_}
 use lib.Dec.{leb, ltb, eqb}
-use lib.ListN.{length, getD, take, drop, length-take, take-append-drop}
+use lib.ListN.{length, getD, take, drop}
 use lib.Seq.{drop-cons}
 use borrow.Author.Tests.{leb-true, leb-false, lt-ltb, le-ltb, ltb-true, eq-eqb, ne-eqb, eqb-true}
 use Rattle.utf8.specs.Utf8.{width, widthOfFirst, scan, firstIllFormed, moved, WellFormed, isContinuation, isBoundary}
-use Rattle.utf8.specs.Sequence.{cases, clash, first-below, read-within, read-append, read-take, read-first, read-rest}
+use Rattle.utf8.specs.Sequence.{cases, clash, first-below, read-within, read-take, read-first, read-rest}
 
 -- a scan from the start of a sequence, and past it
 
@@ -65,26 +65,6 @@ pub ill-past : (b : ℕ) (s : List ℕ) (w : ℕ) → width (b ∷ s) ≡ suc w
 unfolding firstIllFormed
 ill-past b s w e =
     scan-read b s w e ∙ ap (Option·map suc) (scan-moved s w (read-within b s w e)) ∙ moved-suc w (scan 0 (drop w s))
-
-scan-append : (b a : List ℕ) (k : ℕ) → k ≤ length a → scan k a ≡ none → scan k (a ++ b) ≡ moved (length a) (scan 0 b)
-unfolding scan
-scan-append b [] zero h e = moved-zero (scan 0 b)
-scan-append b [] (suc k) h e = absurd (not-suc-le-zero h)
-scan-append b (x ∷ a) zero h e =
-    let p = scan-none x a e in
-    scan-read x (a ++ b) (p .0) (read-append x a b (p .0) (p .1))
-    ∙ ap (Option·map suc) (scan-append b a (p .0) (read-within x a (p .0) (p .1)) (p .2))
-    ∙ moved-suc (length a) (scan 0 b)
-scan-append b (x ∷ a) (suc k) h e =
-    ap (Option·map suc) (scan-append b a k (le-of-suc-le-suc h) (scan-skip x a k e)) ∙ moved-suc (length a) (scan 0 b)
-
--- after a well-formed source, faults are those of what follows
-pub ill-after : (a b : List ℕ) → WellFormed a → firstIllFormed (a ++ b) ≡ moved (length a) (firstIllFormed b)
-unfolding firstIllFormed
-ill-after a b e = scan-append b a 0 (omega arith) e
-
-pub append-well-formed : (a b : List ℕ) → WellFormed a → WellFormed b → WellFormed (a ++ b)
-append-well-formed a b p q = ill-after a b p ∙ ap (moved (length a)) q
 
 -- the end, or a place where no continuation byte stands: what a boundary past the start is
 abbrev Edge : List ℕ → ℕ → Type 0
@@ -142,30 +122,6 @@ pub boundary-parts : (s : List ℕ) (k : ℕ) → WellFormed s → isBoundary s 
 unfolding firstIllFormed scan
 boundary-parts s zero e g = (refl, e)
 boundary-parts s (suc k) e g = scan-parts s 0 (suc k) (omega arith) e (boundary-edge s k g)
-
-scan-edge : (s : List ℕ) (m k : ℕ) → m ≤ k → k ≤ length s → scan m s ≡ none → scan m (take k s) ≡ none → Edge s k
-unfolding scan
-scan-edge [] m zero h l e f = inl refl
-scan-edge [] m (suc k) h l e f = absurd (not-suc-le-zero l)
-scan-edge (x ∷ s) zero zero h l e f =
-    let p = scan-none x s e in
-    inr (omega arith, read-first x s (p .0) (p .1) .1)
-scan-edge (x ∷ s) (suc m) zero h l e f = absurd (not-suc-le-zero h)
-scan-edge (x ∷ s) zero (suc k) h l e f =
-    let p = scan-none x (take k s) f in
-    let w = p .0 in
-    let r : width (x ∷ s) ≡ suc w = rw take-append-drop at (read-append x (take k s) (drop k s) w (p .1)) in
-    edge-cons x s k
-    (scan-edge s w k (omega (arith, length-take k s, read-within x (take k s) w (p .1))) (le-of-suc-le-suc l)
-    (map-eq-none-iff suc (scan w s) .0 (sym (scan-read x s w r) ∙ e))
-    (p .2))
-scan-edge (x ∷ s) (suc m) (suc k) h l e f =
-    edge-cons x s k (scan-edge s m k (le-of-suc-le-suc h) (le-of-suc-le-suc l) (scan-skip x s m e) (scan-skip x (take k s) m f))
-
--- and only a boundary does
-pub parts-boundary : (s : List ℕ) (k : ℕ) → WellFormed s → k ≤ length s → WellFormed (take k s) → isBoundary s k ≡ true
-unfolding firstIllFormed
-parts-boundary s k e h f = edge-boundary s k (scan-edge s 0 k (omega arith) h e f)
 
 -- a scan that has passed a sequence stands at an edge
 edge-after : (s : List ℕ) (m : ℕ) → m ≤ length s → scan m s ≡ none → Edge s m

@@ -11,7 +11,7 @@ use borrow.Author.Tests.{eqb-true, leb-true}
 use Rattle.syntax.specs.Kind as Kind
 use Rattle.syntax.specs.Marks.{Mark, plain, placed, node, textNode, moveUp}
 use Rattle.laws.specs.Bytes.{byCase, clash}
-use Rattle.syntax.specs.Shape.{top, start, Move, move, Model, model, models, among, stepIn, stepBy, finalBy, step, final, opens, Run, stay, text, nest, Content, WellFormed}
+use Rattle.syntax.specs.Shape.{start, Move, move, Model, model, models, among, stepIn, stepBy, finalBy, step, final, opens, Run, stay, text, nest, Content, WellFormed}
 
 -- an answer that is none and some; the other part of an `or`
 pub lost {ℓ} : {G : Type ℓ} {A : Type 0} {a : A} → none ≡ some a → G
@@ -113,17 +113,6 @@ module _ (boundary boundary′ : ℕ → Bool) (n : ℕ) (carries : (a : ℕ) �
   run-moved stay = stay
   run-moved (text j a e i s x y l rest) = text j (n + a) (n + e) i s (carries a x) (carries e y) (omega arith) (run-moved rest)
   run-moved (nest i s o inner f rest) = simp map-append (nest i s o (run-moved inner) f (run-moved rest))
-
--- a list at the top ends with no attached comment pending, so that another may follow
-final-top : (q : ℕ) → final top q ≡ true → q ≡ start
-unfolding final finalBy models among
-final-top q f = byCase (eqb q start) (λ e. eqb-true q start e) (λ e. clash f (rw (e, final)))
-
-pub formed-append : {boundary : ℕ → Bool} {limit : ℕ} {ms ns : List Mark} → WellFormed boundary limit ms → WellFormed boundary limit ns → WellFormed boundary limit (ms ++ ns)
-formed-append {boundary} c d = content-append boundary (c .run) (rw (final-top (c .to) (c .ended)) d)
-
-pub formed-wider : {boundary : ℕ → Bool} {limit : ℕ} {ms : List Mark} (more : ℕ) → limit ≤ more → WellFormed boundary limit ms → WellFormed boundary more ms
-formed-wider {boundary} more l c = record { to = c .to; run = run-wider boundary more l (c .run); ended = c .ended }
 
 pub formed-moved : (boundary boundary′ : ℕ → Bool) (n : ℕ) → ((a : ℕ) → boundary a ≡ true → boundary′ (n + a) ≡ true) → {limit : ℕ} {ms : List Mark} → WellFormed boundary limit ms → WellFormed boundary′ limit (moveUp n ms)
 formed-moved boundary boundary′ n carries c = record { to = c .to; run = run-moved boundary boundary′ n carries (c .run); ended = c .ended }

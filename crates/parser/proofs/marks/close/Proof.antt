@@ -8,39 +8,30 @@ use Rattle.parser.proofs.marks.close.Reads as reads
 use Rattle.parser.proofs.marks.close.Lts as lts
 use Rattle.parser.proofs.marks.put.Reads as put-reads
 
--- src/marks.rt:78:18
 enum-known-r : tie.Need-enum-known-r
 enum-known-r c = search needs
 
--- src/marks.rt:79:39
 add-put : tie.Need-add-put
 add-put c = search needs
 
--- src/marks.rt:79:17
 put-requires : tie.Need-put-requires
 put-requires c κs = (rw (c .before .before .r .given .1) at (c .before .before .before .before .before .pre .1), search needs)
 
--- src/marks.rt:82:19
 enum-known-r-2 : tie.Need-enum-known-r-2
 enum-known-r-2 c = search needs
 
--- src/marks.rt:83:20
 enum-known-r-3 : tie.Need-enum-known-r-3
 enum-known-r-3 c = search needs
 
--- src/marks.rt:72:1
 same-length : tie.Need-same-length
 same-length c = search needs
 
--- src/marks.rt:72:1
 returns : tie.Need-returns
 returns c = rw (c .before .before .before .before .before .r .given .1) (ap₂ Ok refl (c .before .before .put .ensures .0), c .before .before .put .ensures .1)
 
--- src/marks.rt:72:1
 returns-2 : tie.Need-returns-2
 returns-2 c = rw (c .before .r2 .given .1) (refl, refl)
 
--- src/marks.rt:72:1
 returns-3 : tie.Need-returns-3
 returns-3 c = rw (c .before .r3 .given .1) (refl, refl)
 

@@ -18,79 +18,60 @@ Inv-loop tree₀ cap from n kind i₀ carried₀ place₀ tree i carried place =
 abbrev μ-loop : tie.MeasureT-loop
 μ-loop tree₀ cap from n kind i₀ carried₀ place₀ tree i carried place = n - i
 
--- src/marks.rt:57:5
 loop-holds : tie.Need-loop-holds Inv-loop μ-loop
 loop-holds c = inserting-none _ _ _ _ _ (c .before .pre .0)
 
--- src/marks.rt:58:17
 add-a : tie.Need-add-a Inv-loop μ-loop
 add-a c = omega (arith, c .before .loop .inv, c .before .before .before .pre, c .before .before .before .good)
 
--- src/marks.rt:59:17
 add-b : tie.Need-add-b Inv-loop μ-loop
 add-b c = omega (arith, c .before .loop .inv, c .before .before .before .pre, c .before .before .before .good)
 
--- src/marks.rt:59:17
 add-b-2 : tie.Need-add-b-2 Inv-loop μ-loop
 add-b-2 c = omega (arith, c .before .loop .inv, c .before .before .before .pre, c .before .before .before .good)
 
--- src/marks.rt:60:17
 mul-k : tie.Need-mul-k Inv-loop μ-loop
 mul-k c = scaled-fits _ (length (c .before .before .before .args .tree .now)) 4 (omega (arith, c .before .loop .inv, c .before .before .before .pre)) (c .before .before .before .good .0 .1)
 
--- src/marks.rt:60:17
 slice-read-k : tie.Need-slice-read-k Inv-loop μ-loop
 slice-read-k c = omega (arith, c .before .before .loop .inv, c .before .before .before .before .pre)
 
--- src/marks.rt:61:17
 mul-p : tie.Need-mul-p Inv-loop μ-loop
 mul-p c = scaled-fits _ (length (c .before .before .before .before .args .tree .now)) 4 (omega (arith, c .before .before .loop .inv, c .before .before .before .before .pre)) (c .before .before .before .before .good .0 .1)
 
--- src/marks.rt:61:17
 slice-read-p : tie.Need-slice-read-p Inv-loop μ-loop
 slice-read-p c = omega (arith, c .before .before .before .loop .inv, c .before .before .before .before .before .pre)
 
--- src/marks.rt:62:9
 mul-tree : tie.Need-mul-tree Inv-loop μ-loop
 mul-tree c = scaled-fits _ (length (c .before .before .before .before .before .args .tree .now)) 4 (omega (arith, c .before .before .before .loop .inv, c .before .before .before .before .before .pre)) (c .before .before .before .before .before .good .0 .1)
 
--- src/marks.rt:62:9
 slice-write-tree : tie.Need-slice-write-tree Inv-loop μ-loop
 slice-write-tree c = omega (arith, c .before .before .before .loop .inv, c .before .before .before .before .before .pre)
 
--- src/marks.rt:63:9
 mul-tree-2 : tie.Need-mul-tree-2 Inv-loop μ-loop
 mul-tree-2 c = scaled-fits _ (length (c .before .before .before .before .before .args .tree .now)) 4 (omega (arith, c .before .before .before .loop .inv, c .before .before .before .before .before .pre)) (c .before .before .before .before .before .good .0 .1)
 
--- src/marks.rt:63:9
 slice-write-tree-2 : tie.Need-slice-write-tree-2 Inv-loop μ-loop
 slice-write-tree-2 c = simp length-set (omega (arith, c .before .before .before .loop .inv, c .before .before .before .before .before .pre))
 
--- src/marks.rt:66:9
 add-i : tie.Need-add-i Inv-loop μ-loop
 add-i c = omega (arith, c .before .before .before .loop .inv, c .before .before .before .before .before .pre, c .before .before .before .before .before .good)
 
--- src/marks.rt:57:5
 loop-less : tie.Need-loop-less Inv-loop μ-loop
 loop-less c = omega (arith, c .before .before .before .loop .inv, c .before .before .before .before .before .pre)
 
--- src/marks.rt:57:5
 loop-again : tie.Need-loop-again Inv-loop μ-loop
 loop-again c = inserting-more _ _ _ _ _ _ _ _ _ (omega (arith, c .before .before .before .before .before .pre)) (omega (arith, c .before .before .before .before .before .pre)) (omega (arith, c .slice-known3 .given (c .before .before .before .before .before .args .cap + c .before .before .before .loop .i + 2))) (c .before .before .before .loop .inv) (c .before .before .loop-test .taken)
 
--- src/marks.rt:68:32
 cast-put : tie.Need-cast-put Inv-loop μ-loop
 cast-put c = omega (arith, c .before .before .loop .inv)
 
--- src/marks.rt:68:5
 put-requires : tie.Need-put-requires Inv-loop μ-loop
 put-requires c κs = omega (arith, c .before .before .loop .inv, c .before .before .before .before .pre)
 
--- src/marks.rt:49:1
 same-length : tie.Need-same-length Inv-loop μ-loop
 same-length c = c .before .before .put .ensures .1 .long ∙ c .before .before .before .before .before .loop .inv .long
 
--- src/marks.rt:49:1
 returns : tie.Need-returns Inv-loop μ-loop
 returns c = (c .before .before .put .ensures .0, inserting-end _ _ _ _ _ _ _ _ _ _ (c .before .before .before .before .before .loop .inv) (omega (arith, c .before .before .before .before .loop-test)) (c .before .before .put .ensures .1))
 
