@@ -77,6 +77,13 @@ module _ (s t e : List ℕ) (h : readAnswer s (length t) (length e) ≡ Accepted
       }
       go (refused k) q a = let z : _≡_ {A = ℕ} 0 1 = cc in absurd (omega arith)
 
+  -- the marks that were left
+  pub marks-left : marksIn (treeAfter s t e) ≡ read-of .marks
+  marks-left =
+      let d = read-of in
+      let r = parse-read maxOpen s (d .reads) .0 .room in
+      ap marksIn (d .tree) ∙ tree-marks (treeCapacity (length s)) (d .marks) _ (omega arith) (proper maxOpen s (d .marks) (d .errors) (d .reads))
+
   -- the writing call takes the tree that was left, whatever its output; it may refuse only for want of room
   pub writes : (o : ℕ) (junk : Bool) → writeAnswer s (treeAfter s t e) o junk ≡ written o (length (serialize s junk (read-of .marks)))
   unfolding writeAnswer
@@ -84,7 +91,7 @@ module _ (s t e : List ℕ) (h : readAnswer s (length t) (length e) ≡ Accepted
       let d = read-of in
       let c = treeCapacity (length s) in
       let r = parse-read maxOpen s (d .reads) .0 .room in
-      let m : marksIn (treeAfter s t e) ≡ d .marks = ap marksIn (d .tree) ∙ tree-marks c (d .marks) _ (omega arith) (proper maxOpen s (d .marks) (d .errors) (d .reads)) in
+      let m = marks-left in
       let f : sizesFit (treeAfter s t e) ≡ true = ap sizesFit (d .tree) ∙ tree-fits c (d .marks) _ (omega arith) (omega (arith, ltb-false maxLength (length s) short)) in
       rw (short, writeAnswer, formed, f, m, verdict-none maxOpen s (d .marks) (d .errors) formed (d .reads))
       (ap (λ ms. written o (length (serialize s junk ms))) m)

@@ -34,5 +34,7 @@ pub mod Call
 pub mod Shape
 -- the marks of a reading are well formed
 pub mod Formed
+-- the writer's pieces without their fuel; how long a text can be
+pub mod Text
 -- elements stored one after another
 pub mod Sets

@@ -6,8 +6,8 @@ ghost use Rattle.syntax.specs.Errors.{wordsOf};
 pub enum ErrorKind {
     ExpectedToken(u8),
     ExpectedCharRange(u8),
-    ExpectedMessageField(usize, usize),
-    ExpectedTermField(usize, usize),
+    ExpectedMessageField(u32, u32),
+    ExpectedTermField(u32, u32),
     ForbiddenCallee,
     MissingDefaultVariant,
     MissingValue,
@@ -18,9 +18,9 @@ pub enum ErrorKind {
     TermAttributeAsPlaceable,
     UnterminatedStringLiteral,
     PositionalArgumentFollowsNamed,
-    DuplicatedNamedArgument(usize, usize),
+    DuplicatedNamedArgument(u32, u32),
     UnknownEscapeSequence(u8),
-    InvalidUnicodeEscapeSequence(usize, usize),
+    InvalidUnicodeEscapeSequence(u32, u32),
     UnbalancedClosingBrace,
     ExpectedInlineExpression,
     ExpectedSimpleExpressionAsSelector,
@@ -29,16 +29,16 @@ pub enum ErrorKind {
 
 // The position is from start to end. The Rust's slice, the junk, is known only where the entry's junk ends.
 pub struct ParserError {
-    pub start: usize,
-    pub end: usize,
+    pub start: u32,
+    pub end: u32,
     pub kind: ErrorKind,
 }
 
 // A kind as numbers: document 01's number of it and its two arguments.
 pub struct KindWords {
     pub number: u32,
-    pub first: usize,
-    pub second: usize,
+    pub first: u32,
+    pub second: u32,
 }
 
 pub fn kind_words(kind: ErrorKind) -> KindWords
@@ -47,12 +47,12 @@ pub fn kind_words(kind: ErrorKind) -> KindWords
     match kind {
         ErrorKind::ExpectedToken(x) => KindWords {
             number: 1,
-            first: x as usize,
+            first: x as u32,
             second: 0,
         },
         ErrorKind::ExpectedCharRange(x) => KindWords {
             number: 2,
-            first: x as usize,
+            first: x as u32,
             second: 0,
         },
         ErrorKind::ExpectedMessageField(x, y) => KindWords {
@@ -122,7 +122,7 @@ pub fn kind_words(kind: ErrorKind) -> KindWords
         },
         ErrorKind::UnknownEscapeSequence(x) => KindWords {
             number: 16,
-            first: x as usize,
+            first: x as u32,
             second: 0,
         },
         ErrorKind::InvalidUnicodeEscapeSequence(x, y) => KindWords {

@@ -65,7 +65,7 @@ into-up : (k : ℕ) (o : Node) (m : Mark) → into (upNode k o) (up k m ∷ []) 
 unfolding moveUp
 into-up k o m i = record { kind = o .kind; opening = up k (o .opening); closing = up k (o .closing); inner = sym (moveUp-append k (o .inner) (m ∷ [])) i }
 
-abbrev pickFrom : Bool → Bool → Bool → Node → ℕ → Mark → List Mark → List Node
+abbrev pub pickFrom : Bool → Bool → Bool → Node → ℕ → Mark → List Mark → List Node
 pickFrom u v w o d m ms = elim u [
   | true ↦ elim v [ true ↦ nodesFrom (opened m) 1 ms | false ↦ nodesFrom (into o (m ∷ [])) (suc d) ms ]
   | false ↦ elim w [ true ↦ closed o m ∷ nodesFrom outside 0 ms | false ↦ nodesFrom (into o (m ∷ [])) (d - 1) ms ]

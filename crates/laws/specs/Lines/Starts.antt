@@ -156,7 +156,7 @@ module _ {n : ℕ} {sub : Inside} (law : InsideBounds n sub) where
       named (bad f k) h = tt
       named (deep k) h = tt
 
-  first-stays : {b : ℕ} {bs : List ℕ} {ms : List Mark} {es : List Error} {k : ℕ} → First sub (b ∷ bs) ms es k → Stays (b ∷ bs) k
+  pub first-stays : {b : ℕ} {bs : List ℕ} {ms : List Mark} {es : List Error} {k : ℕ} → First sub (b ∷ bs) ms es k → Stays (b ∷ bs) k
   first-stays {b} {bs} (entry {e} {ms} {k} h) = λ l. by (subst (Holds (λ e ms k. Leaves s k)) h (entry-leaves s) (omega arith))
     where
       s : List ℕ

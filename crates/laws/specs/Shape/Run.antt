@@ -39,7 +39,7 @@ abbrev pub everyEnd : (ℕ → ℕ → Bool) → List Model → Bool
 everyEnd p [] = true
 everyEnd p (model k ms qs ∷ rest) = everyChild (p k) qs && everyEnd p rest
 
-child-rule : (p : ℕ → Bool) (js : List ℕ) (j : ℕ) → everyChild p js ≡ true → among j js ≡ true → p j ≡ true
+pub child-rule : (p : ℕ → Bool) (js : List ℕ) (j : ℕ) → everyChild p js ≡ true → among j js ≡ true → p j ≡ true
 unfolding among
 child-rule p [] j h a = clash a refl
 child-rule p (i ∷ js) j h a =
