@@ -53,7 +53,7 @@ pub words-none : (at : ℕ) → wordsAt at [] ≡ []
 unfolding wordsAt moveUp
 words-none at = refl
 
-answer-after : {A R : Type 0} (w : Says A R) (at n k : ℕ) (ms : List Mark) (o : Out A) → answer w at n (after ms k o) ≡ answer w (at + k) (n + length ms) o
+pub answer-after : {A R : Type 0} (w : Says A R) (at n k : ℕ) (ms : List Mark) (o : Out A) → answer w at n (after ms k o) ≡ answer w (at + k) (n + length ms) o
 unfolding after
 answer-after w at n k ms (ok a ns j) = ap₂ (w .yes a) (sym (add-assoc at k j)) (ap (λ (i : ℕ). n + i) (length-append ms (moveUp k ns) ∙ ap (λ (i : ℕ). length ms + i) (moved-length k ns)) ∙ sym (add-assoc n (length ms) (length ns)))
 answer-after w at n k ms (bad f j) = ap₂ (w .no) (fault-up at k f) (sym (add-assoc at k j))
@@ -195,10 +195,6 @@ module _ {A B : Type 0} {at j : ℕ} (x : List ℕ) where
   unfolding _>>=_ next
   far-bind p q l = record { k = l .k; is = rw (l .is); place = l .place }
 
-  pub far-then : (p : Reader A) (q : Reader B) → Far at j (p x) → Far at j ((p >> q) x)
-  unfolding _>>_ next
-  far-then p q l = record { k = l .k; is = rw (l .is); place = l .place }
-
 -- the first reader failed, and so does the whole, with the same result
 module _ {A B : Type 0} {cap at n : ℕ} {t t₁ : List ℕ} {r : Read} (x : List ℕ) where
   pub stop-bind : (p : Reader A) (q : A → Reader B) → Did reading cap at n t t₁ r (p x) → ((a b : ℕ) → r ≡ Ok a b → ⊥) → Did reading cap at n t t₁ r ((p >>= q) x)
@@ -227,7 +223,7 @@ pub far-here : {A : Type 0} {at : ℕ} → Far {A = A} at at (deep 0)
 far-here {at = at} = record { k = 0; is = refl; place = sym (add-zero at) }
 
 -- a reader without marks
-pub quiet : {A : Type 0} {cap at n a : ℕ} {t : List ℕ} {o : Out A} {x : A} {k : ℕ} → o ≡ ok x [] k → a ≡ at + k → Found cap at n a n t t o
+unfoldable pub quiet : {A : Type 0} {cap at n a : ℕ} {t : List ℕ} {o : Out A} {x : A} {k : ℕ} → o ≡ ok x [] k → a ≡ at + k → Found cap at n a n t t o
 quiet {cap = cap} {at} {n} {t = t} {x = x} {k = k} e h = record { value = x; ms = []; k = k; is = e; place = h; count = sym (add-zero n); wrote = rw words-none (step-none cap n t) }
 
 -- ---- texts and nodes
@@ -235,16 +231,16 @@ pub text-placed : (at a e from till kind : ℕ) → a ≡ at + from → e ≡ at
 unfolding wordsAt moveUp textNode
 text-placed at a e from till kind p q = rw (p, q)
 
-pub found-text : {A : Type 0} {cap at n n′ a k kind : ℕ} {t t₁ : List ℕ} {o : Out A} {x : A} → o ≡ ok x (textNode kind 0 k) k → a ≡ at + k → n′ ≡ n + 2 → Step cap n t t₁ (word kind at ∷ word (closing kind) a ∷ []) → Found cap at n a n′ t t₁ o
+unfoldable pub found-text : {A : Type 0} {cap at n n′ a k kind : ℕ} {t t₁ : List ℕ} {o : Out A} {x : A} → o ≡ ok x (textNode kind 0 k) k → a ≡ at + k → n′ ≡ n + 2 → Step cap n t t₁ (word kind at ∷ word (closing kind) a ∷ []) → Found cap at n a n′ t t₁ o
 unfolding textNode
 found-text {at = at} {a = a} {k} {kind} {x = x} e h c s = record { value = x; ms = textNode kind 0 k; k = k; is = e; place = h; count = c; wrote = rw (text-placed at at a 0 k kind (sym (add-zero at)) h) s }
 
-node-words : (at kind : ℕ) (ms : List Mark) → wordsAt at (node kind ms) ≡ word kind 0 ∷ (wordsAt at ms ++ (word (closing kind) 0 ∷ []))
+pub node-words : (at kind : ℕ) (ms : List Mark) → wordsAt at (node kind ms) ≡ word kind 0 ∷ (wordsAt at ms ++ (word (closing kind) 0 ∷ []))
 unfolding wordsAt moveUp node
 node-words at kind ms = ap (λ (l : List Word). word kind 0 ∷ l) (words-append at ms (plain (closing kind) ∷ []))
 
 -- an opening mark, what stands in the node, and the closing mark
-pub found-wrap : {A : Type 0} {cap at n n₁ m m′ a : ℕ} {t t₁ t₂ t₃ : List ℕ} (kind : ℕ) {o : Out A} → Step cap n t t₁ (word kind 0 ∷ []) → n₁ ≡ n + 1 → Found cap at n₁ a m t₁ t₂ o
+unfoldable pub found-wrap : {A : Type 0} {cap at n n₁ m m′ a : ℕ} {t t₁ t₂ t₃ : List ℕ} (kind : ℕ) {o : Out A} → Step cap n t t₁ (word kind 0 ∷ []) → n₁ ≡ n + 1 → Found cap at n₁ a m t₁ t₂ o
     → Step cap m t₂ t₃ (word (closing kind) 0 ∷ []) → m′ ≡ m + 1 → Found cap at n a m′ t t₃ (wrap kind o)
 unfolding wrap node
 found-wrap {cap = cap} {at} {n} {n₁} {m} {m′} {a} {t} {t₁} {t₂} {t₃} kind {o} s e f z g =

@@ -1,12 +1,12 @@
 -- An error in a list's words: a kind in the first array, and a group in the second.
-use Prim.Native.Nat.{ℕ, zero, suc, _+_, _-_, _*_, _≤_, _<_}
+use Prim.Native.Nat.{ℕ, suc, _+_, _-_, _*_, _≤_}
 use native.Mathlib.Nat.{add-suc, add-comm}
 use native.Mathlib.Numerals.{add-one}
 use native.Mathlib.Omega.{arith}
-use mathlib.Core.Path.{_≡_, refl, sym, ap, ap₂, _∙_}
+use mathlib.Core.Path.{_≡_, refl, sym, ap, _∙_}
 use mathlib.Core.List.{List, [], _∷_, _++_}
 use lib.ListN.{length, take, drop, set, length-set, length-append, length-take, length-drop}
-use lib.Seq.{sets, sets-eq, length-sets, take-set-le, drop-set-lt, drop-set-add, take-suc-set, take-at, take-all}
+use lib.Seq.{sets, sets-eq, length-sets, take-set-le, drop-set-lt, drop-set-add, take-suc-set, take-at}
 use Rattle.syntax.specs.declared.errors.KindWords.{KindWords}
 use Rattle.syntax.specs.Errors.{wordsOf}
 use Rattle.syntax.specs.Core.{Error}

@@ -10,7 +10,7 @@ use lib.Seq.{getD-set-same, getD-set-other, take-set-le, drop-set-lt, take-at, d
 use Rattle.parser.specs.Tree.{Word, word, marksIn, marksFrom, Step, Inserted}
 use Rattle.parser.proofs.Steps.{marks-length, marks-same, step-put, step-cut}
 
-next-from : (cap i n : ℕ) (t : List ℕ) → i < n → marksFrom cap i (n - i) t ≡ word (getD t (i + 2) 0) (getD t (cap + i + 2) 0) ∷ marksFrom cap (i + 1) (n - (i + 1)) t
+pub next-from : (cap i n : ℕ) (t : List ℕ) → i < n → marksFrom cap i (n - i) t ≡ word (getD t (i + 2) 0) (getD t (cap + i + 2) 0) ∷ marksFrom cap (i + 1) (n - (i + 1)) t
 unfolding marksFrom
 next-from cap i n t h = let e : n - i ≡ suc (n - (i + 1)) = omega arith in rw e
 

@@ -15,7 +15,7 @@ pub by : {A : Type 0} {a b d : A} → a ≡ b → a ≡ d → b ≡ d
 by p q = sym p ∙ q
 
 -- `startsWith` is a test of the first byte
-starts-with : (b : ℕ) (x : List ℕ) → startsWith b x ≡ starts (λ y. eqb y b) x
+pub starts-with : (b : ℕ) (x : List ℕ) → startsWith b x ≡ starts (λ y. eqb y b) x
 unfolding startsWith starts
 starts-with b [] = refl
 starts-with b (y ∷ x) = refl

@@ -4,19 +4,12 @@ use mathlib.Core.Path.{_≡_}
 use mathlib.Core.List.{List, _++_, map}
 use lib.ListN.{length, take, drop}
 use Rattle.syntax.specs.declared.errors.ParserError.{ParserError}
-use Rattle.syntax.specs.Errors.{wordsOf}
 use Rattle.syntax.specs.Core.{Error}
 use Rattle.syntax.specs.Layout.{groupSize, groups, errorNumber}
 
--- a number that fits a word, and an error whose numbers do
+-- a number that fits a word
 abbrev pub Small : ℕ → Type 0
 Small x = x < 2 ^ 32
-
-pub record SmallError (e : ParserError) : Type 0 where
-  pub start : Small (e .start)
-  pub end : Small (e .end)
-  pub first : Small (wordsOf (e .kind) .first)
-  pub second : Small (wordsOf (e .kind) .second)
 
 abbrev pub withJunk : ParserError → ℕ → ℕ → Error
 withJunk e a z = record { fault = e; junkFrom = a; junkTill = z }

@@ -9,5 +9,11 @@ pub mod Place
 pub mod Scan
 pub mod Slice
 pub mod Did
+pub mod Shape
+pub mod Argument
 pub mod Entry
 pub mod Line
+pub mod Call
+pub mod Resource
+pub mod Fields
+pub mod Names

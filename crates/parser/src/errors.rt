@@ -11,8 +11,8 @@ pub fn error(kind: ErrorKind, at: usize) -> ParserError
     ensures { λ r. ⌜ r ≡ faultAt kind at ⌝ }
 {
     ParserError {
-        start: at,
-        end: at + 1,
+        start: at as u32,
+        end: at as u32 + 1,
         kind: kind,
     }
 }

@@ -168,7 +168,8 @@ pub fn skip_unicode_escape_sequence(source: &[u8], at: usize, length: usize) -> 
     if end - at == length {
         return Place::At(end);
     }
-    let kind = ErrorKind::InvalidUnicodeEscapeSequence(at, end + first_width(source, end));
+    let after = end + first_width(source, end);
+    let kind = ErrorKind::InvalidUnicodeEscapeSequence(at as u32, after as u32);
     Place::Bad(error(kind, end), end)
 }
 

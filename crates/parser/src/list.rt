@@ -4,18 +4,18 @@ ghost use mathlib.Core.Path.{_≡_};
 ghost use mathlib.Core.List.{[], _∷_};
 ghost use lib.ListN.{length};
 ghost use lib.Seq.{sets};
-ghost use Rattle.parser.specs.ErrorList.{Small, SmallError, Spare, ErrorStep, withJunk};
+ghost use Rattle.parser.specs.ErrorList.{Small, Spare, ErrorStep, withJunk};
 use syntax::errors::ParserError;
 use syntax::errors::kind_words;
 
 // Writes two words in a row.
-fn put_pair(list: &mut [u32], at: usize, a: usize, b: usize)
-    requires { ⌜ (at + 2 ≤ length (now list)) × Small a × Small b ⌝ }
+fn put_pair(list: &mut [u32], at: usize, a: u32, b: u32)
+    requires { ⌜ at + 2 ≤ length (now list) ⌝ }
     ensures { λ r. ⌜ (now (list .exit) ≡ sets (now (list .entry)) at (a ∷ b ∷ [])) × (length (now (list .exit)) ≡ length (now (list .entry))) ⌝ }
 {
-    list[at] = a as u32;
+    list[at] = a;
     let next = at + 1;
-    list[next] = b as u32;
+    list[next] = b;
 }
 
 // Writes an error with its junk after n others.
@@ -28,7 +28,7 @@ pub fn put_error(
     junk_end: usize,
 ) -> usize
     requires { ⌜ Spare (now list) cap n ⌝ }
-    requires { ⌜ SmallError e × Small «junk_start» × Small «junk_end» ⌝ }
+    requires { ⌜ Small «junk_start» × Small «junk_end» ⌝ }
     ensures { λ r. ⌜ (r ≡ n + 1) × ErrorStep cap n (now (list .entry)) (now (list .exit)) (withJunk e «junk_start» «junk_end» ∷ []) ⌝ }
 {
     let kind = e.kind;
@@ -37,7 +37,7 @@ pub fn put_error(
     list[at] = words.number;
     let group = cap + 6 * n + 2;
     put_pair(list, group, e.start, e.end);
-    put_pair(list, group + 2, junk_start, junk_end);
+    put_pair(list, group + 2, junk_start as u32, junk_end as u32);
     put_pair(list, group + 4, words.first, words.second);
     n + 1
 }

@@ -5,7 +5,8 @@ ghost use mathlib.Core.List.{[], _∷_};
 ghost use lib.ListN.{length, set};
 ghost use Rattle.syntax.specs.Kind.{closing};
 ghost use Rattle.parser.specs.Tree.{word, Step, Fits, Inserted};
-ghost use Rattle.parser.specs.Did.{Closable, Closed};
+ghost use Rattle.parser.specs.Did.{Closable, Closed, Textable, Texted};
+use crate::helper::Place;
 use syntax::errors::ParserError;
 
 // What a reader that writes marks answers: the place after what it read and the count of marks; an error and where it
@@ -100,5 +101,27 @@ pub fn close(tree: &mut [u32], cap: usize, kind: u32, r: Read) -> Read
         }
         Read::Bad(e, k) => Read::Bad(e, k),
         Read::Deep(k) => Read::Deep(k),
+    }
+}
+
+// Writes the two marks of a text, if its end was found.
+pub fn put_found(
+    tree: &mut [u32],
+    cap: usize,
+    n: usize,
+    kind: u32,
+    start: usize,
+    end: Place,
+) -> Read
+    requires { ⌜ (kind < 100) × (start < 2 ^ 32) ⌝ }
+    requires { ⌜ Textable (now tree) cap n end ⌝ }
+    ensures { λ x. ⌜ Texted cap n kind start (now (tree .entry)) (now (tree .exit)) end x ⌝ }
+{
+    match end {
+        Place::At(e) => {
+            let m = put_text(tree, cap, n, kind, start, e);
+            Read::Ok(e, m)
+        }
+        Place::Bad(e, k) => Read::Bad(e, k),
     }
 }

@@ -6,16 +6,19 @@ ghost use mathlib.Core.Path.{_≡_};
 ghost use mathlib.Core.List.{[], _∷_, map};
 ghost use lib.ListN.{length, drop};
 ghost use Rattle.syntax.specs.Bytes.{startsWith, spaces};
-ghost use Rattle.syntax.specs.Pattern.{goesOn, getTextSlice, withText, textTurn};
+ghost use Rattle.syntax.specs.Pattern.{goesOn, getTextSlice, withText, textTurn, getPattern};
+ghost use Rattle.syntax.specs.Expression.{level};
 ghost use Rattle.parser.specs.Tree.{word, marksIn, Step, Fits};
 ghost use Rattle.parser.specs.Settle.{settleWord, isTrimmed, trimmedEnd, trimWords, Within};
 ghost use Rattle.parser.specs.Elements.{opening};
 ghost use Rattle.parser.specs.Place.{Inside};
-ghost use Rattle.parser.specs.Did.{Room};
+ghost use Rattle.parser.specs.Did.{reading, Did, Room};
 ghost use Rattle.parser.specs.Slice.{crlfWidth};
 ghost use Rattle.parser.specs.Texts.{startsLine, isFeed, positionAfter, isPart, leastOf, textWords, afterText, TextDid, Ready, Ends, Ended, Started, afterPlaceable};
+use crate::core::get_placeable;
 use crate::errors::error;
 use crate::helper::is_byte_pattern_continuation;
+use crate::helper::is_current_byte;
 use crate::helper::skip_blank_block;
 use crate::helper::skip_blank_inline;
 use crate::helper::skip_eol;
@@ -377,4 +380,45 @@ fn with_placeable(st: Reading, at: usize, n: usize) -> Reading
         last_non_blank: n,
         common_indent,
     }
+}
+
+pub fn get_pattern(
+    source: &[u8],
+    at: usize,
+    left: usize,
+    tree: &mut [u32],
+    cap: usize,
+    n: usize,
+) -> Read
+    requires { ⌜ Room (now source) (now tree) cap at n 2 ⌝ }
+    ensures { λ r. ⌜ Did reading cap at n (now (tree .entry)) (now (tree .exit)) r (getPattern (level left) (drop at (now (source .entry)))) ⌝ }
+{
+    let m = put(tree, cap, n, 11, 0);
+    let mut st = start(source, at, m);
+    while st.at < source.len() {
+        let here = st.at;
+        if is_current_byte(source, here, b'{') {
+            let m = put(tree, cap, st.n, 13, 0);
+            let r = get_placeable(source, here, left, tree, cap, m);
+            let Read::Ok(end, m) = r else {
+                return r;
+            };
+            let m = put(tree, cap, m, 113, 0);
+            st = with_placeable(st, end, m);
+        } else {
+            match text_turn(source, st, tree, cap) {
+                TextTurn::Next(next) => {
+                    st = next;
+                }
+                TextTurn::End(end) => {
+                    return finish(source, st, end, tree, cap, n);
+                }
+                TextTurn::Bad(e, end) => {
+                    return Read::Bad(e, end);
+                }
+            }
+        }
+    }
+    let end = st.at;
+    finish(source, st, end, tree, cap, n)
 }

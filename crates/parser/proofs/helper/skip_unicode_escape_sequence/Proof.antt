@@ -1,8 +1,8 @@
 -- `helper::skip_unicode_escape_sequence` meets its contract.
-use borrow.Author.Needs.{needs}
 use Rattle.parser.proofs.Strings.{found-full, found-short, width-le}
 use lib.ListN.{drop}
 use native.Mathlib.Omega.{arith}
+use borrow.Author.Needs.{needs}
 use Rattle.parser.proofs.helper.skip_unicode_escape_sequence.Statement.{statement}
 use Rattle.parser.proofs.helper.skip_unicode_escape_sequence.Tie as tie
 
@@ -18,8 +18,14 @@ returns c = found-full (c .before .before .before .args .source .now) (c .before
 first-width-requires : tie.Need-first-width-requires
 first-width-requires c κs = search needs
 
-add-t8 : tie.Need-add-t8
-add-t8 c = omega (arith, c .first-width .ensures, width-le (drop (c .before .before .skip-hexdigits .result) (c .before .before .before .before .args .source .now)))
+add-after : tie.Need-add-after
+add-after c = omega (arith, c .first-width .ensures, width-le (drop (c .before .before .skip-hexdigits .result) (c .before .before .before .before .args .source .now)))
+
+cast-t9 : tie.Need-cast-t9
+cast-t9 c = search needs
+
+cast-t10 : tie.Need-cast-t10
+cast-t10 c = omega (arith, c .first-width .ensures, width-le (drop (c .before .before .skip-hexdigits .result) (c .before .before .before .before .args .source .now)))
 
 error-requires : tie.Need-error-requires
 error-requires c κs = search needs
@@ -35,6 +41,8 @@ skip-unicode-escape-sequence-spec =
     sub-if1
     returns
     first-width-requires
-    add-t8
+    add-after
+    cast-t9
+    cast-t10
     error-requires
     returns-2)

@@ -30,41 +30,34 @@ add-group-2 : tie.Need-add-group-2
 add-group-2 c = search needs
 
 put-pair-requires : tie.Need-put-pair-requires
-put-pair-requires c κs =
-    let small = c .before .before .before .pre .1 .0 in
-    (simp length-set (omega arith), small .start, small .end)
+put-pair-requires c κs = simp length-set (omega arith)
 
 add-put-pair : tie.Need-add-put-pair
 add-put-pair c = search needs
 
+cast-put-pair : tie.Need-cast-put-pair
+cast-put-pair c = search needs
+
+cast-put-pair-2 : tie.Need-cast-put-pair-2
+cast-put-pair-2 c = search needs
+
 put-pair-requires-2 : tie.Need-put-pair-requires-2
-put-pair-requires-2 c κs =
-    let k = simp length-set at (c .before .before .before .put-pair .ensures .1) in
-    (omega arith, c .before .before .before .before .before .before .before .pre .1 .1, c .before .before .before .before .before .before .before .pre .1 .2)
+put-pair-requires-2 c κs = let k = simp length-set at (c .before .before .before .put-pair .ensures .1) in omega arith
 
 add-put-pair-2 : tie.Need-add-put-pair-2
 add-put-pair-2 c = search needs
 
 put-pair-requires-3 : tie.Need-put-pair-requires-3
-put-pair-requires-3 c κs =
-    let k = simp length-set at (c .before .before .before .before .before .before .before .put-pair .ensures .1) in
-    let m = c .before .before .before .put-pair2 .ensures .1 in
-    let small = c .before .before .before .before .before .before .before .before .before .before .before .pre .1 .0 in
-    (omega arith, rw (c .before .before .before .before .before .before .before .before .before .kind-words .ensures) (small .first), rw (c .before .before .before .before .before .before .before .before .before .kind-words .ensures) (small .second))
+put-pair-requires-3 c κs = let k = simp length-set at (c .before .before .before .before .before .before .before .put-pair .ensures .1) in let m = c .before .before .before .put-pair2 .ensures .1 in omega arith
 
 add-result : tie.Need-add-result
 add-result c = search needs
 
 same-length : tie.Need-same-length
-same-length c =
-    let k = simp length-set at (c .before .before .before .before .before .before .before .before .before .before .put-pair .ensures .1) in
-    c .before .before .put-pair3 .ensures .1 ∙ c .before .before .before .before .before .before .put-pair2 .ensures .1 ∙ k
+same-length c = let k = simp length-set at (c .before .before .before .before .before .before .before .before .before .before .put-pair .ensures .1) in c .before .before .put-pair3 .ensures .1 ∙ c .before .before .before .before .before .before .put-pair2 .ensures .1 ∙ k
 
 returns : tie.Need-returns
-returns c =
-    let start = c .before .before .before .before .before .before .before .before .before .before .before .before .before .before .args in
-    let e = withJunk (start .e) (start .junk-start) (start .junk-end) in
-    (refl, error-written (start .cap) (start .n) (start .list .now) (c .before .before .before .before .before .before .before .before .before .before .before .before .before .before .pre .0) e _ _ _ _ (c .before .before .before .before .before .before .before .before .before .before .before .before .kind-words .ensures) (c .before .before .before .before .before .before .before .before .before .before .put-pair .ensures .0) (c .before .before .before .before .before .before .put-pair2 .ensures .0) (c .before .before .put-pair3 .ensures .0))
+returns c = let start = c .before .before .before .before .before .before .before .before .before .before .before .before .before .before .args in let e = withJunk (start .e) (start .junk-start) (start .junk-end) in (refl, error-written (start .cap) (start .n) (start .list .now) (c .before .before .before .before .before .before .before .before .before .before .before .before .before .before .pre .0) e _ _ _ _ (c .before .before .before .before .before .before .before .before .before .before .before .before .kind-words .ensures) (c .before .before .before .before .before .before .before .before .before .before .put-pair .ensures .0) (c .before .before .before .before .before .before .put-pair2 .ensures .0) (c .before .before .put-pair3 .ensures .0))
 
 pub put-error-spec : {M : Type 1} → statement M
 put-error-spec =
@@ -79,6 +72,8 @@ put-error-spec =
     add-group-2
     put-pair-requires
     add-put-pair
+    cast-put-pair
+    cast-put-pair-2
     put-pair-requires-2
     add-put-pair-2
     put-pair-requires-3

@@ -7,9 +7,6 @@ use borrow.Author.Needs.{needs}
 use Rattle.parser.proofs.list.put_pair.Statement.{statement}
 use Rattle.parser.proofs.list.put_pair.Tie as tie
 
-cast-list : tie.Need-cast-list
-cast-list c = search needs
-
 mul-list : tie.Need-mul-list
 mul-list c = search needs
 
@@ -18,9 +15,6 @@ slice-write-list c = search needs
 
 add-next : tie.Need-add-next
 add-next c = search needs
-
-cast-list-2 : tie.Need-cast-list-2
-cast-list-2 c = search needs
 
 mul-list-2 : tie.Need-mul-list-2
 mul-list-2 c = search needs
@@ -37,13 +31,4 @@ returns c = (ap (λ k. set (set (c .args .list .now) (c .args .at) (c .args .a))
 pub put-pair-spec : {M : Type 1} → statement M
 put-pair-spec =
     tie.close
-    (tie.spec
-    cast-list
-    mul-list
-    slice-write-list
-    add-next
-    cast-list-2
-    mul-list-2
-    slice-write-list-2
-    same-length
-    returns)
+    (tie.spec mul-list slice-write-list add-next mul-list-2 slice-write-list-2 same-length returns)

@@ -4,9 +4,6 @@ use Rattle.parser.specs.declared.marks.Read.the-variants.{Ok}
 use borrow.Author.Needs.{needs}
 use Rattle.parser.proofs.marks.close.Statement.{statement}
 use Rattle.parser.proofs.marks.close.Tie as tie
-use Rattle.parser.proofs.marks.close.Reads as reads
-use Rattle.parser.proofs.marks.close.Lts as lts
-use Rattle.parser.proofs.marks.put.Reads as put-reads
 
 enum-known-r : tie.Need-enum-known-r
 enum-known-r c = search needs
@@ -27,13 +24,13 @@ same-length : tie.Need-same-length
 same-length c = search needs
 
 returns : tie.Need-returns
-returns c = rw (c .before .before .before .before .before .r .given .1) (ap₂ Ok refl (c .before .before .put .ensures .0), c .before .before .put .ensures .1)
+returns c = rw (c .before .before .before .before .before .r .given .1) (record { holds = (ap₂ Ok refl (c .before .before .put .ensures .0), c .before .before .put .ensures .1) })
 
 returns-2 : tie.Need-returns-2
-returns-2 c = rw (c .before .r2 .given .1) (refl, refl)
+returns-2 c = rw (c .before .r2 .given .1) (record { holds = (refl, refl) })
 
 returns-3 : tie.Need-returns-3
-returns-3 c = rw (c .before .r3 .given .1) (refl, refl)
+returns-3 c = rw (c .before .r3 .given .1) (record { holds = (refl, refl) })
 
 pub close-spec : {M : Type 1} → statement M
 close-spec =
