@@ -16,7 +16,8 @@ use Rattle.serializer.specs.Walk.{kindAt, nodeAt, after, innerAt, At, Te
 use Rattle.serializer.proofs.Pieces.{row, Going, going, room-first, going-on, gone}
 use Rattle.serializer.proofs.Walk.{Next, ends, goes, next, at-kind, text-after, enter, comment-plain, comment-child}
 
-each-row : {A : Type 0} (f : A → Piece) (xs : List A) → each f xs ≡ row (map f xs)
+-- each of a list, as a row
+pub each-row : {A : Type 0} (f : A → Piece) (xs : List A) → each f xs ≡ row (map f xs)
 unfolding each
 each-row f [] = refl
 each-row f (x ∷ xs) = ap (λ p. f x ⊕ p) (each-row f xs)

@@ -8,3 +8,13 @@ pub mod Texts
 pub mod Walk
 pub mod Comments
 pub mod Skips
+pub mod Children
+pub mod Patterns
+pub mod References
+pub mod Variants
+pub mod Rows
+pub mod Parts
+pub mod Expressions
+pub mod Messages
+pub mod TopLevel
+pub mod Outcome

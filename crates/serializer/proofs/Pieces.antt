@@ -13,7 +13,7 @@ use Rattle.laws.specs.Sets.{sets-append, sets-last}
 use Rattle.syntax.specs.Byte as Byte
 use Rattle.syntax.specs.Bytes.{ascii}
 use Rattle.syntax.specs.Marks.{Mark}
-use Rattle.syntax.specs.Serializer.{Piece, lastOf, _⊕_, empty, literal, newline, star, if, blankLine, comment, freeComment}
+use Rattle.syntax.specs.Serializer.{Piece, lastOf, _⊕_, empty, literal, newline, indented, star, if, blankLine, comment, freeComment}
 use Rattle.serializer.specs.declared.writer.TextWriter.{TextWriter}
 use Rattle.serializer.specs.Writer.{textAt, bytes, Room, Wrote}
 use Rattle.serializer.specs.Walk.{lineOf}
@@ -137,11 +137,11 @@ then-assoc p q r i level last = same level last i
         let u = q level (lastOf last t) in
         append-assoc t u (r level (lastOf last (t ++ u))) ∙ ap (λ b. t ++ (u ++ r level b)) (lastOf-append last t u)
 
-then-empty : (p : Piece) → (p ⊕ empty) ≡ p
+pub then-empty : (p : Piece) → (p ⊕ empty) ≡ p
 unfolding _⊕_ empty
 then-empty p i level last = append-nil (p level last) i
 
-empty-then : (p : Piece) → (empty ⊕ p) ≡ p
+pub empty-then : (p : Piece) → (empty ⊕ p) ≡ p
 unfolding _⊕_ empty lastOf
 empty-then p = refl
 
@@ -170,6 +170,51 @@ module _ {o₀ o : List ℕ} {w₀ w : TextWriter} {whole p : Piece} {rest : Lis
 -- nothing is left
 pub gone : {o₀ o : List ℕ} {w₀ w : TextWriter} {whole : Piece} → Going o₀ o w₀ w whole [] → Wrote o₀ o w₀ w whole
 gone {o = o} {w = w} g = g .done o w wrote-nothing
+
+-- a piece that is a row itself
+row-append : (ps qs : List Piece) → row (ps ++ qs) ≡ (row ps ⊕ row qs)
+row-append [] qs = sym (empty-then (row qs))
+row-append (p ∷ ps) qs = ap (λ r. p ⊕ r) (row-append ps qs) ∙ sym (then-assoc p (row ps) (row qs))
+
+pub going-as : {o₀ o : List ℕ} {w₀ w : TextWriter} {whole p : Piece} {qs rest : List Piece} → Row p qs → Going o₀ o w₀ w whole (p ∷ rest) → Going o₀ o w₀ w whole (qs ++ rest)
+going-as {p = p} {qs} {rest} e g =
+    let same : (p ⊕ row rest) ≡ row (qs ++ rest) = ap (λ r. r ⊕ row rest) (e .same) ∙ sym (row-append qs rest) in
+    record { room = rw same at (g .room); done = λ o′ w′ h. g .done o′ w′ (rw same h) }
+
+pub one : (p : Piece) → Row p (p ∷ [])
+one p = record { same = sym (then-empty p) }
+
+pub two : (p q : Piece) → Row (p ⊕ q) (p ∷ q ∷ [])
+two p q = record { same = ap (λ r. p ⊕ r) (sym (then-empty q)) }
+
+pub three : (p q r : Piece) → Row (p ⊕ q ⊕ r) (p ∷ q ∷ r ∷ [])
+three p q r = record { same = ap (λ z. p ⊕ z) (two q r .same) }
+
+pub four : (p q r s : Piece) → Row (p ⊕ q ⊕ r ⊕ s) (p ∷ q ∷ r ∷ s ∷ [])
+four p q r s = record { same = ap (λ z. p ⊕ z) (three q r s .same) }
+
+pub row-same : {p q : Piece} {rest : List Piece} → p ≡ q → Row q rest → Row p rest
+row-same e r = record { same = e ∙ r .same }
+
+-- between indent and dedent
+abbrev pub raised : TextWriter → TextWriter
+raised w = record { at = w .at; last = w .last; indent = w .indent + 1 }
+
+abbrev pub lowered : TextWriter → TextWriter
+lowered w = record { at = w .at; last = w .last; indent = w .indent - 1 }
+
+module _ (w : TextWriter) (p : Piece) where
+  indented-text : textAt w (indented p) ≡ textAt (raised w) p
+  unfolding indented
+  indented-text = ap (λ n. p n (w .last)) (sym (add-one (w .indent)))
+
+  pub room-indented : Room w (indented p) → Room (raised w) p
+  room-indented r = rw indented-text at r
+
+  pub wrote-indented : {o o′ : List ℕ} {w′ : TextWriter} → Wrote o o′ (raised w) w′ p → Wrote o o′ w (lowered w′) (indented p)
+  wrote-indented {o} h =
+      let e = sym indented-text in
+      record { stored = h .stored ∙ ap (λ t. sets o (w .at) t) e; end = h .end ∙ ap (λ t. w .at + length t) e; ending = h .ending ∙ ap (λ t. lastOf (w .last) t) e; level = omega (arith, h .level) }
 
 -- a comment's line, blank or not
 pub line-blank : (prefix t : List ℕ) → blankLine [] t ≡ true → Row (lineOf prefix t) (literal prefix ∷ newline ∷ [])

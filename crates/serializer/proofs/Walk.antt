@@ -246,6 +246,14 @@ at-count ws fit {boundary} {i} {j} a = go (a .child) (a .there)
     go (Spec.text x e t p q l) there = mark-inside ws fit i (placed j x) (placed (Kind.closing j) e ∷ a .rest) there
     go (Spec.nest {inner = inner} left x content) there = mark-inside ws fit i (plain j) ((inner ++ (plain (Kind.closing j) ∷ [])) ++ a .rest) there
 
+marks-count : (ws : List ℕ) (fit : Sizes ws) (xs : List Mark) (i : ℕ) (rest : List Mark) → i ≤ count ws → drop i (marksIn ws) ≡ xs ++ rest → i + length xs ≤ count ws
+marks-count ws fit [] i rest h e = omega arith
+marks-count ws fit (x ∷ xs) i rest h e = omega (arith, marks-count ws fit xs (i + 1) rest (omega (arith, mark-inside ws fit i x (xs ++ rest) e)) (mark-next ws fit i x (xs ++ rest) e))
+
+-- a node ends within the marks
+pub after-count : (ws : List ℕ) (fit : Sizes ws) {boundary : ℕ → Bool} {i j : ℕ} → At boundary (marksIn ws) i j → after (marksIn ws) i ≤ count ws
+after-count ws fit {i = i} a = rw (at-after a) (marks-count ws fit (a .marks) i (a .rest) (omega (arith, at-count ws fit a)) (a .there))
+
 -- comments: their children are lines
 pub comment-plain : (k : ℕ) → isComment k ≡ true → Kind.isText k ≡ false
 unfolding isComment among Kind.isText

@@ -3,3 +3,7 @@ pub mod Models
 pub mod Shape
 pub mod Writer
 pub mod Walk
+pub mod Serialize
+pub mod Message
+pub mod Resource
+pub mod Call

@@ -65,6 +65,16 @@ pub record TextAt (boundary : ℕ → Bool) (ms : List Mark) (i : ℕ) : Type 0 
   pub isText : Kind.isText kind ≡ true
   pub at : At boundary ms i kind
 
+-- a node of one of the kinds ks starts at the mark i
+pub record OneAt (boundary : ℕ → Bool) (ks : List ℕ) (ms : List Mark) (i : ℕ) : Type 0 where
+  pub kind : ℕ
+  pub one : among kind ks ≡ true
+  pub at : At boundary ms i kind
+
+-- the kinds of a pattern's elements
+abbrev pub elements : List ℕ
+elements = Kind.text ∷ Kind.placeable ∷ []
+
 -- at the mark i a node of the kind k is open, and in the state q
 pub record Inside (boundary : ℕ → Bool) (ms : List Mark) (i k q : ℕ) : Type 0 where
   pub marks : List Mark
@@ -72,6 +82,12 @@ pub record Inside (boundary : ℕ → Bool) (ms : List Mark) (i k q : ℕ) : Typ
   pub there : drop i ms ≡ marks ++ (plain (Kind.closing k) ∷ rest)
   pub left : ℕ
   pub content : Content boundary left k q marks
+
+-- in some state from q on
+pub record Open (boundary : ℕ → Bool) (ms : List Mark) (i k q : ℕ) : Type 0 where
+  pub state : ℕ
+  pub least : q ≤ state
+  pub here : Inside boundary ms i k state
 
 -- a comment's line with the text t
 unfoldable pub lineOf : (prefix t : List ℕ) → Piece

@@ -1,32 +1,52 @@
 // The serializer: it walks over the marks of a tree that the check has accepted, and writes their normal text.
-ghost use Prim.Native.Nat.{ℕ, _<_};
+ghost use Prim.Native.Nat.{ℕ, _+_, _^_, _≤_, _<_};
 ghost use mathlib.Core.Path.{_≡_};
-ghost use mathlib.Core.Bool.{true, _||_};
+ghost use mathlib.Core.Bool.{true, _||_, _&&_, not};
 ghost use mathlib.Core.List.{List, [], _∷_};
 ghost use lib.ListN.{length};
 ghost use lib.Dec.{eqb};
 ghost use Rattle.utf8.specs.Utf8.{isBoundary};
 ghost use Rattle.syntax.specs.Byte as Byte;
 ghost use Rattle.syntax.specs.Kind as Kind;
+ghost use Rattle.syntax.specs.Bytes.{ascii};
 ghost use Rattle.syntax.specs.Layout.{count, marksIn};
 ghost use Rattle.syntax.specs.Writing.{sizesFit};
-ghost use Rattle.syntax.specs.Serializer.{Node, nodes, if, literal, newline, blankLine, hasNewline, isSelect, leadingDot, textOf, comment, freeComment};
+ghost use Rattle.syntax.specs.Shape.{inline};
+ghost use Rattle.syntax.specs.Serializer.{Node, nodes, each, if, literal, newline, star, blankLine, hasNewline, isSelect, multilineElement, isMultiline, leadingDot, textOf, name, comment, freeComment};
+ghost use Rattle.laws.specs.Text.{elementOf, expressionOf, variantOf, inlineOf, argumentOf};
 ghost use Rattle.serializer.specs.Writer.{Room, Wrote};
-ghost use Rattle.serializer.specs.Walk.{kindAt, nodeAt, after, At, NodeAt, TextAt, CommentAt, lineOf};
+ghost use Rattle.serializer.specs.Walk.{kindAt, nodeAt, after, At, NodeAt, TextAt, CommentAt, OneAt, elements, lineOf};
+ghost use Rattle.serializer.specs.Serialize.{expressions, variants, arguments, references, Ready, Went, Done, ReadyIn, DoneIn, patternIn, selectIn, argumentsIn, variantLines, openingBraces, closingBraces, bracesOf, sigil, quoted, referenceOf, keyAt, argumentName, Named};
 use crate::writer::TextWriter;
 
 // The kinds that the code tests for.
 const COMMENT_LINE: u32 = 8;
 
+const IDENTIFIER: u32 = 9;
+
 const TEXT: u32 = 12;
+
+const PLACEABLE: u32 = 13;
+
+const SELECT: u32 = 14;
+
+const DEFAULT_VARIANT: u32 = 16;
+
+const STRING: u32 = 19;
+
+const NUMBER: u32 = 20;
+
+const ARGUMENTS: u32 = 25;
+
+const NAMED_ARGUMENT: u32 = 26;
 
 // The kind from which on a mark closes a node.
 const CLOSING: u32 = 100;
 
 // Where the serializer stands: in the text, and in the marks.
 pub struct Serializer {
-    writer: TextWriter,
-    mark: usize,
+    pub writer: TextWriter,
+    pub mark: usize,
 }
 
 fn matches_fluent_ws(b: u8) -> bool
@@ -62,7 +82,7 @@ fn has_newline(text: &[u8]) -> bool
     false
 }
 
-fn kind_at(tree: &[u32], mark: usize) -> u32
+pub fn kind_at(tree: &[u32], mark: usize) -> u32
     requires { ⌜ sizesFit (now tree) ≡ true ⌝ }
     requires { ⌜ mark < count (now tree) ⌝ }
     ensures { λ r. ⌜ r ≡ kindAt (marksIn (now (tree .entry))) mark ⌝ }
@@ -131,6 +151,47 @@ fn after_node(tree: &[u32], mark: usize) -> usize
     next
 }
 
+// Whether the element at a mark is a text with a newline, or a select.
+fn is_multiline_element(source: &[u8], tree: &[u32], mark: usize) -> bool
+    requires { ⌜ sizesFit (now tree) ≡ true ⌝ }
+    requires { ⌜ OneAt (isBoundary (now source)) elements (marksIn (now tree)) mark ⌝ }
+    ensures { λ r. ⌜ r ≡ multilineElement (now (source .entry)) (nodeAt (marksIn (now (tree .entry))) mark) ⌝ }
+{
+    if kind_at(tree, mark) == TEXT {
+        let text = text_at(source, tree, mark);
+        has_newline(text)
+    } else {
+        is_select_expr(tree, mark + 1)
+    }
+}
+
+// Whether the pattern at a mark has such an element.
+fn is_multiline(source: &[u8], tree: &[u32], mark: usize) -> bool
+    requires { ⌜ sizesFit (now tree) ≡ true ⌝ }
+    requires { ⌜ At (isBoundary (now source)) (marksIn (now tree)) mark Kind.pattern ⌝ }
+    ensures { λ r. ⌜ r ≡ isMultiline (now (source .entry)) (nodes (nodeAt (marksIn (now (tree .entry))) mark .inner)) ⌝ }
+{
+    let mut next = mark + 1;
+    while kind_at(tree, next) < CLOSING {
+        if is_multiline_element(source, tree, next) {
+            return true;
+        }
+        next = after_node(tree, next);
+    }
+    false
+}
+
+fn starts_on_new_line(source: &[u8], tree: &[u32], mark: usize) -> bool
+    requires { ⌜ sizesFit (now tree) ≡ true ⌝ }
+    requires { ⌜ At (isBoundary (now source)) (marksIn (now tree)) mark Kind.pattern ⌝ }
+    ensures { λ r. ⌜ r ≡ (not (leadingDot (now (source .entry)) (nodes (nodeAt (marksIn (now (tree .entry))) mark .inner))) && isMultiline (now (source .entry)) (nodes (nodeAt (marksIn (now (tree .entry))) mark .inner))) ⌝ }
+{
+    if has_leading_text_dot(source, tree, mark) {
+        return false;
+    }
+    is_multiline(source, tree, mark)
+}
+
 // The newline before a free comment, where an entry that is no junk was written.
 fn newline_after_entry(
     writer: TextWriter,
@@ -168,8 +229,41 @@ fn serialize_comment_line(
     }
 }
 
+// The comma before an argument that is not the first.
+fn separate(writer: TextWriter, output: &mut [u8], argument_written: bool) -> TextWriter
+    requires { ⌜ Room writer (if «argument_written» (literal (ascii ", "))) ⌝ }
+    ensures { λ r. ⌜ Wrote (now (output .entry)) (now (output .exit)) writer r (if «argument_written» (literal (ascii ", "))) ⌝ }
+{
+    if argument_written {
+        writer.write_literal(output, b", ")
+    } else {
+        writer
+    }
+}
+
+// The star of a default variant.
+fn mark_default(writer: TextWriter, output: &mut [u8], default: bool) -> TextWriter
+    requires { ⌜ 1 ≤ writer .indent ⌝ }
+    requires { ⌜ Room writer (if default star) ⌝ }
+    ensures { λ r. ⌜ Wrote (now (output .entry)) (now (output .exit)) writer r (if default star) ⌝ }
+{
+    if default { writer.star(output) } else { writer }
+}
+
+// What stands before the name of a variable or of a term.
+fn write_sigil(writer: TextWriter, output: &mut [u8], kind: u32) -> TextWriter
+    requires { ⌜ Room writer (sigil kind) ⌝ }
+    ensures { λ r. ⌜ Wrote (now (output .entry)) (now (output .exit)) writer r (sigil kind) ⌝ }
+{
+    match kind {
+        21 => writer.write_literal(output, b"$"),
+        24 => writer.write_literal(output, b"-"),
+        _ => writer,
+    }
+}
+
 impl Serializer {
-    fn serialize_comment(
+    pub fn serialize_comment(
         self,
         source: &[u8],
         tree: &[u32],
@@ -195,7 +289,7 @@ impl Serializer {
         }
     }
 
-    fn serialize_free_comment(
+    pub fn serialize_free_comment(
         self,
         source: &[u8],
         tree: &[u32],
@@ -221,18 +315,316 @@ impl Serializer {
         }
     }
 
-    fn serialize_junk(self, source: &[u8], tree: &[u32], output: &mut [u8]) -> Self
+    // Past a mark.
+    pub fn next(self) -> Self
+        requires { ⌜ self .mark < 2 ^ 63 ⌝ }
+        ensures { λ r. ⌜ r ≡ (record { writer = self .writer; mark = self .mark + 1 }) ⌝ }
+    {
+        let writer = self.writer;
+        Serializer {
+            writer,
+            mark: self.mark + 1,
+        }
+    }
+
+    // The text of a T node.
+    pub fn serialize_text(self, source: &[u8], tree: &[u32], output: &mut [u8]) -> Self
         requires { ⌜ sizesFit (now tree) ≡ true ⌝ }
-        requires { ⌜ At (isBoundary (now source)) (marksIn (now tree)) (self .mark) Kind.junk ⌝ }
-        requires { ⌜ Room (self .writer) (literal (textOf (now source) (nodeAt (marksIn (now tree)) (self .mark)))) ⌝ }
-        ensures { λ r. ⌜ Wrote (now (output .entry)) (now (output .exit)) (self .writer) (r .writer) (literal (textOf (now (source .entry)) (nodeAt (marksIn (now (tree .entry))) (self .mark)))) ⌝ }
-        ensures { λ r. ⌜ r .mark ≡ after (marksIn (now (tree .entry))) (self .mark) ⌝ }
+        requires { ⌜ TextAt (isBoundary (now source)) (marksIn (now tree)) (self .mark) ⌝ }
+        requires { ⌜ Room (self .writer) (name (now source) (nodeAt (marksIn (now tree)) (self .mark))) ⌝ }
+        ensures { λ r. ⌜ Done (now (tree .entry)) (now (output .entry)) (now (output .exit)) self r (name (now (source .entry))) ⌝ }
     {
         let mark = self.mark;
-        let junk = text_at(source, tree, mark);
+        let text = text_at(source, tree, mark);
         Serializer {
-            writer: self.writer.write_literal(output, junk),
+            writer: self.writer.write_literal(output, text),
             mark: mark + 2,
         }
+    }
+
+    // The opening braces of a pattern's placeable, by the kind of the expression in it.
+    fn begin_placeable(self, output: &mut [u8], kind: u32) -> Self
+        requires { ⌜ Room (self .writer) (literal (openingBraces kind)) ⌝ }
+        requires { ⌜ self .mark < 2 ^ 63 ⌝ }
+        ensures { λ r. ⌜ Went (now (output .entry)) (now (output .exit)) self r (literal (openingBraces kind)) (self .mark + bracesOf kind) ⌝ }
+    {
+        // Placeables around each other stand without blanks between the braces.
+        if kind == PLACEABLE {
+            return Serializer {
+                writer: self.writer.write_literal(output, b"{{ "),
+                mark: self.mark + 2,
+            };
+        }
+        Serializer {
+            writer: self.writer.write_literal(output, b"{ "),
+            mark: self.mark + 1,
+        }
+    }
+
+    fn end_placeable(self, output: &mut [u8], kind: u32) -> Self
+        requires { ⌜ Room (self .writer) (literal (closingBraces kind)) ⌝ }
+        requires { ⌜ self .mark < 2 ^ 63 ⌝ }
+        ensures { λ r. ⌜ Went (now (output .entry)) (now (output .exit)) self r (literal (closingBraces kind)) (self .mark + bracesOf kind) ⌝ }
+    {
+        if kind == PLACEABLE {
+            return Serializer {
+                writer: self.writer.write_literal(output, b" }}"),
+                mark: self.mark + 2,
+            };
+        }
+        // A select ends in a newline.
+        if kind == SELECT {
+            return Serializer {
+                writer: self.writer.write_literal(output, b"}"),
+                mark: self.mark + 1,
+            };
+        }
+        Serializer {
+            writer: self.writer.write_literal(output, b" }"),
+            mark: self.mark + 1,
+        }
+    }
+
+    fn serialize_string_literal(self, source: &[u8], tree: &[u32], output: &mut [u8]) -> Self
+        requires { ⌜ Ready (now source) (now tree) self (Kind.string ∷ []) (quoted (now source)) ⌝ }
+        ensures { λ r. ⌜ Done (now (tree .entry)) (now (output .entry)) (now (output .exit)) self r (quoted (now (source .entry))) ⌝ }
+    {
+        let quoted = Serializer {
+            writer: self.writer.write_literal(output, b"\""),
+            mark: self.mark,
+        };
+        let written = quoted.serialize_text(source, tree, output);
+        Serializer {
+            writer: written.writer.write_literal(output, b"\""),
+            mark: written.mark,
+        }
+    }
+
+    // A reference up to its arguments: its sigil, its name, and the name of the attribute if there is one.
+    fn serialize_reference(self, source: &[u8], tree: &[u32], output: &mut [u8]) -> Self
+        requires { ⌜ Ready (now source) (now tree) self references (referenceOf (now source)) ⌝ }
+        ensures { λ r. ⌜ Wrote (now (output .entry)) (now (output .exit)) (self .writer) (r .writer) (referenceOf (now (source .entry)) (nodeAt (marksIn (now (tree .entry))) (self .mark))) ⌝ }
+        ensures { λ r. ⌜ Named (now (source .entry)) (now (tree .entry)) (self .mark) (r .mark) ⌝ }
+    {
+        let kind = kind_at(tree, self.mark);
+        let begun = Serializer {
+            writer: write_sigil(self.writer, output, kind),
+            mark: self.mark + 1,
+        };
+        let named = begun.serialize_text(source, tree, output);
+        if kind_at(tree, named.mark) != IDENTIFIER {
+            return named;
+        }
+        let dotted = Serializer {
+            writer: named.writer.write_literal(output, b"."),
+            mark: named.mark,
+        };
+        dotted.serialize_text(source, tree, output)
+    }
+
+    // The key of a variant, from the star up to the closing bracket; the pattern is next.
+    fn serialize_variant_key(self, source: &[u8], tree: &[u32], output: &mut [u8]) -> Self
+        requires { ⌜ sizesFit (now tree) ≡ true ⌝ }
+        requires { ⌜ OneAt (isBoundary (now source)) variants (marksIn (now tree)) (self .mark) ⌝ }
+        requires { ⌜ 1 ≤ self .writer .indent ⌝ }
+        requires { ⌜ Room (self .writer) (keyAt (now source) (marksIn (now tree)) (self .mark)) ⌝ }
+        ensures { λ r. ⌜ Went (now (output .entry)) (now (output .exit)) self r (keyAt (now (source .entry)) (marksIn (now (tree .entry))) (self .mark)) (self .mark + 3) ⌝ }
+    {
+        let default = kind_at(tree, self.mark) == DEFAULT_VARIANT;
+        let begun = mark_default(self.writer, output, default);
+        let bracketed = Serializer {
+            writer: begun.write_literal(output, b"["),
+            mark: self.mark + 1,
+        };
+        let written = bracketed.serialize_text(source, tree, output);
+        Serializer {
+            writer: written.writer.write_literal(output, b"]"),
+            mark: written.mark,
+        }
+    }
+
+    // The name of a named argument, and the colon; the value is next.
+    fn serialize_argument_name(self, source: &[u8], tree: &[u32], output: &mut [u8]) -> Self
+        requires { ⌜ sizesFit (now tree) ≡ true ⌝ }
+        requires { ⌜ At (isBoundary (now source)) (marksIn (now tree)) (self .mark) Kind.namedArgument ⌝ }
+        requires { ⌜ Room (self .writer) (argumentName (now source) (nodeAt (marksIn (now tree)) (self .mark + 1))) ⌝ }
+        ensures { λ r. ⌜ Went (now (output .entry)) (now (output .exit)) self r (argumentName (now (source .entry)) (nodeAt (marksIn (now (tree .entry))) (self .mark + 1))) (self .mark + 3) ⌝ }
+    {
+        let entered = self.next();
+        let named = entered.serialize_text(source, tree, output);
+        Serializer {
+            writer: named.writer.write_literal(output, b": "),
+            mark: named.mark,
+        }
+    }
+
+    pub fn serialize_pattern(self, source: &[u8], tree: &[u32], output: &mut [u8]) -> Self
+        requires { ⌜ Ready (now source) (now tree) self (Kind.pattern ∷ []) (patternIn (now source)) ⌝ }
+        ensures { λ r. ⌜ Done (now (tree .entry)) (now (output .entry)) (now (output .exit)) self r (patternIn (now (source .entry))) ⌝ }
+    {
+        if starts_on_new_line(source, tree, self.mark) {
+            let raised = Serializer {
+                writer: self.writer.newline(output).indent(),
+                mark: self.mark + 1,
+            };
+            let written = raised.serialize_elements(source, tree, output);
+            return Serializer {
+                writer: written.writer.dedent(),
+                mark: written.mark,
+            };
+        }
+        let begun = Serializer {
+            writer: self.writer.write_literal(output, b" "),
+            mark: self.mark + 1,
+        };
+        begun.serialize_elements(source, tree, output)
+    }
+
+    // What is left of a pattern's elements.
+    fn serialize_elements(self, source: &[u8], tree: &[u32], output: &mut [u8]) -> Self
+        requires { ⌜ ReadyIn (now source) (now tree) self Kind.pattern 0 (each (elementOf (now source))) ⌝ }
+        ensures { λ r. ⌜ DoneIn (now (tree .entry)) (now (output .entry)) (now (output .exit)) self r (each (elementOf (now (source .entry)))) ⌝ }
+    {
+        let mut s = self;
+        while kind_at(tree, s.mark) < CLOSING {
+            s = s.serialize_element(source, tree, output);
+        }
+        s.next()
+    }
+
+    fn serialize_element(self, source: &[u8], tree: &[u32], output: &mut [u8]) -> Self
+        requires { ⌜ Ready (now source) (now tree) self elements (elementOf (now source)) ⌝ }
+        ensures { λ r. ⌜ Done (now (tree .entry)) (now (output .entry)) (now (output .exit)) self r (elementOf (now (source .entry))) ⌝ }
+    {
+        if kind_at(tree, self.mark) == TEXT {
+            return self.serialize_text(source, tree, output);
+        }
+        let kind = kind_at(tree, self.mark + 1);
+        let begun = self.begin_placeable(output, kind);
+        let written = begun.serialize_expression(source, tree, output);
+        written.end_placeable(output, kind)
+    }
+
+    fn serialize_expression(self, source: &[u8], tree: &[u32], output: &mut [u8]) -> Self
+        requires { ⌜ Ready (now source) (now tree) self expressions (expressionOf (now source)) ⌝ }
+        ensures { λ r. ⌜ Done (now (tree .entry)) (now (output .entry)) (now (output .exit)) self r (expressionOf (now (source .entry))) ⌝ }
+    {
+        if kind_at(tree, self.mark) == SELECT {
+            return self.serialize_select_expression(source, tree, output);
+        }
+        self.serialize_inline_expression(source, tree, output)
+    }
+
+    fn serialize_inline_expression(self, source: &[u8], tree: &[u32], output: &mut [u8]) -> Self
+        requires { ⌜ Ready (now source) (now tree) self inline (inlineOf (now source)) ⌝ }
+        ensures { λ r. ⌜ Done (now (tree .entry)) (now (output .entry)) (now (output .exit)) self r (inlineOf (now (source .entry))) ⌝ }
+    {
+        let kind = kind_at(tree, self.mark);
+        if kind == STRING {
+            return self.serialize_string_literal(source, tree, output);
+        }
+        if kind == NUMBER {
+            return self.serialize_text(source, tree, output);
+        }
+        if kind == PLACEABLE {
+            let begun = Serializer {
+                writer: self.writer.write_literal(output, b"{"),
+                mark: self.mark + 1,
+            };
+            let written = begun.serialize_expression(source, tree, output);
+            return Serializer {
+                writer: written.writer.write_literal(output, b"}"),
+                mark: written.mark + 1,
+            };
+        }
+        let named = self.serialize_reference(source, tree, output);
+        if kind_at(tree, named.mark) != ARGUMENTS {
+            return named.next();
+        }
+        let called = named.serialize_call_arguments(source, tree, output);
+        called.next()
+    }
+
+    fn serialize_select_expression(self, source: &[u8], tree: &[u32], output: &mut [u8]) -> Self
+        requires { ⌜ Ready (now source) (now tree) self (Kind.select ∷ []) (selectIn (now source)) ⌝ }
+        ensures { λ r. ⌜ Done (now (tree .entry)) (now (output .entry)) (now (output .exit)) self r (selectIn (now (source .entry))) ⌝ }
+    {
+        let entered = self.next();
+        let selector = entered.serialize_inline_expression(source, tree, output);
+        let raised = Serializer {
+            writer: selector
+                .writer
+                .write_literal(output, b" ->")
+                .newline(output)
+                .indent(),
+            mark: selector.mark,
+        };
+        let written = raised.serialize_variants(source, tree, output);
+        Serializer {
+            writer: written.writer.dedent(),
+            mark: written.mark,
+        }
+    }
+
+    // What is left of a select's variants.
+    fn serialize_variants(self, source: &[u8], tree: &[u32], output: &mut [u8]) -> Self
+        requires { ⌜ ReadyIn (now source) (now tree) self Kind.select 1 (variantLines (now source)) ⌝ }
+        requires { ⌜ 1 ≤ self .writer .indent ⌝ }
+        ensures { λ r. ⌜ DoneIn (now (tree .entry)) (now (output .entry)) (now (output .exit)) self r (variantLines (now (source .entry))) ⌝ }
+    {
+        let mut s = self;
+        while kind_at(tree, s.mark) < CLOSING {
+            let written = s.serialize_variant(source, tree, output);
+            s = Serializer {
+                writer: written.writer.newline(output),
+                mark: written.mark,
+            };
+        }
+        s.next()
+    }
+
+    fn serialize_variant(self, source: &[u8], tree: &[u32], output: &mut [u8]) -> Self
+        requires { ⌜ Ready (now source) (now tree) self variants (variantOf (now source)) ⌝ }
+        requires { ⌜ 1 ≤ self .writer .indent ⌝ }
+        ensures { λ r. ⌜ Done (now (tree .entry)) (now (output .entry)) (now (output .exit)) self r (variantOf (now (source .entry))) ⌝ }
+    {
+        let keyed = self.serialize_variant_key(source, tree, output);
+        let written = keyed.serialize_pattern(source, tree, output);
+        written.next()
+    }
+
+    fn serialize_call_arguments(self, source: &[u8], tree: &[u32], output: &mut [u8]) -> Self
+        requires { ⌜ Ready (now source) (now tree) self (Kind.arguments ∷ []) (argumentsIn (now source)) ⌝ }
+        ensures { λ r. ⌜ Done (now (tree .entry)) (now (output .entry)) (now (output .exit)) self r (argumentsIn (now (source .entry))) ⌝ }
+    {
+        let mut s = Serializer {
+            writer: self.writer.write_literal(output, b"("),
+            mark: self.mark + 1,
+        };
+        let mut argument_written = false;
+        while kind_at(tree, s.mark) < CLOSING {
+            let separated = Serializer {
+                writer: separate(s.writer, output, argument_written),
+                mark: s.mark,
+            };
+            s = separated.serialize_argument(source, tree, output);
+            argument_written = true;
+        }
+        Serializer {
+            writer: s.writer.write_literal(output, b")"),
+            mark: s.mark + 1,
+        }
+    }
+
+    fn serialize_argument(self, source: &[u8], tree: &[u32], output: &mut [u8]) -> Self
+        requires { ⌜ Ready (now source) (now tree) self arguments (argumentOf (now source)) ⌝ }
+        ensures { λ r. ⌜ Done (now (tree .entry)) (now (output .entry)) (now (output .exit)) self r (argumentOf (now (source .entry))) ⌝ }
+    {
+        if kind_at(tree, self.mark) != NAMED_ARGUMENT {
+            return self.serialize_inline_expression(source, tree, output);
+        }
+        let named = self.serialize_argument_name(source, tree, output);
+        let written = named.serialize_inline_expression(source, tree, output);
+        written.next()
     }
 }

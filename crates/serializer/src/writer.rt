@@ -10,7 +10,7 @@ ghost use Rattle.serializer.specs.Writer.{begun, bytes, Room, Wrote};
 
 // How many bytes have been written, the last of them (0 at the start), and the indent level.
 pub struct TextWriter {
-    at: usize,
+    pub at: usize,
     last: u8,
     indent: usize,
 }

@@ -1,0 +1,116 @@
+-- What the writing call leaves in its output: the text and what was there after it, or all that was there.
+use Prim.Native.Nat.{ℕ, _+_, _≤_, _<_}
+use native.Mathlib.Omega.{arith}
+use mathlib.Core.Path.{_≡_, refl, sym, ap, _∙_}
+use mathlib.Core.Bool.{Bool, true, false}
+use mathlib.Core.List.{List, [], _++_}
+use mathlib.Core.Option.{Option, some, none}
+use lib.Dec.{ltb}
+use lib.ListN.{length, drop, length-drop}
+use lib.Seq.{sets}
+use borrow.Author.Tests.{lt-ltb, le-ltb}
+use Rattle.utf8.specs.Utf8.{firstIllFormed, isBoundary, checkedOf}
+use Rattle.utf8.specs.declared.Checked.the-variants as Checked
+use Rattle.syntax.specs.declared.answer.Answer.{Answer}
+use Rattle.syntax.specs.declared.answer.Answer.the-variants.{Accepted, TooLong, NotUtf8, IllFormed, OutputTooShort}
+use Rattle.syntax.specs.Limits.{maxOpen}
+use Rattle.syntax.specs.Layout.{count, marksIn}
+use Rattle.syntax.specs.Shape.{verdict}
+use Rattle.syntax.specs.Serializer.{Piece, nodes, resource, serialize}
+use Rattle.syntax.specs.Writing.{noMark, sizesFit, writeAnswer, textOver, outputAfter}
+use Rattle.laws.specs.Call.{written}
+use Rattle.laws.specs.Sets.{sets-nothing, sets-first}
+use Rattle.laws.specs.Text.Length.{text-short}
+use Rattle.serializer.specs.declared.shape.Shape.the-variants as Shape
+use Rattle.serializer.specs.declared.writer.TextWriter.{TextWriter}
+use Rattle.serializer.specs.Shape.{shapeOf}
+use Rattle.serializer.specs.Writer.{begun, Room, Wrote}
+use Rattle.serializer.specs.Call.{Ready, DidWriteInto, DidWrite}
+use Rattle.serializer.proofs.Check.{sizes, no-mark}
+
+-- the writing of a tree that is well formed
+module _ (s t : List ℕ) (junk : Bool) where
+  abbrev piece : Piece
+  piece = resource s junk false (nodes (marksIn t))
+
+  abbrev text : List ℕ
+  text = serialize s junk (marksIn t)
+
+  pub roomy : Ready s t → Room begun piece
+  unfolding serialize
+  roomy z =
+      let fit = sizes t (z .sizes) in
+      let few = ap length (no-mark t fit (count t) (omega arith)) in
+      omega (arith, text-short s junk (marksIn t) (z .short) (omega (arith, length-drop (count t) (marksIn t))))
+
+  -- the first pass, into an empty part of the output: n is what it left there, w where it ended
+  module _ (o n : List ℕ) (w : TextWriter) (d : Wrote [] n begun w piece) where
+    none-stored : n ++ o ≡ o
+    none-stored = ap (λ m. m ++ o) (d .stored ∙ sets-nothing 0 (piece 0 0))
+
+    all-counted : w .at ≡ length text
+    unfolding serialize
+    all-counted = omega (arith, d .end)
+
+    pub no-room : length (n ++ o) < w .at → DidWriteInto text o (n ++ o) (OutputTooShort (w .at))
+    unfolding textOver
+    no-room h =
+        let q = lt-ltb (length o) (length text) (omega (arith, ap length none-stored, all-counted)) in
+        record { answers = rw (q, written) (ap OutputTooShort all-counted); output = rw (q, written) none-stored }
+
+    -- and the second, over all of it
+    pub with-room : (o′ : List ℕ) (w′ : TextWriter) → w .at ≤ length (n ++ o) → Wrote (n ++ o) o′ begun w′ piece → DidWriteInto text o o′ (Accepted (w .at))
+    unfolding serialize textOver
+    with-room o′ w′ h f =
+        let l : length text ≤ length o = omega (arith, ap length none-stored, all-counted) in
+        let q = le-ltb (length o) (length text) l in
+        record { answers = rw (q, written) (ap Accepted all-counted); output = rw (q, written) (f .stored ∙ ap (λ m. sets m 0 text) none-stored ∙ sets-first o text l) }
+
+-- what the two checks found
+pub well-formed : (o : Option ℕ) → Checked.WellFormed ≡ checkedOf o → o ≡ none
+unfolding checkedOf
+well-formed none e = refl
+well-formed (some k) e = let z : _≡_ {A = ℕ} 0 1 = cc in absurd (omega arith)
+
+pub ill-formed : (o : Option ℕ) (k : ℕ) → Checked.IllFormed k ≡ checkedOf o → o ≡ some k
+unfolding checkedOf
+ill-formed none k e = let z : _≡_ {A = ℕ} 0 1 = cc in absurd (omega arith)
+ill-formed (some j) k e = let same : j ≡ k = cc in ap some same
+
+pub well-shaped : (o : Option ℕ) → Shape.WellFormed ≡ shapeOf o → o ≡ none
+unfolding shapeOf
+well-shaped none e = refl
+well-shaped (some k) e = let z : _≡_ {A = ℕ} 0 1 = cc in absurd (omega arith)
+
+pub ill-shaped : (o : Option ℕ) (k : ℕ) → Shape.IllFormed k ≡ shapeOf o → o ≡ some k
+unfolding shapeOf
+ill-shaped none k e = let z : _≡_ {A = ℕ} 0 1 = cc in absurd (omega arith)
+ill-shaped (some j) k e = let same : j ≡ k = cc in ap some same
+
+-- the tests before the writing, in their order
+module _ (s t o : List ℕ) (junk : Bool) where
+  pub too-long : 1000000 < length s → DidWrite s t o o junk (TooLong (length s))
+  unfolding writeAnswer outputAfter textOver
+  too-long h = let q = lt-ltb 1000000 (length s) h in record { answers = rw (q, writeAnswer); output = rw (q, writeAnswer) }
+
+  module _ (h : length s ≤ 1000000) where
+    short : ltb 1000000 (length s) ≡ false
+    short = le-ltb 1000000 (length s) h
+
+    pub not-utf8 : (k : ℕ) → firstIllFormed s ≡ some k → DidWrite s t o o junk (NotUtf8 k)
+    unfolding writeAnswer outputAfter textOver
+    not-utf8 k q = record { answers = rw (short, writeAnswer, q); output = rw (short, writeAnswer, q) }
+
+    module _ (f : firstIllFormed s ≡ none) where
+      pub sizes-off : sizesFit t ≡ false → DidWrite s t o o junk (IllFormed noMark)
+      unfolding writeAnswer outputAfter textOver
+      sizes-off q = record { answers = rw (short, writeAnswer, f, q); output = rw (short, writeAnswer, f, q) }
+
+      module _ (z : sizesFit t ≡ true) where
+        pub shape-off : (v : ℕ) → verdict (isBoundary s) maxOpen (marksIn t) ≡ some v → DidWrite s t o o junk (IllFormed v)
+        unfolding writeAnswer outputAfter textOver
+        shape-off v q = record { answers = rw (short, writeAnswer, f, z, q); output = rw (short, writeAnswer, f, z, q) }
+
+        pub all-well : verdict (isBoundary s) maxOpen (marksIn t) ≡ none → (o′ : List ℕ) (r : Answer) → DidWriteInto (serialize s junk (marksIn t)) o o′ r → DidWrite s t o o′ junk r
+        unfolding writeAnswer outputAfter
+        all-well q o′ r d = record { answers = rw (short, writeAnswer, f, z, q) (d .answers); output = rw (short, writeAnswer, f, z, q) (d .output) }

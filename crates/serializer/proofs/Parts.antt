@@ -1,0 +1,137 @@
+-- The parts of each node that is written, and their pieces in a row.
+use Prim.Native.Nat.{ℕ, _+_, _≤_, _<_}
+use native.Mathlib.Omega.{arith}
+use mathlib.Core.Path.{_≡_, refl, sym, ap, _∙_}
+use mathlib.Core.Bool.{Bool, true, false, _&&_, not}
+use mathlib.Core.List.{List, [], _∷_}
+use lib.Dec.{eqb}
+use lib.ListN.{length}
+use borrow.Author.Tests.{eqb-true, eq-eqb, ne-eqb}
+use Rattle.syntax.specs.Kind as Kind
+use Rattle.syntax.specs.Bytes.{ascii}
+use Rattle.syntax.specs.Marks.{Mark}
+use Rattle.syntax.specs.Shape.{start, among, models, finalBy, final, inline}
+use Rattle.syntax.specs.Serializer.{Node, nodesFrom, nodes, Piece, _⊕_, empty, literal, newline, indented, star, each, if, first, ofKind, name, leadingDot, isMultiline, reference}
+use Rattle.laws.specs.Bytes.{byCase, clash}
+use Rattle.laws.specs.Text.{patternOf, elementOf, inBracesOf, expressionOf, selectOf, variantOf, inlineOf, argumentsOf, separatedOf, argumentOf, namedArgumentOf}
+use Rattle.laws.specs.Text as Text
+use Rattle.serializer.specs.Walk.{kindAt, nodeAt, after, innerAt, At, TextAt, OneAt, Inside, Open, elements}
+use Rattle.serializer.specs.Serialize.{expressions, variants, arguments, references, patternIn, selectIn, argumentsIn, variantLines, openingBraces, closingBraces, bracesOf, sigil, quoted, referenceOf, keyAt, argumentName, Call}
+use Rattle.serializer.specs.Serialize as Spec
+use Rattle.serializer.proofs.Pieces.{Row, row, one, two, three, four, row-same, then-assoc, then-empty}
+use Rattle.serializer.proofs.Walk.{at-kind, node-kind, enter, Entered}
+use Rattle.serializer.proofs.Children.{Follows, must, none, text-one, only, at-as, others, keeps, omits}
+use Rattle.serializer.proofs.Patterns.{element-text, element-placeable}
+use Rattle.serializer.proofs.Variants.{Pair}
+
+module _ (source : List ℕ) {boundary : ℕ → Bool} {ms : List Mark} {i : ℕ} where
+  -- a pattern, on lines of its own or not
+  module _ (a : OneAt boundary (Kind.pattern ∷ []) ms i) where
+    pub pattern-at : At boundary ms i Kind.pattern
+    pattern-at = rw (only a) at (a .at)
+
+    pub pattern-entered : Entered boundary ms i Kind.pattern
+    unfolding Kind.isText
+    pattern-entered = enter pattern-at refl
+
+    pub pattern-lines : (not (leadingDot source (nodes (nodeAt ms i .inner))) && isMultiline source (nodes (nodeAt ms i .inner))) ≡ true
+        → Row (patternIn source (nodeAt ms i)) (newline ∷ indented (each (elementOf source) (nodes (innerAt ms (i + 1)))) ∷ [])
+    pattern-lines e =
+        row-same (Text.pattern-is source (nodeAt ms i .inner) ∙ rw (e, pattern-entered .inner)) (two newline (indented (each (elementOf source) (nodes (innerAt ms (i + 1))))))
+
+    pub pattern-line : (not (leadingDot source (nodes (nodeAt ms i .inner))) && isMultiline source (nodes (nodeAt ms i .inner))) ≡ false
+        → Row (patternIn source (nodeAt ms i)) (literal (ascii " ") ∷ each (elementOf source) (nodes (innerAt ms (i + 1))) ∷ [])
+    pattern-line e =
+        row-same (Text.pattern-is source (nodeAt ms i .inner) ∙ rw (e, pattern-entered .inner)) (two (literal (ascii " ")) (each (elementOf source) (nodes (innerAt ms (i + 1)))))
+
+  -- an expression
+  module _ (a : OneAt boundary expressions ms i) where
+    pub expression-select : kindAt ms i ≡ Kind.select → OneAt boundary (Kind.select ∷ []) ms i × (expressionOf source (nodeAt ms i) ≡ selectIn source (nodeAt ms i))
+    unfolding among
+    expression-select e =
+        let b = at-as a e in
+        (record { kind = Kind.select; one = refl; at = b }, Text.expression-is source (nodeAt ms i) ∙ rw (eq-eqb (nodeAt ms i .kind) Kind.select (node-kind b)))
+
+    pub expression-inline : (kindAt ms i ≡ Kind.select → ⊥) → OneAt boundary inline ms i × (expressionOf source (nodeAt ms i) ≡ inlineOf source (nodeAt ms i))
+    expression-inline h =
+        (others a h, Text.expression-is source (nodeAt ms i) ∙ rw (ne-eqb (nodeAt ms i .kind) Kind.select (λ e. h (at-kind (a .at) ∙ sym (node-kind (a .at)) ∙ e))))
+
+-- a placeable, with the expression in it
+pub record Held (boundary : ℕ → Bool) (ms : List Mark) (i : ℕ) : Type 0 where
+  pub child : OneAt boundary expressions ms (i + 1)
+  pub all : nodes (nodeAt ms i .inner) ≡ nodeAt ms (i + 1) ∷ []
+  pub till : after ms (i + 1) + 1 ≡ after ms i
+
+pub held : {boundary : ℕ → Bool} {ms : List Mark} {i : ℕ} → At boundary ms i Kind.placeable → Held boundary ms i
+unfolding Kind.isText among models finalBy final nodes nodesFrom
+held {ms = ms} {i} a =
+    let m = enter a refl in
+    let f = must expressions 1 refl refl (m .first) in
+    let z = none 0 refl (f .on) in
+    record {
+      child = f .child;
+      all = ap nodes (sym (m .inner)) ∙ f .split ∙ ap (λ r. nodeAt ms (i + 1) ∷ nodes r) z;
+      till = omega (arith, m .behind, f .till, ap length z);
+    }
+
+-- a pattern's placeable, with so many marks for its braces before and behind the expression
+pub record Braced (source : List ℕ) (boundary : ℕ → Bool) (ms : List Mark) (i n : ℕ) (opening closing : List ℕ) : Type 0 where
+  pub parts : Row (elementOf source (nodeAt ms i)) (literal opening ∷ expressionOf source (nodeAt ms (i + n)) ∷ literal closing ∷ [])
+  pub child : OneAt boundary expressions ms (i + n)
+  pub till : after ms (i + n) + n ≡ after ms i
+  pub some : 1 ≤ n
+  pub few : n ≤ 2
+
+module _ (source : List ℕ) {boundary : ℕ → Bool} {ms : List Mark} {i : ℕ} (a : OneAt boundary elements ms i) where
+  pub element-name : kindAt ms i ≡ Kind.text → elementOf source (nodeAt ms i) ≡ name source (nodeAt ms i)
+  element-name e = Text.element-is source (nodeAt ms i) ∙ rw (eq-eqb (nodeAt ms i .kind) Kind.text (node-kind (a .at) ∙ sym (at-kind (a .at)) ∙ e))
+
+  module _ (h : kindAt ms i ≡ Kind.text → ⊥) where
+    placeable-at : At boundary ms i Kind.placeable
+    placeable-at = rw (element-placeable a h) at (a .at)
+
+    in-braces : elementOf source (nodeAt ms i) ≡ inBracesOf source (nodeAt ms (i + 1))
+    unfolding first
+    in-braces =
+        Text.element-is source (nodeAt ms i) ∙ rw (ne-eqb (nodeAt ms i .kind) Kind.text (λ e. h (at-kind (a .at) ∙ sym (node-kind (a .at)) ∙ e)), held placeable-at .all, first)
+
+    pub placeable-inside : OneAt boundary expressions ms (i + 1)
+    placeable-inside = held placeable-at .child
+
+    pub braced : Braced source boundary ms i (bracesOf (kindAt ms (i + 1))) (openingBraces (kindAt ms (i + 1))) (closingBraces (kindAt ms (i + 1)))
+    unfolding bracesOf openingBraces closingBraces first
+    braced = byCase (eqb (kindAt ms (i + 1)) Kind.placeable) (λ e. twice (eqb-true _ _ e)) (λ e. byCase (eqb (kindAt ms (i + 1)) Kind.select) (λ z. around (eqb-true _ _ z)) (λ z. once e z))
+      where
+        x : Node
+        x = nodeAt ms (i + 1)
+
+        o : Held boundary ms i
+        o = held placeable-at
+
+        same : x .kind ≡ kindAt ms (i + 1)
+        same = node-kind (o .child .at) ∙ sym (at-kind (o .child .at))
+
+        twice : kindAt ms (i + 1) ≡ Kind.placeable → Braced source boundary ms i (bracesOf (kindAt ms (i + 1))) (openingBraces (kindAt ms (i + 1))) (closingBraces (kindAt ms (i + 1)))
+        twice e =
+            let p = held (at-as (o .child) e) in
+            let up : i + 1 + 1 ≡ i + 2 = omega arith in
+            let all : nodes (x .inner) ≡ nodeAt ms (i + 2) ∷ [] = rw up at (p .all) in
+            rw e
+            (record {
+              parts = row-same (in-braces ∙ Text.inBraces-is source x ∙ rw (eq-eqb (x .kind) Kind.placeable (same ∙ e), all, first)) (three (literal (ascii "{{ ")) (expressionOf source (nodeAt ms (i + 2))) (literal (ascii " }}")));
+              child = rw up at (p .child);
+              till = omega (arith, p .till, o .till, ap (λ j. after ms j) up);
+              some = omega arith;
+              few = omega arith;
+            })
+
+        alone : (closing : List ℕ) → inBracesOf source x ≡ (literal (ascii "{ ") ⊕ expressionOf source x ⊕ literal closing) → Braced source boundary ms i 1 (ascii "{ ") closing
+        alone closing e =
+            record { parts = row-same (in-braces ∙ e) (three (literal (ascii "{ ")) (expressionOf source x) (literal closing)); child = o .child; till = o .till; some = omega arith; few = omega arith }
+
+        around : kindAt ms (i + 1) ≡ Kind.select → Braced source boundary ms i (bracesOf (kindAt ms (i + 1))) (openingBraces (kindAt ms (i + 1))) (closingBraces (kindAt ms (i + 1)))
+        around e =
+            rw e (alone (ascii "}") (Text.inBraces-is source x ∙ rw (ne-eqb (x .kind) Kind.placeable (λ z. omega (arith, same)), eq-eqb (x .kind) Kind.select (same ∙ e))))
+
+        once : eqb (kindAt ms (i + 1)) Kind.placeable ≡ false → eqb (kindAt ms (i + 1)) Kind.select ≡ false → Braced source boundary ms i (bracesOf (kindAt ms (i + 1))) (openingBraces (kindAt ms (i + 1))) (closingBraces (kindAt ms (i + 1)))
+        once e z = rw (e, bracesOf, openingBraces, closingBraces, z) (alone (ascii " }") (Text.inBraces-is source x ∙ rw (ap (λ k. eqb k Kind.placeable) same ∙ e, ap (λ k. eqb k Kind.select) same ∙ z)))

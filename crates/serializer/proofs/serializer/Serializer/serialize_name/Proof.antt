@@ -1,0 +1,54 @@
+-- `Serializer::serialize_name` meets its contract.
+use Prim.Native.Nat.{_+_}
+use native.Mathlib.Omega.{arith}
+use borrow.Author.Needs.{needs}
+use mathlib.Core.Path.{_∙_}
+use Rattle.syntax.specs.Layout.{marksIn}
+use Rattle.serializer.specs.Walk.{nodeAt}
+use Rattle.serializer.proofs.Check.{sizes}
+use Rattle.serializer.proofs.Pieces.{going, room-first, going-on, gone}
+use Rattle.serializer.proofs.Walk.{at-count, text-after}
+use Rattle.serializer.proofs.Messages.{naming-row}
+use Rattle.serializer.proofs.serializer.Serializer.serialize_name.Statement.{statement}
+use Rattle.serializer.proofs.serializer.Serializer.serialize_name.Tie as tie
+
+next-requires : tie.Need-next-requires
+next-requires c κs =
+    let tree = c .before .before .before .args .tree .now in
+    let fit = sizes tree (c .before .before .before .pre .0) in
+    omega (arith, fit, at-count tree fit (c .before .before .before .pre .1 .0 .at))
+
+serialize-text-requires : tie.Need-serialize-text-requires
+serialize-text-requires c κs =
+    let g = going (c .before .before .before .before .before .args .output .now) (c .before .before .before .before .before .args .self .writer) (naming-row (c .before .before .before .before .before .args .source .now) (nodeAt (marksIn (c .before .before .before .before .before .args .tree .now)) (c .before .before .before .before .before .args .self .mark + 1))) (c .before .before .before .before .before .pre .1 .1) in
+    rw (c .before .next .ensures) (c .before .before .before .before .before .pre .0, (c .before .before .before .before .before .pre .1 .0, room-first g))
+
+slice-aggregate-write-literal : tie.Need-slice-aggregate-write-literal
+slice-aggregate-write-literal c = search needs
+
+write-literal-requires : tie.Need-write-literal-requires
+write-literal-requires c κs =
+    let g = going (c .before .before .before .before .before .before .before .before .before .before .args .output .now) (c .before .before .before .before .before .before .before .before .before .before .args .self .writer) (naming-row (c .before .before .before .before .before .before .before .before .before .before .args .source .now) (nodeAt (marksIn (c .before .before .before .before .before .before .before .before .before .before .args .tree .now)) (c .before .before .before .before .before .before .before .before .before .before .args .self .mark + 1))) (c .before .before .before .before .before .before .before .before .before .before .pre .1 .1) in
+    room-first (going-on g (rw (c .before .before .before .before .before .before .next .ensures) at (c .before .before .before .before .serialize-text .ensures .wrote)))
+
+same-length : tie.Need-same-length
+same-length c = search needs
+
+returns : tie.Need-returns
+returns c =
+    let g = going (c .before .before .before .before .before .before .before .before .before .before .before .before .before .args .output .now) (c .before .before .before .before .before .before .before .before .before .before .before .before .before .args .self .writer) (naming-row (c .before .before .before .before .before .before .before .before .before .before .before .before .before .args .source .now) (nodeAt (marksIn (c .before .before .before .before .before .before .before .before .before .before .before .before .before .args .tree .now)) (c .before .before .before .before .before .before .before .before .before .before .before .before .before .args .self .mark + 1))) (c .before .before .before .before .before .before .before .before .before .before .before .before .before .pre .1 .1) in
+    record {
+      wrote = gone (going-on (going-on g (rw (c .before .before .before .before .before .before .before .before .before .next .ensures) at (c .before .before .before .before .before .before .before .serialize-text .ensures .wrote))) (c .before .before .write-literal .ensures));
+      next = (rw (c .before .before .before .before .before .before .before .before .before .next .ensures) at (c .before .before .before .before .before .before .before .serialize-text .ensures .next)) ∙ text-after (c .before .before .before .before .before .before .before .before .before .before .before .before .before .pre .1 .0 .at) (c .before .before .before .before .before .before .before .before .before .before .before .before .before .pre .1 .0 .isText) ∙ omega arith;
+    }
+
+pub serialize-name-spec : {M : Type 1} → statement M
+serialize-name-spec =
+    tie.close
+    (tie.spec
+    next-requires
+    serialize-text-requires
+    slice-aggregate-write-literal
+    write-literal-requires
+    same-length
+    returns)

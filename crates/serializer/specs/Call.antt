@@ -1,0 +1,31 @@
+-- What the contracts say of the writing call, and of the writing under it.
+use Prim.Native.Nat.{ℕ, _≤_}
+use mathlib.Core.Path.{_≡_}
+use mathlib.Core.Bool.{Bool, true}
+use mathlib.Core.List.{List}
+use mathlib.Core.Option.{none}
+use lib.ListN.{length}
+use Rattle.utf8.specs.Utf8.{isBoundary}
+use Rattle.syntax.specs.declared.answer.Answer.{Answer}
+use Rattle.syntax.specs.Limits.{maxLength, maxOpen}
+use Rattle.syntax.specs.Layout.{marksIn}
+use Rattle.syntax.specs.Shape.{verdict}
+use Rattle.syntax.specs.Serializer.{serialize}
+use Rattle.syntax.specs.Writing.{sizesFit, writeAnswer, textOver, outputAfter}
+use Rattle.laws.specs.Call.{written}
+
+-- the source is short enough, and the tree is well formed over it
+pub record Ready (s t : List ℕ) : Type 0 where
+  pub short : length s ≤ maxLength
+  pub sizes : sizesFit t ≡ true
+  pub shape : verdict (isBoundary s) maxOpen (marksIn t) ≡ none
+
+-- the writing where no earlier test refuses: its answer, and every byte of the output
+pub record DidWriteInto (text o o′ : List ℕ) (r : Answer) : Type 0 where
+  pub answers : r ≡ written (length o) (length text)
+  pub output : o′ ≡ textOver (written (length o) (length text)) text o
+
+-- the writing call: its answer, and every byte of the output
+pub record DidWrite (s t o o′ : List ℕ) (junk : Bool) (r : Answer) : Type 0 where
+  pub answers : r ≡ writeAnswer s t (length o) junk
+  pub output : o′ ≡ outputAfter s t o junk

@@ -1,0 +1,49 @@
+// The writing call.
+ghost use Rattle.syntax.specs.Layout.{marksIn};
+ghost use Rattle.syntax.specs.Serializer.{serialize};
+ghost use Rattle.serializer.specs.Call.{Ready, DidWrite, DidWriteInto};
+use crate::resource::serialize_resource;
+use crate::shape::Shape;
+use crate::shape::check_shape;
+use crate::shape::sizes_fit;
+use syntax::answer::Answer;
+use utf8::Checked;
+use utf8::check;
+
+// The value of refusal 6 where the sizes don't fit.
+const NO_MARK: u64 = 4_294_967_295;
+
+// Writes the normal text of a tree into an output that is lent, with its junk if so asked. The tests come in the order of the
+// refusals 1, 2, 6 and 7.
+pub fn write(source: &[u8], tree: &[u32], output: &mut [u8], with_junk: bool) -> Answer
+    ensures { λ r. ⌜ DidWrite (now (source .entry)) (now (tree .entry)) (now (output .entry)) (now (output .exit)) «with_junk» r ⌝ }
+{
+    let length = source.len();
+    if 1_000_000 < length {
+        return Answer::TooLong(length as u64);
+    }
+    if let Checked::IllFormed(at) = check(source) {
+        return Answer::NotUtf8(at as u64);
+    }
+    if !sizes_fit(tree) {
+        return Answer::IllFormed(NO_MARK);
+    }
+    if let Shape::IllFormed(mark) = check_shape(source, tree) {
+        return Answer::IllFormed(mark as u64);
+    }
+    write_into(source, tree, output, with_junk)
+}
+
+// The writing of a tree that is well formed. A first pass counts its text's bytes, into an empty part of the output.
+fn write_into(source: &[u8], tree: &[u32], output: &mut [u8], with_junk: bool) -> Answer
+    requires { ⌜ Ready (now source) (now tree) ⌝ }
+    ensures { λ r. ⌜ DidWriteInto (serialize (now (source .entry)) «with_junk» (marksIn (now (tree .entry)))) (now (output .entry)) (now (output .exit)) r ⌝ }
+{
+    let counted = serialize_resource(source, tree, &mut output[..0], with_junk);
+    let length = counted.at;
+    if output.len() < length {
+        return Answer::OutputTooShort(length as u64);
+    }
+    serialize_resource(source, tree, output, with_junk);
+    Answer::Accepted(length as u64)
+}
