@@ -1,0 +1,4 @@
+-- What the contracts of the program cite.
+pub mod Put
+pub mod Rows
+pub mod Report

@@ -1,0 +1,54 @@
+// Prints the listing of a source on standard input: its marks and its errors.
+ghost use Prim.Native.Nat.{_≤_};
+ghost use lib.ListN.{length};
+ghost use Rattle.marks.specs.Report.{maxSource, Lent, Reported};
+
+mod listing;
+
+use crate::listing::put_pair;
+use crate::listing::put_reading;
+use input::Input;
+use input::read_input;
+use libc::STDERR_FILENO;
+use libc::STDOUT_FILENO;
+use parser::read::read;
+use syntax::answer::Answer;
+use syntax::answer::number;
+use syntax::answer::value;
+
+// Reads a source, and puts what is to be printed into the output. Answers how many bytes that is.
+fn report(source: &[u8], tree: &mut [u32], errors: &mut [u32], output: &mut [u8]) -> usize
+    requires { ⌜ Lent (now source) (now tree) (now errors) (now output) ⌝ }
+    ensures { λ r. ⌜ Reported (now (source .entry)) (now (output .entry)) (now (output .exit)) r ⌝ }
+{
+    let answer = read(source, tree, errors);
+    if let Answer::Accepted(_) = answer {
+        return put_reading(tree, errors, output);
+    }
+    put_pair(output, 0, number(answer) as u64, value(answer))
+}
+
+// Prints what a source of at most 1,000 bytes gives: the tree has 2 + 16 words a byte, the list of errors 2 + 7.
+fn print(source: &[u8])
+    requires { ⌜ length (now source) ≤ maxSource ⌝ }
+{
+    let mut tree = [0u32; 16_002];
+    let mut errors = [0u32; 7_002];
+    let mut output = [0u8; 500_000];
+    let length = report(source, &mut tree, &mut errors, &mut output);
+    io::write_all(STDOUT_FILENO, &output[..length]);
+}
+
+fn main() {
+    // One byte more than a source may have, so that a longer one is not cut.
+    let mut buffer = [0u8; 1_001];
+    let Input::Bytes(length) = read_input(&mut buffer) else {
+        io::write_all(STDERR_FILENO, b"marks: standard input cannot be read\n");
+        return;
+    };
+    if 1_000 < length {
+        io::write_all(STDERR_FILENO, b"marks: more than 1,000 bytes\n");
+        return;
+    }
+    print(&buffer[..length]);
+}

@@ -1,0 +1,58 @@
+// Writes the normal text of a source on standard input, of at most 10,000 bytes. Junk is written as it stands, so that nothing is
+// lost.
+ghost use Rattle.normalize.specs.Normal.{Normalized};
+use input::Input;
+use input::read_input;
+use libc::STDERR_FILENO;
+use libc::STDOUT_FILENO;
+use parser::read::read;
+use serializer::write::write;
+use syntax::answer::Answer;
+use syntax::answer::number;
+use syntax::answer::value;
+
+fn normalize(source: &[u8], tree: &mut [u32], errors: &mut [u32], output: &mut [u8]) -> Answer
+    ensures { λ r. ⌜ Normalized (now (source .entry)) (now (tree .entry)) (now (errors .entry)) (now (output .entry)) (now (output .exit)) r ⌝ }
+{
+    let answer = read(source, tree, errors);
+    if let Answer::Accepted(_) = answer {
+        return write(source, tree, output, true);
+    }
+    answer
+}
+
+fn refuse(answer: Answer) {
+    io::write_all(STDERR_FILENO, b"normalize: refusal ");
+    io::print_decimal(STDERR_FILENO, number(answer) as u64);
+    io::write_all(STDERR_FILENO, b", ");
+    io::print_decimal(STDERR_FILENO, value(answer));
+    io::write_all(STDERR_FILENO, b"\n");
+}
+
+// Prints the text of a source; the tree has 2 + 16 words a byte, the list of errors 2 + 7.
+fn print(source: &[u8]) {
+    let mut tree = [0u32; 160_002];
+    let mut errors = [0u32; 70_002];
+    let mut output = [0u8; 100_000];
+    let answer = normalize(source, &mut tree, &mut errors, &mut output);
+    if let Answer::Accepted(size) = answer {
+        let length = size as usize;
+        io::write_all(STDOUT_FILENO, &output[..length]);
+    } else {
+        refuse(answer);
+    }
+}
+
+fn main() {
+    // One byte more than a source may have, so that a longer one is not cut.
+    let mut buffer = [0u8; 10_001];
+    let Input::Bytes(length) = read_input(&mut buffer) else {
+        io::write_all(STDERR_FILENO, b"normalize: standard input cannot be read\n");
+        return;
+    };
+    if 10_000 < length {
+        io::write_all(STDERR_FILENO, b"normalize: more than 10,000 bytes\n");
+        return;
+    }
+    print(&buffer[..length]);
+}
