@@ -1,0 +1,3 @@
+pub mod Rows
+pub mod Laid
+pub mod Replays

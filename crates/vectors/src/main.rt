@@ -1,0 +1,141 @@
+// Replays stored readings: each stored source is read again, and the answer and every word of both slices are compared with
+// what the Rust gave. The words of the command line name the files, which compare/vectors.py makes.
+ghost use Prim.Native.Nat.{_≤_};
+ghost use mathlib.Core.Path.{_≡_};
+ghost use lib.ListN.{length};
+ghost use Rattle.vectors.specs.Agreement.{over, differing};
+
+mod compare;
+mod replay;
+mod stored;
+
+use libc::STDOUT_FILENO;
+use replay::Turn;
+use replay::replay_next;
+
+// How many cases a file has, and how many of them differ.
+struct Tally {
+    cases: u64,
+    different: u64,
+}
+
+fn report(what: &[u8], case: u64) {
+    io::write_all(STDOUT_FILENO, what);
+    io::print_decimal(STDOUT_FILENO, case);
+    io::write_all(STDOUT_FILENO, b"\n");
+}
+
+// Whether the file is over. A case that is not whole, or too long for the arrays, is reported and ends it.
+fn is_over(turn: Turn, case: u64) -> bool
+    ensures { λ r. ⌜ r ≡ over turn ⌝ }
+{
+    match turn {
+        Turn::End => true,
+        Turn::Unreadable => {
+            report(b"unreadable: ", case);
+            true
+        }
+        Turn::Same => false,
+        Turn::Different => false,
+    }
+}
+
+// How many cases differ in this turn. One that does is reported.
+fn count_different(turn: Turn, case: u64) -> u64
+    ensures { λ r. ⌜ (r ≡ differing turn) × (r ≤ 1) ⌝ }
+{
+    match turn {
+        Turn::End => 0,
+        Turn::Unreadable => 0,
+        Turn::Same => 0,
+        Turn::Different => {
+            report(b"different: ", case);
+            1
+        }
+    }
+}
+
+fn print_tally(path: &[u8], tally: Tally) {
+    io::write_all(STDOUT_FILENO, path);
+    io::write_all(STDOUT_FILENO, b": ");
+    io::print_decimal(STDOUT_FILENO, tally.cases);
+    io::write_all(STDOUT_FILENO, b" cases, ");
+    io::print_decimal(STDOUT_FILENO, tally.different);
+    io::write_all(STDOUT_FILENO, b" different\n");
+}
+
+// Replays the cases of a file up to its end, or to one that can't be read; cases count from 0.
+fn replay_all(
+    fd: i32,
+    source: &mut [u8],
+    listing: &mut [u8],
+    tree: &mut [u32],
+    errors: &mut [u32],
+) -> Tally {
+    let mut cases = 0;
+    let mut different = 0;
+    while cases < u64::MAX {
+        let turn = replay_next(fd, source, listing, tree, errors);
+        if is_over(turn, cases) {
+            break;
+        }
+        different += count_different(turn, cases);
+        cases += 1;
+    }
+    Tally {
+        cases: cases,
+        different: different,
+    }
+}
+
+// Room for a source, for its listing, and for slices. Sources of 4,096 bytes can be read into these; longer ones are refused.
+fn source_room() -> [u8; 1_000_001]
+    ensures { λ r. ⌜ 1000001 ≡ length r ⌝ }
+{
+    [0; 1_000_001]
+}
+
+fn listing_room() -> [u8; 200_000]
+    ensures { λ r. ⌜ 200000 ≡ length r ⌝ }
+{
+    [0; 200_000]
+}
+
+fn tree_room() -> [u32; 65_600]
+    ensures { λ r. ⌜ 65600 ≡ length r ⌝ }
+{
+    [0; 65_600]
+}
+
+fn errors_room() -> [u32; 28_700]
+    ensures { λ r. ⌜ 28700 ≡ length r ⌝ }
+{
+    [0; 28_700]
+}
+
+// Replays the file that an argument names.
+fn replay_file(i: usize) {
+    let mut path = io::buffer();
+    let n = os::arg(i, &mut path);
+    let fd = os::open_read(&path[..n]);
+    if fd < 0 {
+        os::fail(&path[..n]);
+        return;
+    }
+    let mut source = source_room();
+    let mut listing = listing_room();
+    let mut tree = tree_room();
+    let mut errors = errors_room();
+    let tally = replay_all(fd, &mut source, &mut listing, &mut tree, &mut errors);
+    print_tally(&path[..n], tally);
+    libc::close(fd);
+}
+
+fn main() {
+    let count = os::arg_count();
+    let mut i = 1;
+    while i < count {
+        replay_file(i);
+        i += 1;
+    }
+}
