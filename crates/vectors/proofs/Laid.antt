@@ -16,7 +16,7 @@ use Rattle.vectors.specs.declared.compare.Arrays.{Arrays}
 use Rattle.vectors.proofs.Rows.{parts, first-part, second-part, end-part, length-array, length-shorts}
 
 -- what is past n of a filled slice
-drop-replicate : (n m v : ℕ) → drop n (replicate m v) ≡ replicate (m - n) v
+pub drop-replicate : (n m v : ℕ) → drop n (replicate m v) ≡ replicate (m - n) v
 drop-replicate zero m v = let k : m ≡ m - 0 = omega arith in ap (λ i. replicate i v) k
 drop-replicate (suc n) zero v = let k : 0 ≡ 0 - suc n = omega arith in ap (λ i. replicate i v) k
 drop-replicate (suc n) (suc m) v = let k : m - n ≡ suc m - suc n = omega arith in drop-replicate n m v ∙ ap (λ i. replicate i v) k
