@@ -48,7 +48,7 @@ errors-finished cap t t₁ es s =
     (ap₂ (λ (a b : List ℕ). array cap a ++ array (6 * cap) b) (ap (λ k. take k (drop 2 t₁)) (sym n) ∙ s .kinds) (ap (λ k. take (6 * k) (drop (2 + cap) t₁)) (sym n) ∙ s .groups))
     (ap (λ k. drop k t₁) e ∙ s .rest))
 
-zeroed-all : (n : ℕ) (t t₁ : List ℕ) → drop n t₁ ≡ drop n t → take 0 t₁ ++ (replicate (n - 0) 0 ++ drop n t₁) ≡ replicate n 0 ++ drop n t
+pub zeroed-all : (n : ℕ) (t t₁ : List ℕ) → drop n t₁ ≡ drop n t → take 0 t₁ ++ (replicate (n - 0) 0 ++ drop n t₁) ≡ replicate n 0 ++ drop n t
 zeroed-all n t t₁ e = let z : n - 0 ≡ n = omega arith in ap₂ (λ (k : ℕ) (r : List ℕ). replicate k 0 ++ r) z e
 
 module _ (s t t₁ e e₁ : List ℕ) (r : Parsed) (z : Sized s t e) (d : DidParse s t t₁ e e₁ r (parse maxOpen s)) where

@@ -15,6 +15,7 @@ pub mod Core
 pub mod Serializer
 pub mod Layout
 pub mod Reading
+pub mod Next
 pub mod Shape
 pub mod ShapeTable
 pub mod Writing
