@@ -1,23 +1,20 @@
 -- Demand 3 holds over the calls: by their contracts the words and texts are those of the definitions, for which it is proved.
-use Prim.Native.Nat.{ℕ, _≤_}
-use native.Mathlib.Omega.{arith}
-use mathlib.Core.Path.{_≡_, refl, sym, ap, _∙_}
-use mathlib.Core.Bool.{Bool, true, false}
+use Prim.Native.Nat.{ℕ}
+use mathlib.Core.Path.{_≡_, sym, ap, _∙_}
+use mathlib.Core.Bool.{Bool}
 use mathlib.Core.List.{List, _++_}
 use lib.ListN.{length, take, drop}
 use lib.Seq.{take-append-seam}
-use lib.Dec.{ltb}
 use borrow.Author.Tests.{le-ltb}
-use Rattle.syntax.specs.declared.answer.Answer.the-variants.{Accepted, OutputTooShort}
+use Rattle.syntax.specs.declared.answer.Answer.the-variants.{Accepted}
 use Rattle.syntax.specs.Layout.{marksIn}
-use Rattle.syntax.specs.Reading.{readAnswer, treeAfter, errorsAfter}
-use Rattle.syntax.specs.Writing.{writeAnswer, textOver, outputAfter}
+use Rattle.syntax.specs.Reading.{readAnswer, treeAfter}
+use Rattle.syntax.specs.Writing.{writeAnswer, outputAfter}
 use Rattle.syntax.specs.Serializer.{serialize}
-use Rattle.laws.specs.Bytes.{byCase}
-use Rattle.laws.specs.Call.{written, writes, read-of, marks-left}
+use Rattle.laws.specs.Call.{written, writes, written-size, written-output, marks-left}
 use Rattle.cut.specs.Claim as Cut
 use Rattle.cut.specs.Theorem.{demand-3}
-use Rattle.calls.specs.Claim.{Reading, Writing, textOf, Fit, Claim, Demand3, Written, Writable}
+use Rattle.calls.specs.Claim.{Reading, Writing, textOf, Fit, Demand3, Writable}
 
 -- ---- a reading
 abbrev lent : {s : List ℕ} → Reading s → Cut.Slices
@@ -27,9 +24,6 @@ accepted : {s : List ℕ} (r : Reading s) → readAnswer s (length (r .lentTree)
 accepted r = sym (r .did .answers)
 
 -- ---- a text
-taken : (n o : ℕ) (size : ℕ) → Accepted size ≡ written o n → size ≡ n
-taken n o size h = byCase (ltb o n) (λ q. let g = rw (q, written) at h in let z : _≡_ {A = ℕ} 0 1 = cc in absurd (omega arith)) (λ q. let g = rw (q, written) at h in cc)
-
 module _ (s t e : List ℕ) (h : readAnswer s (length t) (length e) ≡ Accepted 0) (junk : Bool) where
   text : List ℕ
   text = serialize s junk (marksIn (treeAfter s t e))
@@ -40,10 +34,10 @@ module _ (s t e : List ℕ) (h : readAnswer s (length t) (length e) ≡ Accepted
 
   -- the output starts with the text
   left : (o o′ : List ℕ) (size : ℕ) → Accepted size ≡ writeAnswer s (treeAfter s t e) (length o) junk → o′ ≡ outputAfter s (treeAfter s t e) o junk → take size o′ ≡ text
-  unfolding outputAfter textOver text
+  unfolding text
   left o o′ size a w =
-      let n : size ≡ length text = taken (length text) (length o) size (a ∙ answer-is (length o)) in
-      let p : o′ ≡ text ++ drop (length text) o = w ∙ ap (λ z. textOver z text o) (sym a) in
+      let n : size ≡ length text = written-size s (treeAfter s t e) o junk (sym a) in
+      let p : o′ ≡ text ++ drop (length text) o = w ∙ written-output s (treeAfter s t e) o junk (sym a) in
       rw (n, p) (take-append-seam text (drop (length text) o))
 
 written-text : (s : List ℕ) (r : Reading s) (junk : Bool) (w : Writing s (r .tree) junk) → textOf w ≡ Cut.textOf junk s (lent r)

@@ -1,5 +1,5 @@
 -- Demand 3: what is claimed of a file cut in two, over what the definition of the reading call gives for lent slices of any length and content.
-use Prim.Native.Nat.{ℕ, _+_, _*_, _≤_}
+use Prim.Native.Nat.{ℕ, _+_, _≤_}
 use mathlib.Core.Path.{_≡_}
 use mathlib.Core.Bool.{Bool, true, false, _||_}
 use mathlib.Core.List.{List, [], _∷_, _++_, map}

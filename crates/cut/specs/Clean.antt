@@ -2,10 +2,10 @@
 use Prim.Native.Nat.{ℕ, zero, suc, _+_}
 use native.Mathlib.Omega.{arith}
 use mathlib.Core.Path.{_≡_, refl, sym, ap, _∙_, subst}
-use mathlib.Core.Bool.{Bool, true, false, _&&_}
+use mathlib.Core.Bool.{_&&_}
 use mathlib.Core.List.{List, [], _∷_, _++_, map}
 use lib.ListN.{length, drop}
-use lib.Dec.{eqb, ltb}
+use lib.Dec.{ltb}
 use Rattle.syntax.specs.Kind as Kind
 use Rattle.syntax.specs.Marks.{Mark, kindOf, moveUp, node, textNode}
 use Rattle.syntax.specs.Reader.{Out, ok, bad, deep}

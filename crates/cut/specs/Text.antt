@@ -2,31 +2,30 @@
 pub mod Source
 pub mod Piece
 pub mod Listing
-use Prim.Native.Nat.{ℕ, zero, suc, _+_, _-_, _≤_, _<_}
-use native.Mathlib.Nat.{not-suc-le-zero, zero-add}
+use Prim.Native.Nat.{ℕ, suc, _+_, _-_, _≤_, _<_}
+use native.Mathlib.Nat.{not-suc-le-zero}
 use native.Mathlib.Omega.{arith}
 use mathlib.Core.Path.{_≡_, refl, sym, ap, ap₂, _∙_, subst}
-use mathlib.Core.Bool.{Bool, true, false, not}
-use mathlib.Core.List.{List, [], _∷_, _++_, map, append-nil}
-use lib.ListN.{drop, length, take, length-drop, take-append-drop}
+use mathlib.Core.Bool.{Bool, true, false}
+use mathlib.Core.List.{List, [], _∷_, _++_, map}
+use lib.ListN.{drop, length, take, take-append-drop}
 use lib.Seq.{drop-append-add}
 use lib.Dec.{ltb}
 use borrow.Author.Tests.{ltb-true, ltb-false}
 use Rattle.syntax.specs.Marks.{Mark, plain, placed, moveUp}
 use Rattle.syntax.specs.Expression.{level}
-use Rattle.syntax.specs.Core.{Error, upError, read, parse, entries}
+use Rattle.syntax.specs.Core.{Error, read, parse, entries}
 use Rattle.syntax.specs.Serializer.{Node, nodes, nodesFrom, lastOf, resource, serialize, empty}
-use Rattle.laws.specs.Bytes.{Whole, whole-drop, Fresh, byCase, clash}
-use Rattle.laws.specs.Stable.Expression.{level-law}
+use Rattle.laws.specs.Bytes.{Whole, whole-drop, Fresh, byCase}
 use Rattle.laws.specs.Stable.Pattern.{span-same}
 use Rattle.laws.specs.Moving.{moveUp-zero}
 use Rattle.laws.specs.Formed.{places, balanced}
 use Rattle.laws.specs.Formed.Expression.{level-formed}
-use Rattle.laws.specs.Balanced.Nodes.{upNode, nodes-up, nodes-append, OkMarks, OkNodes, ok-nodes}
+use Rattle.laws.specs.Balanced.Nodes.{upNode, nodes-up, nodes-append, OkMarks, ok-nodes}
 use Rattle.cut.specs.Text.Source.{resource-same}
 use Rattle.cut.specs.Text.Piece.{Ends, resource-ends, wroteAll, wrote-ends, resource-append, Opening, opensNodes, opened-text}
 use Rattle.cut.specs.Text.Listing.{none-read, entries-ends, ends-up, entries-opening}
-use Rattle.cut.specs.Tree.{CutTree, cut-tree, start, from-start, from-length, first-part, second-part}
+use Rattle.cut.specs.Tree.{cut-tree, start, from-start, first-part, second-part}
 use Rattle.cut.specs.Parts.{opensFree, between, Readings, Parts}
 
 any-ok : (ms : List Mark) → OkMarks (λ p. Unit {0}) ms

@@ -2,24 +2,23 @@
 use Prim.Native.Nat.{ℕ, _+_, _*_, _≤_}
 use native.Mathlib.Omega.{arith}
 use mathlib.Core.Path.{_≡_, refl, sym, ap, ap₂, _∙_, subst}
-use mathlib.Core.Bool.{Bool, true, false}
+use mathlib.Core.Bool.{Bool}
 use mathlib.Core.List.{List, [], _∷_, _++_, map}
 use lib.ListN.{length, take, drop, length-take, take-append-drop}
 use Rattle.syntax.specs.Kind as Kind
 use Rattle.syntax.specs.Limits.{maxOpen}
-use Rattle.syntax.specs.Bytes.{Whole, Fresh}
 use Rattle.syntax.specs.Marks.{Mark, plain, placed, kindOf, moveUp}
-use Rattle.syntax.specs.Core.{Error, upError, read, parse}
+use Rattle.syntax.specs.Core.{upError, read}
 use Rattle.syntax.specs.Layout.{treeCapacity, treeLayout, errorLayout, marksIn}
 use Rattle.syntax.specs.Serializer.{serialize}
 use Rattle.cut.specs.Parts as Parts
-use Rattle.cut.specs.Parts.{Exception, Parts, between}
+use Rattle.cut.specs.Parts.{Parts, between}
 use Rattle.laws.specs.Bounds.{Uses}
 use Rattle.laws.specs.File.{parse-read}
-use Rattle.laws.specs.Layout.{Proper, AllProper, proper-append, tree-marks}
+use Rattle.laws.specs.Layout.{AllProper, proper-append, tree-marks}
 use Rattle.laws.specs.Call.{Read, read-of}
 use Rattle.laws.specs.Formed.{proper}
-use Rattle.cut.specs.Claim.{Tree, Slices, IsAccepted, treeIn, errorsIn, treeOf, errorsOf, textOf, joinTrees, joinErrors, Without, opensFree, gap, Fit, Claim, Joins, SameTree, Demand3}
+use Rattle.cut.specs.Claim.{Tree, Slices, IsAccepted, treeIn, errorsIn, treeOf, errorsOf, textOf, joinTrees, joinErrors, Without, opensFree, gap, Fit, Claim, SameTree, Demand3}
 use Rattle.cut.specs.Words.{ofMarks, ofErrors, tree-in, errors-in, join-marks, join-errors, marks-same}
 use Rattle.cut.specs.Clean.{clean}
 use Rattle.cut.specs.Text.{cut}

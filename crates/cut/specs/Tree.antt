@@ -1,23 +1,21 @@
 -- A file cut in two: its tree and its errors.
 pub mod Join
-use Prim.Native.Nat.{ℕ, zero, suc, _+_, _≤_, _<_}
-use native.Mathlib.Nat.{not-suc-le-zero, zero-add}
+use Prim.Native.Nat.{ℕ, suc, _+_, _≤_, _<_}
 use native.Mathlib.Omega.{arith}
-use mathlib.Core.Path.{_≡_, refl, sym, ap, ap₂, _∙_, subst}
+use mathlib.Core.Path.{_≡_, sym, ap, ap₂, _∙_, subst}
 use mathlib.Core.Logic.{_⊎_, inl, inr}
-use mathlib.Core.Bool.{Bool, true, false}
-use mathlib.Core.List.{List, [], _∷_, _++_, map, append-nil}
+use mathlib.Core.Bool.{true}
+use mathlib.Core.List.{List, [], _++_, map, append-nil}
 use lib.ListN.{drop, length, length-drop, length-append, drop-of-length-le}
 use lib.Dec.{ltb}
 use borrow.Author.Tests.{ltb-true, ltb-false}
 use Rattle.syntax.specs.Bytes.{startsWith}
 use Rattle.syntax.specs.Marks.{Mark, moveUp}
-use Rattle.syntax.specs.Reader.{ok}
 use Rattle.syntax.specs.Helper.{skipBlankBlock}
 use Rattle.syntax.specs.Pattern.{usedBy}
 use Rattle.syntax.specs.Expression.{level}
-use Rattle.syntax.specs.Core.{getEntry, lineStartsAt, Error, upError, Reading, read, following, entries, parse}
-use Rattle.laws.specs.Bytes.{Whole, whole-drop, Fresh, byCase, drop-app}
+use Rattle.syntax.specs.Core.{getEntry, lineStartsAt, Error, upError, read, following, entries, parse}
+use Rattle.laws.specs.Bytes.{whole-drop, byCase, drop-app}
 use Rattle.laws.specs.Answers.{Holds, sure-ok}
 use Rattle.laws.specs.Stable.{fresh}
 use Rattle.laws.specs.Stable.Helper.{block-sure}
@@ -28,7 +26,7 @@ use Rattle.laws.specs.Lines.Lands.{block-lands}
 use Rattle.laws.specs.File.{entries-more}
 use Rattle.laws.specs.Entries.{following-read, read-read, map-nil, weight, weight-append, weight-up, block-fresh}
 use Rattle.cut.specs.LastLine.{lastLine-drop, Tail, tail-of}
-use Rattle.cut.specs.Tree.Join.{Joint, join, used-of, no-exc}
+use Rattle.cut.specs.Tree.Join.{Joint, join, no-exc}
 use Rattle.cut.specs.Parts.{lastLine, hashes, Joins, Exception, Readings}
 
 -- the uncut file's tree is that of the parts joined, but for the exception; its errors are the second part's, moved up

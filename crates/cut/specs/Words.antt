@@ -1,19 +1,17 @@
 -- Trees and error lists as document 01 compares them, from marks and errors: reading them back, moving up and joining.
 use Prim.Native.Nat.{ℕ, _+_, _≤_}
-use native.Mathlib.Omega.{arith}
 use mathlib.Core.Path.{_≡_, refl, sym, ap, ap₂, _∙_}
-use mathlib.Core.Bool.{Bool, true, false}
 use mathlib.Core.List.{List, [], _∷_, _++_, map, append-assoc}
-use lib.ListN.{length, take, drop, length-append, length-map}
+use lib.ListN.{length, length-append, length-map}
 use lib.Seq.{take-at, drop-at}
 use Rattle.syntax.specs.declared.errors.ErrorKind.{ErrorKind}
 use Rattle.syntax.specs.declared.errors.ErrorKind.the-variants as Kinds
 use Rattle.syntax.specs.Marks.{Mark, plain, placed, kindOf, placeOf, up, moveUp}
 use Rattle.syntax.specs.Errors.{wordsOf, upKind}
 use Rattle.syntax.specs.Core.{Error, upError}
-use Rattle.syntax.specs.Layout.{treeWords, groupSize, group, groups, errorNumber, errorWords, hasPlace, marksBy}
+use Rattle.syntax.specs.Layout.{treeWords, groupSize, group, groups, errorNumber, errorWords, marksBy}
 use Rattle.laws.specs.Moving.{map-append}
-use Rattle.laws.specs.Layout.{tree-kinds, tree-places, error-kinds, error-groups, Proper, AllProper, proper-marks}
+use Rattle.laws.specs.Layout.{tree-kinds, tree-places, error-kinds, error-groups, AllProper, proper-marks}
 use Rattle.cut.specs.Claim.{Tree, Errors, treeIn, errorsIn, movePlaces, hasSpan, moveGroup, moveGroups, joinTrees, joinErrors}
 
 unfoldable pub ofMarks : List Mark → Tree

@@ -1,22 +1,23 @@
--- A reading call that is accepted: what was read, that it stands in the slices, and that the writing call takes it.
+-- Calls that are accepted. Of a reading: what was read, that it stands in the slices, and that the writing call takes it. Of a writing: its text.
 use Prim.Native.Nat.{ℕ}
 use native.Mathlib.Omega.{arith}
-use mathlib.Core.Path.{_≡_, refl, sym, ap, _∙_}
+use mathlib.Core.Path.{_≡_, refl, ap, _∙_}
 use mathlib.Core.Bool.{Bool, true, false}
-use mathlib.Core.List.{List, [], _∷_, _++_}
+use mathlib.Core.List.{List, _++_}
 use mathlib.Core.Option.{Option, some, none}
 use lib.ListN.{length, drop}
 use lib.Dec.{ltb}
 use borrow.Author.Tests.{ltb-false}
-use Rattle.utf8.specs.Utf8.{firstIllFormed}
+use Rattle.utf8.specs.Utf8.{firstIllFormed, isBoundary}
 use Rattle.syntax.specs.declared.answer.Answer.{Answer}
-use Rattle.syntax.specs.declared.answer.Answer.the-variants.{Accepted, TooLong, NotUtf8, TreeTooShort, ErrorsTooShort, TooDeep, OutputTooShort}
+use Rattle.syntax.specs.declared.answer.Answer.the-variants.{Accepted, OutputTooShort}
 use Rattle.syntax.specs.Limits.{maxLength, maxOpen}
 use Rattle.syntax.specs.Marks.{Mark}
 use Rattle.syntax.specs.Core.{Error, Reading, read, refused, parse}
 use Rattle.syntax.specs.Layout.{treeCapacity, treeLayout, errorLayout, treeWords, errorWords, marksIn}
 use Rattle.syntax.specs.Serializer.{serialize}
-use Rattle.syntax.specs.Writing.{sizesFit, writeAnswer}
+use Rattle.syntax.specs.Shape.{verdict}
+use Rattle.syntax.specs.Writing.{sizesFit, writeAnswer, textOver, outputAfter}
 use Rattle.syntax.specs.Reading.{answerOf, readAnswer, sliceAfter, marksOf, errorsOf, treeAfter, errorsAfter}
 use Rattle.laws.specs.Bytes.{byCase}
 use Rattle.laws.specs.File.{parse-read}
@@ -26,6 +27,32 @@ use Rattle.laws.specs.Formed.{proper, verdict-none}
 -- the writing call's answer for a text of n bytes and an output of o
 abbrev pub written : (o n : ℕ) → Answer
 written o n = elim (ltb o n) [ true ↦ OutputTooShort n | false ↦ Accepted n ]
+
+-- an accepted writing: the answer is the text's length, and the output starts with the text
+module _ (s t o : List ℕ) (junk : Bool) {v : ℕ} (h : writeAnswer s t (length o) junk ≡ Accepted v) where
+  of-shape : ltb maxLength (length s) ≡ false → firstIllFormed s ≡ none → sizesFit t ≡ true → (x : Option ℕ) → verdict (isBoundary s) maxOpen (marksIn t) ≡ x
+      → v ≡ length (serialize s junk (marksIn t))
+  unfolding writeAnswer
+  of-shape q e f (some k) w = let g = rw (q, writeAnswer, e, f, w) at h in let z : _≡_ {A = ℕ} 0 1 = cc in absurd (omega arith)
+  of-shape q e f none w =
+      byCase (ltb (length o) (length (serialize s junk (marksIn t))))
+      (λ l. let g = rw (q, writeAnswer, e, f, w, l) at h in let z : _≡_ {A = ℕ} 0 1 = cc in absurd (omega arith))
+      (λ l. let g = rw (q, writeAnswer, e, f, w, l) at h in cc)
+
+  of-source : ltb maxLength (length s) ≡ false → (x : Option ℕ) → firstIllFormed s ≡ x → v ≡ length (serialize s junk (marksIn t))
+  unfolding writeAnswer
+  of-source q (some k) e = let g = rw (q, writeAnswer, e) at h in let z : _≡_ {A = ℕ} 0 1 = cc in absurd (omega arith)
+  of-source q none e =
+      byCase (sizesFit t) (λ f. of-shape q e f _ refl) (λ f. let g = rw (q, writeAnswer, e, f) at h in let z : _≡_ {A = ℕ} 0 1 = cc in absurd (omega arith))
+
+  pub written-size : v ≡ length (serialize s junk (marksIn t))
+  unfolding writeAnswer
+  written-size =
+      byCase (ltb maxLength (length s)) (λ q. let g = rw (q, writeAnswer) at h in let z : _≡_ {A = ℕ} 0 1 = cc in absurd (omega arith)) (λ q. of-source q _ refl)
+
+  pub written-output : outputAfter s t o junk ≡ serialize s junk (marksIn t) ++ drop (length (serialize s junk (marksIn t))) o
+  unfolding outputAfter textOver
+  written-output = ap (λ z. textOver z (serialize s junk (marksIn t)) o) h
 
 pub record Read (s t e : List ℕ) : Type 0 where
   pub marks : List Mark

@@ -160,7 +160,3 @@ bind-bind {A} {B} {C} p q r s = go (p s)
     go (ok a ms k) = next-after s ms k r (q a (drop k s))
     go (bad f k) = refl
     go (deep k) = refl
-
-pub then-then : {A B C : Type 0} (p : Reader A) (q : Reader B) (r : Reader C) (s : List ℕ) → ((p >> q) >> r) s ≡ (p >> (q >> r)) s
-unfolding _>>_ _>>=_
-then-then p q r s = bind-bind p (λ _. q) (λ _. r) s

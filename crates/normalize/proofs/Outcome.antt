@@ -2,54 +2,28 @@
 use Prim.Native.Nat.{ℕ, _≤_}
 use native.Mathlib.Omega.{arith}
 use mathlib.Core.Path.{_≡_, refl, sym, ap, _∙_}
-use mathlib.Core.Bool.{true, false}
-use mathlib.Core.List.{List, [], _∷_, _++_}
-use mathlib.Core.Option.{Option, some, none}
+use mathlib.Core.Bool.{true}
+use mathlib.Core.List.{List, [], _∷_}
 use lib.ListN.{length, length-append, drop}
-use lib.Dec.{ltb}
-use Rattle.utf8.specs.Utf8.{firstIllFormed, isBoundary}
 use types.Run.{OneOf, miss}
 use denote.Enum.Declared.{tagOf}
 use Rattle.syntax.specs.declared.answer.Answer.{Answer}
 use Rattle.syntax.specs.declared.answer.Answer.the-variants.{Accepted, TooLong, NotUtf8, TreeTooShort, ErrorsTooShort, TooDeep, IllFormed, OutputTooShort}
 use Rattle.syntax.proofs.answer.Answer.{the-type}
-use Rattle.syntax.specs.Limits.{maxLength, maxOpen}
 use Rattle.syntax.specs.Layout.{marksIn}
-use Rattle.syntax.specs.Shape.{verdict}
 use Rattle.syntax.specs.Serializer.{serialize}
 use Rattle.syntax.specs.Reading.{readAnswer, treeAfter}
-use Rattle.syntax.specs.Writing.{sizesFit, writeAnswer, textOver, outputAfter}
-use Rattle.laws.specs.Bytes.{byCase}
+use Rattle.syntax.specs.Writing.{writeAnswer, outputAfter}
+use Rattle.laws.specs.Call.{written-size, written-output}
 use Rattle.parser.specs.Call.{DidRead}
 use Rattle.serializer.specs.Call.{DidWrite}
 use Rattle.normalize.specs.Normal.{whereAccepted, Normalized}
 
-module _ (s t : List ℕ) (o : ℕ) {v : ℕ} (h : writeAnswer s t o true ≡ Accepted v) where
-  shaped : ltb maxLength (length s) ≡ false → firstIllFormed s ≡ none → sizesFit t ≡ true → (x : Option ℕ) → verdict (isBoundary s) maxOpen (marksIn t) ≡ x → v ≡ length (serialize s true (marksIn t))
-  unfolding writeAnswer
-  shaped q e f (some k) w = let g = rw (q, writeAnswer, e, f, w) at h in let z : _≡_ {A = ℕ} 0 1 = cc in absurd (omega arith)
-  shaped q e f none w =
-      byCase (ltb o (length (serialize s true (marksIn t))))
-      (λ l. let g = rw (q, writeAnswer, e, f, w, l) at h in let z : _≡_ {A = ℕ} 0 1 = cc in absurd (omega arith))
-      (λ l. let g = rw (q, writeAnswer, e, f, w, l) at h in cc)
-
-  formed : ltb maxLength (length s) ≡ false → (x : Option ℕ) → firstIllFormed s ≡ x → v ≡ length (serialize s true (marksIn t))
-  unfolding writeAnswer
-  formed q (some k) e = let g = rw (q, writeAnswer, e) at h in let z : _≡_ {A = ℕ} 0 1 = cc in absurd (omega arith)
-  formed q none e = byCase (sizesFit t) (λ f. shaped q e f _ refl) (λ f. let g = rw (q, writeAnswer, e, f) at h in let z : _≡_ {A = ℕ} 0 1 = cc in absurd (omega arith))
-
-  -- the answer is the text's length
-  size-is : v ≡ length (serialize s true (marksIn t))
-  unfolding writeAnswer
-  size-is = byCase (ltb maxLength (length s)) (λ q. let g = rw (q, writeAnswer) at h in let z : _≡_ {A = ℕ} 0 1 = cc in absurd (omega arith)) (λ q. formed q _ refl)
-
 -- the output has the text
 written-fits : (s t o o′ : List ℕ) {v : ℕ} → writeAnswer s t (length o) true ≡ Accepted v → o′ ≡ outputAfter s t o true → v ≤ length o′
-unfolding outputAfter textOver
 written-fits s t o o′ h w =
     let text = serialize s true (marksIn t) in
-    let p : o′ ≡ text ++ drop (length text) o = w ∙ ap (λ z. textOver z text o) h in
-    omega (arith, size-is s t (length o) h, ap length p, length-append text (drop (length text) o))
+    omega (arith, written-size s t o true h, ap length (w ∙ written-output s t o true h), length-append text (drop (length text) o))
 
 module _ (s t e o o′ : List ℕ) {v : ℕ} where
   fits : (a : Answer) → whereAccepted a (writeAnswer s (treeAfter s t e) (length o) true) (λ b. b) ≡ Accepted v → o′ ≡ whereAccepted a (outputAfter s (treeAfter s t e) o true) (λ b. o) → v ≤ length o′

@@ -1,27 +1,27 @@
 -- The parts of expressions, variants and arguments, and their pieces in a row.
-use Prim.Native.Nat.{ℕ, _+_, _≤_}
+use Prim.Native.Nat.{ℕ, _+_}
 use native.Mathlib.Omega.{arith}
-use mathlib.Core.Path.{_≡_, refl, sym, ap, ap₂, _∙_}
-use mathlib.Core.Bool.{Bool, true, false, _||_}
+use mathlib.Core.Path.{_≡_, refl, sym, ap, _∙_}
+use mathlib.Core.Bool.{Bool, false, _||_}
 use mathlib.Core.List.{List, [], _∷_}
 use lib.Dec.{eqb}
 use lib.ListN.{length}
-use borrow.Author.Tests.{eqb-true, eq-eqb, ne-eqb}
+use borrow.Author.Tests.{eq-eqb, ne-eqb}
 use Rattle.utf8.specs.Utf8.{isBoundary}
 use Rattle.syntax.specs.Kind as Kind
 use Rattle.syntax.specs.Bytes.{ascii}
 use Rattle.syntax.specs.Marks.{Mark}
 use Rattle.syntax.specs.Layout.{marksIn}
-use Rattle.syntax.specs.Shape.{start, among, models, finalBy, final, inline}
-use Rattle.syntax.specs.Serializer.{Node, nodesFrom, nodes, Piece, _⊕_, empty, literal, newline, indented, star, each, if, first, ofKind, name, reference}
+use Rattle.syntax.specs.Shape.{among, models, finalBy, final, inline}
+use Rattle.syntax.specs.Serializer.{Node, nodesFrom, nodes, _⊕_, literal, newline, indented, star, each, if, first, ofKind, name, reference}
 use Rattle.laws.specs.Bytes.{clash}
 use Rattle.laws.specs.Shape.Run.{otherwise, child-rule}
-use Rattle.laws.specs.Text.{patternOf, expressionOf, selectOf, variantOf, inlineOf, argumentsOf, separatedOf, argumentOf}
+use Rattle.laws.specs.Text.{expressionOf, selectOf, variantOf, inlineOf, separatedOf, argumentOf}
 use Rattle.laws.specs.Text as Text
 use Rattle.serializer.specs.Walk.{kindAt, nodeAt, after, innerAt, At, TextAt, OneAt, Open}
 use Rattle.serializer.specs.Serialize.{expressions, variants, arguments, references, patternIn, selectIn, argumentsIn, variantLines, sigil, quoted, referenceOf, keyAt, argumentName, Call, Named}
 use Rattle.serializer.specs.Serialize as Spec
-use Rattle.serializer.proofs.Pieces.{Row, one, two, three, four, row-same, then-assoc, then-empty}
+use Rattle.serializer.proofs.Pieces.{Row, one, two, three, four, row-same, then-assoc}
 use Rattle.serializer.proofs.Walk.{at-kind, node-kind, enter, Entered}
 use Rattle.serializer.proofs.Children.{must, only, at-as, others, keeps, omits}
 use Rattle.serializer.proofs.Variants.{Pair, variant-pair, argument-pair}

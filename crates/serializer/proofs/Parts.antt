@@ -1,5 +1,5 @@
 -- The parts of each node that is written, and their pieces in a row.
-use Prim.Native.Nat.{ℕ, _+_, _≤_, _<_}
+use Prim.Native.Nat.{ℕ, _+_, _≤_}
 use native.Mathlib.Omega.{arith}
 use mathlib.Core.Path.{_≡_, refl, sym, ap, _∙_}
 use mathlib.Core.Bool.{Bool, true, false, _&&_, not}
@@ -10,19 +10,17 @@ use borrow.Author.Tests.{eqb-true, eq-eqb, ne-eqb}
 use Rattle.syntax.specs.Kind as Kind
 use Rattle.syntax.specs.Bytes.{ascii}
 use Rattle.syntax.specs.Marks.{Mark}
-use Rattle.syntax.specs.Shape.{start, among, models, finalBy, final, inline}
-use Rattle.syntax.specs.Serializer.{Node, nodesFrom, nodes, Piece, _⊕_, empty, literal, newline, indented, star, each, if, first, ofKind, name, leadingDot, isMultiline, reference}
-use Rattle.laws.specs.Bytes.{byCase, clash}
-use Rattle.laws.specs.Text.{patternOf, elementOf, inBracesOf, expressionOf, selectOf, variantOf, inlineOf, argumentsOf, separatedOf, argumentOf, namedArgumentOf}
+use Rattle.syntax.specs.Shape.{among, models, finalBy, final, inline}
+use Rattle.syntax.specs.Serializer.{Node, nodesFrom, nodes, _⊕_, literal, newline, indented, each, first, name, leadingDot, isMultiline}
+use Rattle.laws.specs.Bytes.{byCase}
+use Rattle.laws.specs.Text.{elementOf, inBracesOf, expressionOf, inlineOf}
 use Rattle.laws.specs.Text as Text
-use Rattle.serializer.specs.Walk.{kindAt, nodeAt, after, innerAt, At, TextAt, OneAt, Inside, Open, elements}
-use Rattle.serializer.specs.Serialize.{expressions, variants, arguments, references, patternIn, selectIn, argumentsIn, variantLines, openingBraces, closingBraces, bracesOf, sigil, quoted, referenceOf, keyAt, argumentName, Call}
-use Rattle.serializer.specs.Serialize as Spec
-use Rattle.serializer.proofs.Pieces.{Row, row, one, two, three, four, row-same, then-assoc, then-empty}
+use Rattle.serializer.specs.Walk.{kindAt, nodeAt, after, innerAt, At, OneAt, elements}
+use Rattle.serializer.specs.Serialize.{expressions, patternIn, selectIn, openingBraces, closingBraces, bracesOf}
+use Rattle.serializer.proofs.Pieces.{Row, row, one, two, three, row-same}
 use Rattle.serializer.proofs.Walk.{at-kind, node-kind, enter, Entered}
-use Rattle.serializer.proofs.Children.{Follows, must, none, text-one, only, at-as, others, keeps, omits}
-use Rattle.serializer.proofs.Patterns.{element-text, element-placeable}
-use Rattle.serializer.proofs.Variants.{Pair}
+use Rattle.serializer.proofs.Children.{must, none, only, at-as, others}
+use Rattle.serializer.proofs.Patterns.{element-placeable}
 
 module _ (source : List ℕ) {boundary : ℕ → Bool} {ms : List Mark} {i : ℕ} where
   -- a pattern, on lines of its own or not

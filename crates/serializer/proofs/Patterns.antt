@@ -11,7 +11,7 @@ use Rattle.syntax.specs.Byte as Byte
 use Rattle.syntax.specs.Kind as Kind
 use Rattle.syntax.specs.Marks.{Mark}
 use Rattle.syntax.specs.Shape.{start, among, models, finalBy, final}
-use Rattle.syntax.specs.Serializer.{nodesFrom, nodes, textOf, isSelect, hasNewline, multilineElement, isMultiline}
+use Rattle.syntax.specs.Serializer.{nodesFrom, nodes, textOf, hasNewline, multilineElement, isMultiline}
 use Rattle.laws.specs.Bytes.{byCase, clash}
 use Rattle.serializer.specs.Walk.{kindAt, nodeAt, after, innerAt, At, NodeAt, TextAt, OneAt, Open, elements}
 use Rattle.serializer.proofs.Walk.{at-kind, node-kind, enter, Selects}

@@ -13,7 +13,7 @@ use Rattle.syntax.specs.Kind as Kind
 use Rattle.syntax.specs.Bytes.{ascii}
 use Rattle.syntax.specs.Marks.{Mark}
 use Rattle.syntax.specs.Layout.{marksIn}
-use Rattle.syntax.specs.Shape.{start, among, models, step, final}
+use Rattle.syntax.specs.Shape.{start, among, models, step}
 use Rattle.syntax.specs.Serializer.{Node, nodesFrom, nodes, Piece, _⊕_, empty, literal, each, if, ofKind, name, reference}
 use Rattle.laws.specs.Bytes.{byCase, clash}
 use Rattle.laws.specs.Shape.Run.{otherwise, everyMove, child-rule, rule, end-rule}
@@ -22,7 +22,7 @@ use Rattle.serializer.specs.Serialize.{references, sigil, quoted, refere
 use Rattle.serializer.specs.Serialize as Spec
 use Rattle.serializer.proofs.Pieces.{Row, two, three, row-same, then-empty, empty-then}
 use Rattle.serializer.proofs.Walk.{Next, ends, goes, next, at-kind, node-kind, enter, text-after}
-use Rattle.serializer.proofs.Children.{Follows, Leads, none, text-one, only, keeps, omits}
+use Rattle.serializer.proofs.Children.{Follows, none, text-one, only, keeps, omits}
 
 pub quoted-row : (source : List ℕ) (n : Node) → Row (quoted source n) (literal (ascii "\"") ∷ name source n ∷ literal (ascii "\"") ∷ [])
 unfolding quoted

@@ -11,7 +11,7 @@ use Rattle.syntax.specs.Layout.{count, marksIn}
 use Rattle.syntax.specs.Writing.{sizesFit}
 use Rattle.syntax.specs.Serializer.{Node, nodesFrom, nodes, Piece, _⊕_, empty}
 use Rattle.serializer.specs.declared.serializer.Serializer.{Serializer}
-use Rattle.serializer.specs.Writer.{Room, Wrote}
+use Rattle.serializer.specs.Writer.{Wrote}
 use Rattle.serializer.specs.Walk.{kindAt, nodeAt, after, innerAt, Open}
 use Rattle.serializer.specs.Serialize.{Ready, Done, ReadyIn}
 use Rattle.serializer.proofs.Check.{sizes}

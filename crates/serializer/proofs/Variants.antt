@@ -1,5 +1,5 @@
 -- Variants and named arguments: their first children, and the pieces of their parts.
-use Prim.Native.Nat.{ℕ, _+_, _≤_}
+use Prim.Native.Nat.{ℕ, _+_}
 use native.Mathlib.Omega.{arith}
 use mathlib.Core.Path.{_≡_, refl, sym, ap, _∙_}
 use mathlib.Core.Bool.{Bool, true, false}
@@ -11,7 +11,7 @@ use Rattle.syntax.specs.Kind as Kind
 use Rattle.syntax.specs.Bytes.{ascii}
 use Rattle.syntax.specs.Marks.{Mark}
 use Rattle.syntax.specs.Shape.{among, models, finalBy, final, inline}
-use Rattle.syntax.specs.Serializer.{Node, nodesFrom, nodes, Piece, literal, star, if, name}
+use Rattle.syntax.specs.Serializer.{Node, nodesFrom, nodes, literal, star, if, name}
 use Rattle.laws.specs.Bytes.{byCase, clash}
 use Rattle.laws.specs.Shape.Run.{everyChild}
 use Rattle.serializer.specs.Walk.{kindAt, nodeAt, after, innerAt, At, TextAt, OneAt, Inside}

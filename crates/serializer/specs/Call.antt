@@ -10,7 +10,6 @@ use Rattle.syntax.specs.declared.answer.Answer.{Answer}
 use Rattle.syntax.specs.Limits.{maxLength, maxOpen}
 use Rattle.syntax.specs.Layout.{marksIn}
 use Rattle.syntax.specs.Shape.{verdict}
-use Rattle.syntax.specs.Serializer.{serialize}
 use Rattle.syntax.specs.Writing.{sizesFit, writeAnswer, textOver, outputAfter}
 use Rattle.laws.specs.Call.{written}
 

@@ -1,26 +1,24 @@
 -- The nodes of a reading.
-use Prim.Native.Nat.{ℕ, zero, suc, _+_, _-_, _≤_, _<_, min}
+use Prim.Native.Nat.{ℕ, zero, suc, _+_, _-_, _≤_, _<_}
 use native.Mathlib.Nat.{not-suc-le-zero}
 use native.Mathlib.Omega.{arith}
-use mathlib.Core.Path.{_≡_, refl, sym, ap, ap₂, _∙_, subst}
-use mathlib.Core.Logic.{_⊎_, inl, inr}
-use mathlib.Core.Bool.{Bool, true, false, _&&_, _||_, not}
-use mathlib.Core.List.{List, [], _∷_, _++_, map, append-nil}
-use lib.ListN.{drop, length, length-drop, drop-of-length-le}
+use mathlib.Core.Path.{_≡_, refl, sym, ap, _∙_, subst}
+use mathlib.Core.Bool.{Bool, true, false, _&&_}
+use mathlib.Core.List.{List, [], _∷_, _++_, map}
+use lib.ListN.{drop, length}
 use lib.Dec.{eqb, ltb}
-use borrow.Author.Tests.{eqb-true, eqb-false, ltb-true, ltb-false, ne-eqb, lt-ltb}
-use Rattle.syntax.specs.Marks.{Mark, plain, placed, kindOf, moveUp, node, textNode}
+use borrow.Author.Tests.{ltb-true, ltb-false, ne-eqb, lt-ltb}
+use Rattle.syntax.specs.Marks.{Mark, placed, moveUp, node, textNode}
 use Rattle.syntax.specs.declared.errors.ParserError.{ParserError}
-use Rattle.syntax.specs.Reader.{Out, ok, bad, deep, repeat}
+use Rattle.syntax.specs.Reader.{Out, ok, bad, deep}
 use Rattle.syntax.specs.Helper.{skipBlankBlock}
-use Rattle.syntax.specs.Comment.{levelOf, getComment, commentTurn}
 use Rattle.syntax.specs.Pattern.{Inside, usedBy}
-use Rattle.syntax.specs.Core.{Entry, comment, message, term, getEntry, junkEnd, Error, upError, Reading, read, refused, following, isNamed, kindOfEntry, entries}
+use Rattle.syntax.specs.Core.{Entry, comment, message, term, getEntry, junkEnd, Error, Reading, read, refused, following, isNamed, kindOfEntry, entries}
 use Rattle.syntax.specs.Serializer.{Node, nodes, nodesFrom}
-use Rattle.laws.specs.Bytes.{Whole, whole-drop, Fresh, byCase, clash}
-use Rattle.laws.specs.Answers.{Holds, sure-ok}
+use Rattle.laws.specs.Bytes.{Whole, whole-drop, byCase, clash}
+use Rattle.laws.specs.Answers.{sure-ok}
 use Rattle.laws.specs.Stable.Helper.{block-sure}
-use Rattle.laws.specs.Entries.{following-read, entries-with, not-deep, Step, step-of, nil-named}
+use Rattle.laws.specs.Entries.{entries-with, not-deep, Step, step-of, nil-named}
 use Rattle.cut.specs.Tree.Join.{and-false}
 use Rattle.laws.specs.Balanced.{Levels}
 use Rattle.laws.specs.Formed.Pattern.{InsideFormed}

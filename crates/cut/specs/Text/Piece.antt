@@ -1,16 +1,13 @@
 -- The normal texts of entries in a row.
-use Prim.Native.Nat.{ℕ, zero, suc, _+_, _-_, _≤_, _<_}
-use native.Mathlib.Omega.{arith}
-use mathlib.Core.Path.{_≡_, refl, sym, ap, ap₂, _∙_, subst}
-use mathlib.Core.Logic.{_⊎_, inl, inr}
-use mathlib.Core.Bool.{Bool, true, false, _&&_, _||_, not}
-use mathlib.Core.List.{List, [], _∷_, _++_, map, append-nil, append-assoc}
-use lib.ListN.{drop, length, take}
-use lib.Dec.{eqb, ltb}
-use borrow.Author.Tests.{eqb-true, eqb-false}
-use Rattle.syntax.specs.Marks.{Mark, moveUp}
+use Prim.Native.Nat.{ℕ, _+_, _-_}
+use mathlib.Core.Path.{_≡_, refl, sym, ap, ap₂, _∙_}
+use mathlib.Core.Bool.{Bool, true, false, _||_, not}
+use mathlib.Core.List.{List, [], _∷_, _++_, append-nil, append-assoc}
+use lib.Dec.{eqb}
+use borrow.Author.Tests.{eqb-true}
+use Rattle.syntax.specs.Marks.{Mark}
 use Rattle.syntax.specs.Serializer as Ser
-use Rattle.syntax.specs.Serializer.{Node, nodes, Piece, lastOf, _⊕_, literal, newline, indented, empty}
+use Rattle.syntax.specs.Serializer.{Node, nodes, Piece, lastOf, _⊕_, literal, newline, empty}
 use Rattle.laws.specs.Bytes.{byCase, clash}
 
 lastOf-append : (b : ℕ) (s t : List ℕ) → lastOf b (s ++ t) ≡ lastOf (lastOf b s) t

@@ -1,14 +1,14 @@
 -- The normal text reads the source only at its places.
-use Prim.Native.Nat.{ℕ, zero, suc, _+_, _-_, _≤_, _<_}
-use mathlib.Core.Path.{_≡_, refl, sym, ap, ap₂, _∙_, subst, fun-ext}
+use Prim.Native.Nat.{ℕ, zero, suc, _+_, _-_}
+use mathlib.Core.Path.{_≡_, refl, ap, ap₂, _∙_}
 use mathlib.Core.Bool.{Bool, true, false, _&&_, _||_, not}
-use mathlib.Core.List.{List, [], _∷_, _++_, map}
+use mathlib.Core.List.{List, [], _∷_, map}
 use lib.ListN.{drop, length, take, length-map}
-use lib.Dec.{eqb, ltb}
+use lib.Dec.{eqb}
 use Rattle.syntax.specs.Bytes.{startsWith}
 use Rattle.syntax.specs.Marks.{Mark, plain, placed, up, moveUp}
 use Rattle.syntax.specs.Serializer as Ser
-use Rattle.syntax.specs.Serializer.{Node, nodes, Piece, _⊕_, literal, newline, indented, star, empty}
+use Rattle.syntax.specs.Serializer.{Node, nodes, Piece, _⊕_, literal, newline, indented, star}
 use Rattle.laws.specs.Balanced.Nodes.{upNode, nodes-up, OkMark, OkMarks, OkNode, OkNodes, ok-nodes}
 
 abbrev choice : Bool → Piece → Piece → Piece

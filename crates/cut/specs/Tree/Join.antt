@@ -1,36 +1,35 @@
 -- The entries of a file that is cut.
 use Prim.Native.Nat.{ℕ, zero, suc, _+_, _-_, _≤_, _<_}
-use native.Mathlib.Nat.{not-suc-le-zero, le-of-suc-le-suc, add-zero, zero-add, suc-add, add-suc, add-assoc}
+use native.Mathlib.Nat.{not-suc-le-zero, add-zero, suc-add, add-assoc}
 use native.Mathlib.Omega.{arith}
 use mathlib.Core.Path.{_≡_, refl, sym, ap, ap₂, _∙_, subst}
 use mathlib.Core.Logic.{_⊎_, inl, inr}
 use mathlib.Core.Bool.{Bool, true, false, _&&_, _||_, not}
 use mathlib.Core.List.{List, [], _∷_, _++_, map, append-nil, append-assoc}
-use lib.ListN.{drop, length, take, length-drop, length-take, length-append, drop-of-length-le}
-use lib.Seq.{drop-drop, drop-length, drop-append-seam}
+use lib.ListN.{drop, length, length-drop, length-append, drop-of-length-le}
+use lib.Seq.{drop-drop}
 use lib.Dec.{eqb, ltb}
-use borrow.Author.Tests.{eqb-true, eqb-false, ltb-true, ltb-false, eq-eqb, ne-eqb}
-use Rattle.syntax.specs.Bytes.{startsWith, isLetter, run}
+use borrow.Author.Tests.{eqb-true, eqb-false, ltb-true, ltb-false, eq-eqb}
+use Rattle.syntax.specs.Bytes.{startsWith, run}
 use Rattle.syntax.specs.Marks.{Mark, moveUp, node}
-use Rattle.syntax.specs.declared.errors.ParserError.{ParserError}
 use Rattle.syntax.specs.Reader.{Out, ok, bad, deep, after, loop, repeat}
 use Rattle.syntax.specs.Helper.{skipBlankBlock, blockTurn}
 use Rattle.syntax.specs.Comment.{getComment, commentTurn}
 use Rattle.syntax.specs.Pattern.{Inside, usedBy}
 use Rattle.syntax.specs.Core.{Fields, fields, termFields, Entry, comment, message, term, asMessage, asTerm, asComment, getEntry, lineStartsAt, Error, upError, Reading, read, refused, following, isNamed, kindOfEntry, entries}
-use Rattle.laws.specs.Bytes.{Whole, whole-tail, whole-drop, Fresh, isFresh, Stop, stop-fresh, byCase, clash, drop-app}
-use Rattle.laws.specs.Answers.{Holds, Sure, sure-ok}
-use Rattle.laws.specs.Stable.{Mode, loose, fresh, Within, Carries}
+use Rattle.laws.specs.Bytes.{Whole, whole-drop, Fresh, Stop, stop-fresh, byCase, clash, drop-app}
+use Rattle.laws.specs.Answers.{Holds, sure-ok}
+use Rattle.laws.specs.Stable.{fresh, Within, Carries}
 use Rattle.laws.specs.Stable.Pattern.{InsideLaw, block-within, block-same}
 use Rattle.laws.specs.Stable.Helper.{block-sure}
-use Rattle.laws.specs.Stable.Entry.{dotted, Cut, entry-ends, entry-stops}
+use Rattle.laws.specs.Stable.Entry.{Cut, entry-ends, entry-stops}
 use Rattle.laws.specs.Moving.{moveUp-append, moveUp-twice, moveUp-zero, upErrors-twice, upErrors-zero}
 use Rattle.laws.specs.Lines.{starts-add, starts-later}
-use Rattle.laws.specs.Stable.Comment.{after-ok, OneLine, Cutting, before, newline, end, Goes, GoesBy, cutting}
+use Rattle.laws.specs.Stable.Comment.{after-ok, Cutting, before, newline, end, Goes, GoesBy, cutting}
 use Rattle.laws.specs.Lines.Join.{Own, Other, own-or-other}
 use Rattle.laws.specs.Lines.Lands.{Lands, whole-lands, block-lands, entry-lands}
 use Rattle.laws.specs.File.{entries-more}
-use Rattle.laws.specs.Entries.{following-read, read-read, map-nil, weight, weight-append, weight-up, weight-node, entries-with, junk-free, not-deep, Step, step-of, block-fresh, block-ten, block-two, block-one, entry-comment, hash-named, nil-named, nil-entry, not-dotted}
+use Rattle.laws.specs.Entries.{following-read, weight, weight-append, weight-up, weight-node, entries-with, not-deep, Step, step-of, block-fresh, block-ten, block-two, block-one, entry-comment, hash-named, nil-named, nil-entry, not-dotted}
 use Rattle.cut.specs.LastLine.{lastLine-at, lastLine-drop, Tail, tail-of}
 use Rattle.cut.specs.Parts.{lastLine, hashes, Joins}
 

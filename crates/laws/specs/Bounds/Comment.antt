@@ -11,7 +11,7 @@ use Rattle.syntax.specs.Bytes.{startsWith, run, eol}
 use Rattle.syntax.specs.Reader.{ok, after, fail, done}
 use Rattle.syntax.specs.Comment.{lineLength, levelOf, lineEndUsed, lineRead, lineTurn, commentTurn, getComment}
 use Rattle.laws.specs.Bytes.{byCase, clash, pick, run-le, eol-le}
-use Rattle.laws.specs.Bounds.{uses-nil, uses-text, Bounded, used, stopped, Bounds, TurnBounded, goes, ends, turn-less, TurnBounds, repeat-bounds, first-bounded}
+use Rattle.laws.specs.Bounds.{uses-nil, uses-text, Bounded, used, stopped, TurnBounded, goes, ends, turn-less, TurnBounds, first-bounded}
 
 pub lineLength-le : (s : List ℕ) → lineLength s ≤ length s
 unfolding lineLength
@@ -70,10 +70,6 @@ module _ {n : ℕ} where
 
   pub commentTurn-bounds : TurnBounds n commentTurn
   commentTurn-bounds = record { on = λ level s. turn-less (omega arith) (omega arith) (turn-bounded level 0 s (omega arith) (λ _. refl) (λ _. refl)) }
-
-  pub comment-bounds : Bounds n (λ _. 0) getComment
-  unfolding getComment
-  comment-bounds = record { on = repeat-bounds commentTurn-bounds 0 .on }
 
   pub comment-bounded : (s : List ℕ) → startsWith 35 s ≡ true → Bounded n (λ _. 6) s (getComment s)
   unfolding getComment

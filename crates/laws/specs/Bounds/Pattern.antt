@@ -304,10 +304,6 @@ module _ {n : ℕ} {sub : Inside} (law : InsideBounds n sub) where
       (λ q. pick (TurnGrows st) (isLineStart (st .role)) _ _ (λ l. line-grows st (spaces (b ∷ bs)) (drop (spaces (b ∷ bs)) (b ∷ bs)))
       (λ l. withText-grows st 0 (getTextSlice (b ∷ bs)) (slice-sized (b ∷ bs))))
 
-  -- part way: what a turn adds has room
-  pub again-grown : (st : State) (s : List ℕ) {st′ : State} {ms : List Mark} {k : ℕ} → patternTurn sub st s ≡ again st′ ms k → Grown st → Grown st′ × (st′ .used ≡ st .used + k)
-  again-grown st s e = subst (TurnGrows st) e (turn-grows st s)
-
   -- at the end of a pattern's loop, as its source counts
   pub pattern-grown : (s : List ℕ)
       → let st = firstState s in Holds (λ st′ ms k. Grown st′ × (st′ .used ≤ k)) (after [] (st .used) (repeat (patternTurn sub) st (drop (st .used) s)))

@@ -2,15 +2,15 @@
 use Prim.Native.Nat.{ℕ}
 use Rattle.syntax.specs.Helper.{blankTurn, blockTurn}
 use Rattle.syntax.specs.Comment.{commentTurn}
-use Rattle.syntax.specs.Pattern.{Inside, patternTurn}
-use Rattle.syntax.specs.Expression.{stringTurn, argumentTurn, variantTurn}
+use Rattle.syntax.specs.Pattern.{Inside}
+use Rattle.syntax.specs.Expression.{stringTurn}
 use Rattle.syntax.specs.Core.{attributeTurn}
 use Rattle.laws.specs.Loop.{Moves}
 use Rattle.laws.specs.Bounds.{moves}
 use Rattle.laws.specs.Bounds.Helper.{blankTurn-bounds, blockTurn-bounds}
 use Rattle.laws.specs.Bounds.Comment.{commentTurn-bounds}
-use Rattle.laws.specs.Bounds.Pattern.{InsideBounds, patternTurn-bounds}
-use Rattle.laws.specs.Bounds.Expression.{stringTurn-bounds, argumentTurn-bounds, variantTurn-bounds}
+use Rattle.laws.specs.Bounds.Pattern.{InsideBounds}
+use Rattle.laws.specs.Bounds.Expression.{stringTurn-bounds}
 use Rattle.laws.specs.Bounds.Entry.{attributeTurn-bounds}
 
 pub blankTurn-moves : Moves blankTurn
@@ -27,14 +27,5 @@ stringTurn-moves = moves (stringTurn-bounds {n = 0})
 
 -- where what is nested is bounded, as at each level (`level-bounds`)
 module _ {n : ℕ} {sub : Inside} (law : InsideBounds n sub) where
-  pub patternTurn-moves : Moves (patternTurn sub)
-  patternTurn-moves = moves (patternTurn-bounds law)
-
-  pub argumentTurn-moves : Moves (argumentTurn sub)
-  argumentTurn-moves = moves (argumentTurn-bounds law)
-
-  pub variantTurn-moves : Moves (variantTurn sub)
-  variantTurn-moves = moves (variantTurn-bounds law)
-
   pub attributeTurn-moves : Moves (attributeTurn sub)
   attributeTurn-moves = moves (attributeTurn-bounds law)

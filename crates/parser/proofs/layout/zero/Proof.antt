@@ -1,9 +1,8 @@
 -- `layout::zero` meets its contract: a turn writes one more zero.
 use Prim.Native.Nat.{_-_, _≤_}
 use native.Mathlib.Omega.{arith}
-use mathlib.Core.Path.{_≡_, refl, sym, ap, _∙_}
+use mathlib.Core.Path.{_≡_, refl, ap, _∙_}
 use lib.ListN.{length, set, length-set}
-use borrow.Author.Needs.{needs}
 use Rattle.parser.proofs.Zeros.{zeroed, zeroed-none, zeroed-more}
 use Rattle.parser.proofs.layout.zero.Statement.{statement}
 use Rattle.parser.proofs.layout.zero.Tie as tie

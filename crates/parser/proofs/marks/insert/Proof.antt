@@ -2,15 +2,12 @@
 use Prim.Native.Nat.{_-_, _+_}
 use mathlib.Core.Path.{_∙_}
 use native.Mathlib.Omega.{arith}
-use borrow.Author.Needs.{needs, scaled-fits}
+use borrow.Author.Needs.{scaled-fits}
 use lib.ListN.{length, length-set}
 use Rattle.parser.specs.Tree.{word}
 use Rattle.parser.proofs.Insert.{Inserting, inserting-none, inserting-more, inserting-end}
 use Rattle.parser.proofs.marks.insert.Statement.{statement}
 use Rattle.parser.proofs.marks.insert.Tie as tie
-use Rattle.parser.proofs.marks.insert.Reads as reads
-use Rattle.parser.proofs.marks.insert.Lts as lts
-use Rattle.parser.proofs.marks.put.Reads as put-reads
 
 abbrev Inv-loop : tie.InvT-loop
 Inv-loop tree₀ cap from n kind i₀ carried₀ place₀ tree i carried place = Inserting cap from n (word kind 0) tree₀ tree i carried place
