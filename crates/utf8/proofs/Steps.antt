@@ -11,7 +11,7 @@ use lib.Dec.{ltb}
 use lib.ListN.{length, getD, take, drop, length-drop, take-append-drop, drop-of-length-le}
 use lib.Seq.{drop-cons, drop-drop}
 use borrow.Author.Tests.{ltb-true, ltb-false}
-use Rattle.utf8.specs.Utf8.{Range, Row, _‥_, _then_, within, table, fits, whole, widthBy, width, scan, firstIllFormed, moved, isContinuation}
+use Rattle.utf8.specs.Utf8.{Range, Row, _‥_, _then_, within, table, fits, whole, widthBy, width, scan, firstIllFormed, moved, FoundFrom, isContinuation}
 use Rattle.utf8.specs.Sequence.{cases, clash, within-true, within-below, within-above, read-within}
 use Rattle.utf8.specs.Law.{ill-here, ill-past}
 
@@ -131,19 +131,20 @@ module _ (s : List ℕ) (at : ℕ) (i : at < length s) (found : firstIllFormed s
       found ∙ ap (moved at) (ap firstIllFormed d ∙ ill-here (getD s at 0) (drop (suc at) s) (sym (ap width d) ∙ e))
       ∙ ap {B = Option ℕ} some (add-zero at)
 
-  pub past : (n : ℕ) → n ≡ width (drop at s) → 0 < n
-      → (at + n ≤ length s) × (firstIllFormed s ≡ moved (at + n) (firstIllFormed (drop (at + n) s)))
+  pub past : (n : ℕ) → n ≡ width (drop at s) → 0 < n → FoundFrom s (at + n)
   past zero e p = absurd (not-suc-le-zero p)
   past (suc w) e p =
       let d = drop-cons s at 0 i in
       let r : width (getD s at 0 ∷ drop (suc at) s) ≡ suc w = sym (ap width d) ∙ sym e in
-      let n : suc at + w ≡ at + suc w = omega arith in (
-        omega (arith, read-within (getD s at 0) (drop (suc at) s) w r, length-drop (suc at) s),
-        found
+      let n : suc at + w ≡ at + suc w = omega arith in
+      record {
+        inside = omega (arith, read-within (getD s at 0) (drop (suc at) s) w r, length-drop (suc at) s);
+        found =
+            found
             ∙ ap (moved at) (ap firstIllFormed d ∙ ill-past (getD s at 0) (drop (suc at) s) w r)
             ∙ moved-moved at (suc w) (firstIllFormed (drop w (drop (suc at) s)))
-            ∙ ap (λ (l : List ℕ). moved (at + suc w) (firstIllFormed l)) (drop-drop w (suc at) s ∙ ap (λ (k : ℕ). drop k s) n),
-      )
+            ∙ ap (λ (l : List ℕ). moved (at + suc w) (firstIllFormed l)) (drop-drop w (suc at) s ∙ ap (λ (k : ℕ). drop k s) n);
+      }
 
 pub ill-none : (s : List ℕ) (at : ℕ) → length s ≤ at → firstIllFormed s ≡ moved at (firstIllFormed (drop at s))
     → firstIllFormed s ≡ none

@@ -1,11 +1,11 @@
 -- UTF-8, from table 3-7 of the Unicode Standard, "Well-Formed UTF-8 Byte Sequences". A source is the list of its bytes.
-use Prim.Native.Nat.{ℕ, zero, suc, _+_}
+use Prim.Native.Nat.{ℕ, zero, suc, _+_, _≤_}
 use mathlib.Core.Path.{_≡_}
 use mathlib.Core.Bool.{Bool, true, false, not}
 use mathlib.Core.Option.{Option, none, some, Option·map}
 use mathlib.Core.List.{List, [], _∷_}
 use lib.Dec.{leb, ltb, eqb}
-use lib.ListN.{length, getD}
+use lib.ListN.{length, getD, drop}
 use Rattle.utf8.specs.declared.Checked.{Checked}
 
 -- the bytes from low to high, both included
@@ -78,6 +78,11 @@ firstIllFormed s = scan 0 s
 -- an offset, counted from k bytes before
 abbrev pub moved : ℕ → Option ℕ → Option ℕ
 moved k o = Option·map (λ n. k + n) o
+
+-- what there is to find in s is found from `at` on
+pub record FoundFrom (s : List ℕ) (at : ℕ) : Type 0 where
+  pub inside : at ≤ length s
+  pub found : firstIllFormed s ≡ moved at (firstIllFormed (drop at s))
 
 abbrev pub WellFormed : List ℕ → Type 0
 WellFormed s = firstIllFormed s ≡ none

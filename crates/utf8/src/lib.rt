@@ -2,9 +2,9 @@
 
 ghost use mathlib.Core.Path.{_≡_};
 ghost use mathlib.Core.List.{[], _∷_};
-ghost use Prim.Native.Nat.{_<_};
-ghost use lib.ListN.{length, drop};
-ghost use Rattle.utf8.specs.Utf8.{_‥_, fits, whole, width, firstIllFormed, isBoundary, checkedOf};
+ghost use Prim.Native.Nat.{_+_, _≤_, _<_};
+ghost use lib.ListN.{length, drop, replicate};
+ghost use Rattle.utf8.specs.Utf8.{_‥_, fits, whole, width, firstIllFormed, FoundFrom, isBoundary, checkedOf};
 
 pub enum Checked {
     WellFormed,
@@ -106,11 +106,44 @@ fn sequence_width(source: &[u8], at: usize) -> usize
     0
 }
 
+// Whether the 16 bytes from `at` on are ASCII. All are looked at, so that a compiler can take them as one.
+fn is_ascii(source: &[u8], at: usize) -> bool
+    requires { ⌜ at + 16 ≤ length (now source) ⌝ }
+    ensures { λ r. ⌜ r ≡ fits (replicate 16 (0x00 ‥ 0x7F)) (drop at (now (source .entry))) ⌝ }
+{
+    let mut seen = 0;
+    let mut i = 0;
+    while i < 16 {
+        seen |= source[at + i];
+        i += 1;
+    }
+    seen < 0x80
+}
+
+// Past ASCII, 16 bytes at a time. The first byte alone mostly tells where there is none.
+fn skip_ascii(source: &[u8], at: usize) -> usize
+    requires { ⌜ FoundFrom (now source) at ⌝ }
+    ensures { λ r. ⌜ (at ≤ r) × FoundFrom (now (source .entry)) r ⌝ }
+{
+    let mut end = at;
+    while 16 <= source.len() - end {
+        if 0x80 <= source[end] {
+            return end;
+        }
+        if is_ascii(source, end) {
+            end += 16;
+        } else {
+            return end;
+        }
+    }
+    end
+}
+
 // Whether the source is well formed, in one pass. ASCII takes the short way.
 pub fn check(source: &[u8]) -> Checked
     ensures { λ r. ⌜ r ≡ checkedOf (firstIllFormed (now (source .entry))) ⌝ }
 {
-    let mut at = 0;
+    let mut at = skip_ascii(source, 0);
     while at < source.len() {
         if source[at] < 0x80 {
             at += 1;
@@ -119,7 +152,7 @@ pub fn check(source: &[u8]) -> Checked
             if n == 0 {
                 return Checked::IllFormed(at);
             }
-            at += n;
+            at = skip_ascii(source, at + n);
         }
     }
     Checked::WellFormed
