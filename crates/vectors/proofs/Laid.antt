@@ -24,14 +24,12 @@ drop-replicate (suc n) (suc m) v = let k : m - n ≡ suc m - suc n = omega arith
 pub length-between : (from to : ℕ) (l : List ℕ) → from ≤ to → to ≤ length l → length (between from to l) ≡ to - from
 length-between from to l h k = length-take-le (to - from) (drop from l) (rw length-drop (omega arith))
 
--- the rest of a slice is filled
-pub rest-yes : (s : List ℕ) (n : ℕ) → between n (length s) s ≡ replicate (length (between n (length s) s)) filling → drop n s ≡ drop n (filled (length s))
-unfolding filled
-rest-yes s n e = sym (end-part s n) ∙ (e ∙ (ap (λ i. replicate i filling) (ap length (end-part s n) ∙ length-drop n s) ∙ sym (drop-replicate n (length s) filling)))
+-- the rest of a slice is filled with v
+pub rest-yes : (s : List ℕ) (n v : ℕ) → between n (length s) s ≡ replicate (length (between n (length s) s)) v → drop n s ≡ drop n (replicate (length s) v)
+rest-yes s n v e = sym (end-part s n) ∙ (e ∙ (ap (λ i. replicate i v) (ap length (end-part s n) ∙ length-drop n s) ∙ sym (drop-replicate n (length s) v)))
 
-pub rest-no : (s : List ℕ) (n : ℕ) → drop n s ≡ drop n (filled (length s)) → between n (length s) s ≡ replicate (length (between n (length s) s)) filling
-unfolding filled
-rest-no s n e = end-part s n ∙ (e ∙ (drop-replicate n (length s) filling ∙ ap (λ i. replicate i filling) (sym (ap length (end-part s n) ∙ length-drop n s))))
+pub rest-no : (s : List ℕ) (n v : ℕ) → drop n s ≡ drop n (replicate (length s) v) → between n (length s) s ≡ replicate (length (between n (length s) s)) v
+rest-no s n v e = end-part s n ∙ (e ∙ (drop-replicate n (length s) v ∙ ap (λ i. replicate i v) (sym (ap length (end-part s n) ∙ length-drop n s))))
 
 -- an array in a slice
 module _ (s ws : List ℕ) (from n to : ℕ) (e : to ≡ from + n) (h : to ≤ length s) where
@@ -77,7 +75,7 @@ module _ (s : List ℕ) (a : Arrays) (f g : List ℕ) (st : Stores a f g) where
   length-seconds = length-array (a .size) (shorts g) (let k = length-shorts (a .used) g (st .seconds) in omega (arith, st .room))
 
   pub is-laid : s ≡ laid a f g ++ past → Laid s a f g
-  unfolding laid
+  unfolding laid filled
   is-laid e =
       let l = length-firsts in
       let m = length-seconds in
@@ -93,15 +91,15 @@ module _ (s : List ℕ) (a : Arrays) (f g : List ℕ) (st : Stores a f g) where
         capacity = ap (λ z. getD z 1 0) e;
         first = in-array s (shorts f) 2 (a .capacity) (2 + a .capacity) refl (omega arith) one;
         second = in-array s (shorts g) (2 + a .capacity) (a .size) (laidLength a) refl long two;
-        rest = rest-no s (laidLength a) last;
+        rest = rest-no s (laidLength a) filling last;
       }
 
   pub laid-is : Laid s a f g → s ≡ laid a f g ++ past
-  unfolding laid
+  unfolding laid filled
   laid-is p =
       let one = array-in s (shorts f) 2 (a .capacity) (2 + a .capacity) refl (omega (arith, p .long)) (p .first) in
       let two = array-in s (shorts g) (2 + a .capacity) (a .size) (laidLength a) refl (p .long) (p .second) in
-      let last = drop-drop (a .size) (2 + a .capacity) s ∙ rest-yes s (laidLength a) (p .rest) in
+      let last = drop-drop (a .size) (2 + a .capacity) s ∙ rest-yes s (laidLength a) filling (p .rest) in
       let more = drop-drop (a .capacity) 2 s ∙ parts (drop (2 + a .capacity) s) seconds past (a .size) two last in
       let tail = parts (drop 2 s) firsts (seconds ++ past) (a .capacity) one more ∙ sym (append-assoc firsts seconds past) in
       heads s (omega (arith, p .long)) ∙ (ap (λ z. z ∷ getD s 1 0 ∷ drop 2 s) (p .count) ∙ (ap (λ z. a .count ∷ z ∷ drop 2 s) (p .capacity) ∙ ap (λ z. a .count ∷ a .capacity ∷ z) tail))
@@ -117,11 +115,13 @@ module _ (s : List ℕ) (n : ℕ) where
       first-part s (replicate n 0) (drop n (filled (length s))) n (length-replicate n 0) e ∙ ap (λ i. replicate i 0) (sym l)
 
   pub zeroed-rest : s ≡ replicate n 0 ++ drop n (filled (length s)) → between n (length s) s ≡ replicate (length (between n (length s) s)) filling
-  zeroed-rest e = rest-no s n (second-part s (replicate n 0) (drop n (filled (length s))) n (length-replicate n 0) e)
+  unfolding filled
+  zeroed-rest e = rest-no s n filling (second-part s (replicate n 0) (drop n (filled (length s))) n (length-replicate n 0) e)
 
   pub zeroed-is : n ≤ length s → take n s ≡ replicate (length (take n s)) 0 → between n (length s) s ≡ replicate (length (between n (length s) s)) filling → s ≡ replicate n 0 ++ drop n (filled (length s))
+  unfolding filled
   zeroed-is h p q =
-      parts s (replicate n 0) (drop n (filled (length s))) n (p ∙ ap (λ i. replicate i 0) (length-take-le n s h)) (rest-yes s n q)
+      parts s (replicate n 0) (drop n (filled (length s))) n (p ∙ ap (λ i. replicate i 0) (length-take-le n s h)) (rest-yes s n filling q)
 
 -- what the call leaves, by the number of its answer
 module _ (a : Arrays) (f g : List ℕ) (n : ℕ) where

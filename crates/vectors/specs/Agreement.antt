@@ -78,10 +78,10 @@ pub record Lists (c : Case) (n : ℕ) (l : List ℕ) : Type 0 where
   pub faults : c .faults ≤ n
   pub short : n ≤ 1000001
 
--- the answer is the case's
-pub record Answers (c : Case) (r : Answer) : Type 0 where
-  pub number : numberOf r ≡ c .number
-  pub value : valueOf r ≡ c .value
+-- the answer has this number and value
+pub record Answers (n v : ℕ) (r : Answer) : Type 0 where
+  pub number : numberOf r ≡ n
+  pub value : valueOf r ≡ v
 
 -- what the reading call, handed filled slices of t and e words, answers and leaves
 pub record ReadFilled (s : List ℕ) (t e : ℕ) (tree errors : List ℕ) (r : Answer) : Type 0 where
@@ -91,7 +91,7 @@ pub record ReadFilled (s : List ℕ) (t e : ℕ) (tree errors : List ℕ) (r : A
 
 -- the definition's answer for the source s and filled slices of t and e words is the case's, and so is every word that it leaves
 pub record Agrees (c : Case) (s l : List ℕ) (t e : ℕ) : Type 0 where
-  pub answers : Answers c (readAnswer s t e)
+  pub answers : Answers (c .number) (c .value) (readAnswer s t e)
   pub tree : treeAfter s (filled t) (filled e) ≡ left (readAnswer s t e) (treeArrays c (length s)) (kindsIn c l) (placesIn c l) t
   pub errors : errorsAfter s (filled t) (filled e) ≡ left (readAnswer s t e) (errorArrays c (length s)) (errorsIn c l) (groupsIn c l) e
 

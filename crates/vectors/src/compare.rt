@@ -19,14 +19,14 @@ pub struct Arrays {
 }
 
 // What a slice holds before the call; no reading of a short source gives this word.
-const FILLING: u32 = 2_863_311_530;
+pub const FILLING: u32 = 2_863_311_530;
 
-pub fn fill(slice: &mut [u32])
-    ensures { λ r. ⌜ now (slice .exit) ≡ filled (length (now (slice .entry))) ⌝ }
+pub fn fill(slice: &mut [u32], v: u32)
+    ensures { λ r. ⌜ now (slice .exit) ≡ replicate (length (now (slice .entry))) v ⌝ }
 {
     let mut i = 0;
     while i < slice.len() {
-        slice[i] = FILLING;
+        slice[i] = v;
         i += 1;
     }
 }

@@ -1,5 +1,6 @@
-// Replays stored readings: each stored source is read again, and the answer and every word of both slices are compared with
-// what the Rust gave. The words of the command line name the files, which compare/vectors.py makes.
+// Replays stored calls: each stored source is read again, and the answer and every word of both slices are compared with what the
+// Rust gave; each stored tree is written again, and the answer and every byte of the output compared. The words of the command line
+// name the files, which compare/vectors.py and compare/texts.py make.
 ghost use Prim.Native.Nat.{_≤_};
 ghost use mathlib.Core.Path.{_≡_};
 ghost use lib.ListN.{length};
@@ -8,10 +9,13 @@ ghost use Rattle.vectors.specs.Agreement.{over, differing};
 mod compare;
 mod replay;
 mod stored;
+mod texts;
+mod written;
 
 use libc::STDOUT_FILENO;
 use replay::Turn;
 use replay::replay_next;
+use texts::replay_next_text;
 
 // How many cases a file has, and how many of them differ.
 struct Tally {
@@ -64,18 +68,37 @@ fn print_tally(path: &[u8], tally: Tally) {
     io::write_all(STDOUT_FILENO, b" different\n");
 }
 
-// Replays the cases of a file up to its end, or to one that can't be read; cases count from 0.
-fn replay_all(
+// Replays the next case of a file, of which all are of one call.
+fn replay_one(
     fd: i32,
+    writes: bool,
     source: &mut [u8],
     listing: &mut [u8],
     tree: &mut [u32],
     errors: &mut [u32],
+    output: &mut [u8],
+) -> Turn {
+    if writes {
+        replay_next_text(fd, source, listing, tree, output)
+    } else {
+        replay_next(fd, source, listing, tree, errors)
+    }
+}
+
+// Replays the cases of a file up to its end, or to one that can't be read; cases count from 0.
+fn replay_all(
+    fd: i32,
+    writes: bool,
+    source: &mut [u8],
+    listing: &mut [u8],
+    tree: &mut [u32],
+    errors: &mut [u32],
+    output: &mut [u8],
 ) -> Tally {
     let mut cases = 0;
     let mut different = 0;
     while cases < u64::MAX {
-        let turn = replay_next(fd, source, listing, tree, errors);
+        let turn = replay_one(fd, writes, source, listing, tree, errors, output);
         if is_over(turn, cases) {
             break;
         }
@@ -113,7 +136,13 @@ fn errors_room() -> [u32; 28_700]
     [0; 28_700]
 }
 
-// Replays the file that an argument names.
+fn output_room() -> [u8; 65_536]
+    ensures { λ r. ⌜ 65536 ≡ length r ⌝ }
+{
+    [0; 65_536]
+}
+
+// Replays the file that an argument names. Names of files of the writing call start with a 't'.
 fn replay_file(i: usize) {
     let mut path = io::buffer();
     let n = os::arg(i, &mut path);
@@ -126,7 +155,16 @@ fn replay_file(i: usize) {
     let mut listing = listing_room();
     let mut tree = tree_room();
     let mut errors = errors_room();
-    let tally = replay_all(fd, &mut source, &mut listing, &mut tree, &mut errors);
+    let mut output = output_room();
+    let tally = replay_all(
+        fd,
+        path[0] == b't',
+        &mut source,
+        &mut listing,
+        &mut tree,
+        &mut errors,
+        &mut output,
+    );
     print_tally(&path[..n], tally);
     libc::close(fd);
 }

@@ -4,6 +4,7 @@ ghost use mathlib.Core.Path.{_≡_};
 ghost use lib.ListN.{length};
 ghost use Rattle.vectors.specs.Agreement.{Tells, left, treeArrays, errorArrays, kindsIn, placesIn, errorsIn, groupsIn, Lists, Answers, ReadFilled, Agrees, Fits, Replayed};
 use crate::compare::Arrays;
+use crate::compare::FILLING;
 use crate::compare::fill;
 use crate::compare::is_left;
 use crate::stored::Case;
@@ -26,19 +27,19 @@ pub enum Turn {
 fn read_filled(source: &[u8], tree: &mut [u32], errors: &mut [u32]) -> Answer
     ensures { λ r. ⌜ ReadFilled (now (source .entry)) (length (now (tree .entry))) (length (now (errors .entry))) (now (tree .exit)) (now (errors .exit)) r ⌝ }
 {
-    fill(tree);
-    fill(errors);
+    fill(tree, FILLING);
+    fill(errors, FILLING);
     read(source, tree, errors)
 }
 
-// Whether the answer is the case's.
-fn is_answer(case: Case, answer: Answer) -> bool
-    ensures { λ r. ⌜ Tells r (Answers case answer) ⌝ }
+// Whether an answer has this number and value.
+pub fn is_answer(answer: Answer, n: u32, v: u64) -> bool
+    ensures { λ r. ⌜ Tells r (Answers n v answer) ⌝ }
 {
-    if number(answer) != case.number {
+    if number(answer) != n {
         return false;
     }
-    if value(answer) != case.value {
+    if value(answer) != v {
         return false;
     }
     true
@@ -94,7 +95,7 @@ fn agrees(case: Case, source: &[u8], listing: &[u8], tree: &mut [u32], errors: &
     ensures { λ r. ⌜ Tells r (Agrees case (now (source .entry)) (now (listing .entry)) (length (now (tree .entry))) (length (now (errors .entry)))) ⌝ }
 {
     let answer = read_filled(source, tree, errors);
-    if !is_answer(case, answer) {
+    if !is_answer(answer, case.number, case.value) {
         return false;
     }
     let n = source.len();
@@ -167,7 +168,7 @@ fn replay(
 }
 
 // Reads n bytes to the start of what is lent, and answers whether there were so many.
-fn fetch(fd: i32, bytes: &mut [u8], n: usize) -> bool
+pub fn fetch(fd: i32, bytes: &mut [u8], n: usize) -> bool
     requires { ⌜ n ≤ length (now bytes) ⌝ }
 {
     io::read_full(fd, &mut bytes[0..n]) == n

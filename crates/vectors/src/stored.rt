@@ -34,7 +34,7 @@ pub fn short(bytes: &[u8], at: usize) -> u32
 }
 
 // The number of four bytes.
-fn long(bytes: &[u8], at: usize) -> u32
+pub fn long(bytes: &[u8], at: usize) -> u32
     requires { ⌜ at + 4 ≤ length (now bytes) ⌝ }
     ensures { λ r. ⌜ r ≡ longAt (now (bytes .entry)) at ⌝ }
 {

@@ -7,18 +7,18 @@ use Rattle.vectors.proofs.replay_all.Statement.{statement}
 use Rattle.vectors.proofs.replay_all.Tie as tie
 
 abbrev Inv-loop : tie.InvT-loop
-Inv-loop fd source₀ listing₀ tree₀ errors₀ cases₀ different₀ source listing tree errors cases different =
-    (different ≤ cases) × (length source ≡ length source₀) × (length listing ≡ length listing₀) × (length tree ≡ length tree₀) × (length errors ≡ length errors₀)
+Inv-loop fd writes source₀ listing₀ tree₀ errors₀ output₀ cases₀ different₀ source listing tree errors output cases different =
+    (different ≤ cases) × (length source ≡ length source₀) × (length listing ≡ length listing₀) × (length tree ≡ length tree₀) × (length errors ≡ length errors₀) × (length output ≡ length output₀)
 
 abbrev μ-loop : tie.MeasureT-loop
-μ-loop fd source₀ listing₀ tree₀ errors₀ cases₀ different₀ source listing tree errors cases different =
+μ-loop fd writes source₀ listing₀ tree₀ errors₀ output₀ cases₀ different₀ source listing tree errors output cases different =
     18446744073709551615 - cases
 
 loop-holds : tie.Need-loop-holds Inv-loop μ-loop
 loop-holds c = search needs
 
-replay-next-requires : tie.Need-replay-next-requires Inv-loop μ-loop
-replay-next-requires c κs = search needs
+replay-one-requires : tie.Need-replay-one-requires Inv-loop μ-loop
+replay-one-requires c κs = search needs
 
 is-over-requires : tie.Need-is-over-requires Inv-loop μ-loop
 is-over-requires c κs = search needs
@@ -50,11 +50,11 @@ same-length-3 c = search needs
 same-length-4 : tie.Need-same-length-4 Inv-loop μ-loop
 same-length-4 c = search needs
 
-returns : tie.Need-returns Inv-loop μ-loop
-returns c = search needs
-
 same-length-5 : tie.Need-same-length-5 Inv-loop μ-loop
 same-length-5 c = search needs
+
+returns : tie.Need-returns Inv-loop μ-loop
+returns c = search needs
 
 same-length-6 : tie.Need-same-length-6 Inv-loop μ-loop
 same-length-6 c = search needs
@@ -64,6 +64,12 @@ same-length-7 c = search needs
 
 same-length-8 : tie.Need-same-length-8 Inv-loop μ-loop
 same-length-8 c = search needs
+
+same-length-9 : tie.Need-same-length-9 Inv-loop μ-loop
+same-length-9 c = search needs
+
+same-length-10 : tie.Need-same-length-10 Inv-loop μ-loop
+same-length-10 c = search needs
 
 returns-2 : tie.Need-returns-2 Inv-loop μ-loop
 returns-2 c = search needs
@@ -75,7 +81,7 @@ replay-all-spec =
     Inv-loop
     μ-loop
     loop-holds
-    replay-next-requires
+    replay-one-requires
     is-over-requires
     count-different-requires
     add-different
@@ -86,9 +92,11 @@ replay-all-spec =
     same-length-2
     same-length-3
     same-length-4
-    returns
     same-length-5
+    returns
     same-length-6
     same-length-7
     same-length-8
+    same-length-9
+    same-length-10
     returns-2)

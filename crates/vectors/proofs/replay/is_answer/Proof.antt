@@ -9,13 +9,13 @@ number-requires : tie.Need-number-requires
 number-requires c κs = search needs
 
 returns : tie.Need-returns
-returns c = tells-no (λ p. c .if1 .taken (c .before .before .number .ensures ∙ p .number))
+returns c = tells-no (λ p. c .if1 .taken (c .before .number .ensures ∙ p .number))
 
 value-requires : tie.Need-value-requires
 value-requires c κs = search needs
 
 returns-2 : tie.Need-returns-2
-returns-2 c = tells-no (λ p. c .if2 .taken (c .before .before .value .ensures ∙ p .value))
+returns-2 c = tells-no (λ p. c .if2 .taken (c .before .value .ensures ∙ p .value))
 
 returns-3 : tie.Need-returns-3
 returns-3 c = search needs
