@@ -1,13 +1,13 @@
-// core.rs: entries, placeables and variants.
+// core.rs: entries, and the parts of placeables and variants. get_placeable and get_variants themselves stand in expression.rt.
 ghost use Prim.Native.Nat.{_+_, _≤_};
 ghost use mathlib.Core.Path.{_≡_};
-ghost use mathlib.Core.Bool.{Bool, true, false, _||_};
+ghost use mathlib.Core.Bool.{false, _||_};
 ghost use lib.Dec.{eqb};
 ghost use lib.ListN.{drop};
 ghost use Rattle.syntax.specs.Byte as Byte;
-ghost use Rattle.syntax.specs.Bytes.{startsWith, starts, isDigit};
+ghost use Rattle.syntax.specs.Bytes.{starts, isDigit};
 ghost use Rattle.syntax.specs.Helper.{skipBlank};
-ghost use Rattle.syntax.specs.Expression.{level, getAttributeAccessor, getVariantKey, keyText, getVariants, variantKind, variantWith};
+ghost use Rattle.syntax.specs.Expression.{level, getAttributeAccessor, getVariantKey, keyText, variantKind};
 ghost use Rattle.syntax.specs.Core.{getAttribute, getAttributes, fields, termFields, asMessage, asTerm, getEntry};
 ghost use Rattle.parser.specs.Place.{Inside as InSource};
 ghost use Rattle.parser.specs.Did.{reading, Did, Room, Entered, endedBy, Endable, Reaches, withValue};
@@ -20,7 +20,7 @@ use crate::errors::error;
 use crate::expression::Expression;
 use crate::expression::ReadExpression;
 use crate::expression::expect_after;
-use crate::expression::get_expression;
+use crate::expression::get_pattern;
 use crate::helper::Place;
 use crate::helper::expect_byte;
 use crate::helper::get_identifier;
@@ -36,7 +36,6 @@ use crate::marks::close;
 use crate::marks::put;
 use crate::marks::put_found;
 use crate::marks::put_text;
-use crate::pattern::get_pattern;
 use syntax::errors::ErrorKind;
 use syntax::errors::ParserError;
 
@@ -76,7 +75,7 @@ fn get_name(source: &[u8], at: usize, tree: &mut [u32], cap: usize, n: usize) ->
 }
 
 // A pattern has marks.
-fn needs_value(r: Read, n: usize) -> Read
+pub fn needs_value(r: Read, n: usize) -> Read
     requires { ⌜ Reaches r 1000000 ⌝ }
     ensures { λ x. ⌜ x ≡ withValue n r ⌝ }
 {
@@ -260,27 +259,6 @@ pub fn get_entry(
     get_message(source, at, left, tree, cap, n)
 }
 
-// From '{' through '}'.
-pub fn get_placeable(
-    source: &[u8],
-    at: usize,
-    left: usize,
-    tree: &mut [u32],
-    cap: usize,
-    n: usize,
-) -> Read
-    requires { ⌜ startsWith Byte.openBrace (drop at (now source)) ≡ true ⌝ }
-    requires { ⌜ Room (now source) (now tree) cap (at + 1) n 0 ⌝ }
-    ensures { λ r. ⌜ Did reading cap at n (now (tree .entry)) (now (tree .exit)) r (level left .braced (drop at (now (source .entry)))) ⌝ }
-{
-    if left == 0 {
-        return Read::Deep(at);
-    }
-    let start = skip_blank(source, at + 1);
-    let exp = get_expression(source, start, left - 1, tree, cap, n);
-    end_placeable(source, exp)
-}
-
 // From the end of a placeable's expression on. The Rust tests for a term's attribute a second time.
 pub fn end_placeable(source: &[u8], exp: ReadExpression) -> Read
     requires { ⌜ Endable (now source) (plainly exp) × (isTermAttribute exp ≡ false) ⌝ }
@@ -369,7 +347,7 @@ pub enum NextVariant {
     Bad(ParserError, usize),
 }
 
-fn next_variant(source: &[u8], at: usize, has: bool) -> NextVariant
+pub fn next_variant(source: &[u8], at: usize, has: bool) -> NextVariant
     requires { ⌜ InSource (now source) at ⌝ }
     ensures { λ r. ⌜ NextIs (now (source .entry)) at has r ⌝ }
 {
@@ -387,71 +365,14 @@ fn next_variant(source: &[u8], at: usize, has: bool) -> NextVariant
     NextVariant::Bad(error(ErrorKind::MissingDefaultVariant, start), start)
 }
 
-pub fn get_variants(
-    source: &[u8],
-    at: usize,
-    left: usize,
-    tree: &mut [u32],
-    cap: usize,
-    n: usize,
-) -> Read
-    requires { ⌜ Room (now source) (now tree) cap at n 0 ⌝ }
-    ensures { λ r. ⌜ Did reading cap at n (now (tree .entry)) (now (tree .exit)) r (getVariants (level left) (drop at (now (source .entry)))) ⌝ }
-{
-    let mut end = at;
-    let mut m = n;
-    let mut has_default = false;
-    loop {
-        match next_variant(source, end, has_default) {
-            NextVariant::Variant(default, start) => {
-                let r = variant(source, start, default, left, tree, cap, m);
-                let Read::Ok(next, k) = r else {
-                    return r;
-                };
-                end = next;
-                m = k;
-                has_default = default || has_default;
-            }
-            NextVariant::End(end) => return Read::Ok(end, m),
-            NextVariant::Bad(e, k) => return Read::Bad(e, k),
-        }
-    }
-}
-
-// A variant from its '[' on, with the blanks after it.
-pub fn variant(
-    source: &[u8],
-    at: usize,
-    default: bool,
-    left: usize,
-    tree: &mut [u32],
-    cap: usize,
-    n: usize,
-) -> Read
-    requires { ⌜ startsWith Byte.openBracket (drop at (now source)) ≡ true ⌝ }
-    requires { ⌜ Room (now source) (now tree) cap at n 0 ⌝ }
-    ensures { λ r. ⌜ ((has : Bool) → Did reading cap at n (now (tree .entry)) (now (tree .exit)) r (variantWith (level left) default has (drop at (now (source .entry))))) ⌝ }
-{
-    let kind = variant_kind(default);
-    let m = put(tree, cap, n, kind, 0);
-    let key = get_variant_key(source, at + 1, tree, cap, m);
-    let Read::Ok(end, m) = key else {
-        return key;
-    };
-    let r = get_pattern(source, end, left, tree, cap, m);
-    let r = needs_value(r, m);
-    let r = close(tree, cap, kind, r);
-    skip_after(source, r)
-}
-
-fn variant_kind(default: bool) -> u32
+pub fn variant_kind(default: bool) -> u32
     ensures { λ r. ⌜ r ≡ variantKind default ⌝ }
 {
     if default { 16 } else { 15 }
 }
 
 // The blanks after what was read.
-fn skip_after(source: &[u8], r: Read) -> Read
+pub fn skip_after(source: &[u8], r: Read) -> Read
     requires { ⌜ Endable (now source) r ⌝ }
     ensures { λ x. ⌜ x ≡ endedBy skipBlank (now (source .entry)) r ⌝ }
 {

@@ -1,29 +1,35 @@
-// expression.rs: inline expressions and what holds them.
-ghost use Prim.Native.Nat.{ℕ, _+_, _-_, _*_, _≤_, _<_, _^_};
+// expression.rs: inline expressions and what holds them. With them stand those of core.rs and pattern.rs that call them and are called by
+// them: get_placeable, get_variants and get_pattern; a cycle of calls has one proof.
+ghost use Prim.Native.Nat.{ℕ, _+_, _-_, _≤_, _<_};
 ghost use mathlib.Core.Path.{_≡_};
 ghost use mathlib.Core.Bool.{Bool, true, false, _&&_};
 ghost use mathlib.Core.List.{List, []};
 ghost use lib.ListN.{length, drop, take};
 ghost use lib.Dec.{eqb};
 ghost use Rattle.syntax.specs.Byte as Byte;
-ghost use Rattle.syntax.specs.Bytes.{startsWith, starts, second, run, isLetter, isNamePart};
+ghost use Rattle.syntax.specs.Bytes.{startsWith, starts, run, isLetter, isNamePart};
 ghost use Rattle.syntax.specs.Helper.{expectByte, skipBlank};
 ghost use Rattle.syntax.specs.declared.errors.ErrorKind.the-variants.{DuplicatedNamedArgument};
 ghost use Rattle.syntax.specs.Errors.{faultAt};
 ghost use Rattle.syntax.specs.Reader.{repeat};
-ghost use Rattle.syntax.specs.Pattern.{Inside};
-ghost use Rattle.syntax.specs.Expression.{level, Inline, asInline, asString, stringLiteral, numberLiteral, variableReference, termReference, reference, functionReference, getInlineExpression, getCallArguments, selectFrom, getExpression, argumentTurn, separator, sameBytes};
+ghost use Rattle.syntax.specs.Pattern.{Inside, getPattern};
+ghost use Rattle.syntax.specs.Expression.{level, asInline, asString, stringLiteral, numberLiteral, variableReference, termReference, reference, functionReference, getInlineExpression, getCallArguments, selectFrom, getExpression, getVariants, variantWith, argumentTurn, separator, sameBytes};
 ghost use Rattle.parser.specs.Place.{Inside as InSource, Passed, Went};
 ghost use Rattle.parser.specs.Did.{reading, Did, Room, endedBy, Endable, Closable};
 ghost use Rattle.parser.specs.Names.{Names, HasNames, HasName, Among, nameAt};
-ghost use Rattle.parser.specs.Shape.{shapeAt, expressing, plainly, withShape};
+ghost use Rattle.parser.specs.Shape.{expressing, plainly, withShape};
 ghost use Rattle.parser.specs.Argument.{nameOf, nameIn, positionalAt, EndedNamed, Argued};
 ghost use Rattle.parser.specs.Shape.{isArgument, startOf, nonLiteralStart, Followed, followedBy, isArrow, aloneAt, selectorAt, isTermAttribute};
 use crate::bytes::is_ascii_alphabetic;
 use crate::bytes::is_ascii_digit;
+use crate::core::NextVariant;
+use crate::core::end_placeable;
 use crate::core::get_attribute_accessor;
-use crate::core::get_placeable;
-use crate::core::get_variants;
+use crate::core::get_variant_key;
+use crate::core::needs_value;
+use crate::core::next_variant;
+use crate::core::skip_after;
+use crate::core::variant_kind;
 use crate::errors::error;
 use crate::helper::Place;
 use crate::helper::expect_byte;
@@ -43,6 +49,11 @@ use crate::marks::insert;
 use crate::marks::put;
 use crate::marks::put_found;
 use crate::marks::put_text;
+use crate::pattern::TextTurn;
+use crate::pattern::finish;
+use crate::pattern::start;
+use crate::pattern::text_turn;
+use crate::pattern::with_placeable;
 use crate::string::skip_string_literal;
 use syntax::errors::ErrorKind;
 use syntax::errors::ParserError;
@@ -718,4 +729,123 @@ fn same_bytes(source: &[u8], a: usize, b: usize, c: usize, d: usize) -> bool
         j += 1;
     }
     true
+}
+
+// From '{' through '}'.
+pub fn get_placeable(
+    source: &[u8],
+    at: usize,
+    left: usize,
+    tree: &mut [u32],
+    cap: usize,
+    n: usize,
+) -> Read
+    requires { ⌜ startsWith Byte.openBrace (drop at (now source)) ≡ true ⌝ }
+    requires { ⌜ Room (now source) (now tree) cap (at + 1) n 0 ⌝ }
+    ensures { λ r. ⌜ Did reading cap at n (now (tree .entry)) (now (tree .exit)) r (level left .braced (drop at (now (source .entry)))) ⌝ }
+{
+    if left == 0 {
+        return Read::Deep(at);
+    }
+    let start = skip_blank(source, at + 1);
+    let exp = get_expression(source, start, left - 1, tree, cap, n);
+    end_placeable(source, exp)
+}
+
+pub fn get_variants(
+    source: &[u8],
+    at: usize,
+    left: usize,
+    tree: &mut [u32],
+    cap: usize,
+    n: usize,
+) -> Read
+    requires { ⌜ Room (now source) (now tree) cap at n 0 ⌝ }
+    ensures { λ r. ⌜ Did reading cap at n (now (tree .entry)) (now (tree .exit)) r (getVariants (level left) (drop at (now (source .entry)))) ⌝ }
+{
+    let mut end = at;
+    let mut m = n;
+    let mut has_default = false;
+    loop {
+        match next_variant(source, end, has_default) {
+            NextVariant::Variant(default, start) => {
+                let r = variant(source, start, default, left, tree, cap, m);
+                let Read::Ok(next, k) = r else {
+                    return r;
+                };
+                end = next;
+                m = k;
+                has_default = default || has_default;
+            }
+            NextVariant::End(end) => return Read::Ok(end, m),
+            NextVariant::Bad(e, k) => return Read::Bad(e, k),
+        }
+    }
+}
+
+// A variant from its '[' on, with the blanks after it.
+fn variant(
+    source: &[u8],
+    at: usize,
+    default: bool,
+    left: usize,
+    tree: &mut [u32],
+    cap: usize,
+    n: usize,
+) -> Read
+    requires { ⌜ startsWith Byte.openBracket (drop at (now source)) ≡ true ⌝ }
+    requires { ⌜ Room (now source) (now tree) cap at n 0 ⌝ }
+    ensures { λ r. ⌜ ((has : Bool) → Did reading cap at n (now (tree .entry)) (now (tree .exit)) r (variantWith (level left) default has (drop at (now (source .entry))))) ⌝ }
+{
+    let kind = variant_kind(default);
+    let m = put(tree, cap, n, kind, 0);
+    let key = get_variant_key(source, at + 1, tree, cap, m);
+    let Read::Ok(end, m) = key else {
+        return key;
+    };
+    let r = get_pattern(source, end, left, tree, cap, m);
+    let r = needs_value(r, m);
+    let r = close(tree, cap, kind, r);
+    skip_after(source, r)
+}
+
+pub fn get_pattern(
+    source: &[u8],
+    at: usize,
+    left: usize,
+    tree: &mut [u32],
+    cap: usize,
+    n: usize,
+) -> Read
+    requires { ⌜ Room (now source) (now tree) cap at n 2 ⌝ }
+    ensures { λ r. ⌜ Did reading cap at n (now (tree .entry)) (now (tree .exit)) r (getPattern (level left) (drop at (now (source .entry)))) ⌝ }
+{
+    let m = put(tree, cap, n, 11, 0);
+    let mut st = start(source, at, m);
+    while st.at < source.len() {
+        let here = st.at;
+        if is_current_byte(source, here, b'{') {
+            let m = put(tree, cap, st.n, 13, 0);
+            let r = get_placeable(source, here, left, tree, cap, m);
+            let Read::Ok(end, m) = r else {
+                return r;
+            };
+            let m = put(tree, cap, m, 113, 0);
+            st = with_placeable(st, end, m);
+        } else {
+            match text_turn(source, st, tree, cap) {
+                TextTurn::Next(next) => {
+                    st = next;
+                }
+                TextTurn::End(end) => {
+                    return finish(source, st, end, tree, cap, n);
+                }
+                TextTurn::Bad(e, end) => {
+                    return Read::Bad(e, end);
+                }
+            }
+        }
+    }
+    let end = st.at;
+    finish(source, st, end, tree, cap, n)
 }

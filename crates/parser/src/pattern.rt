@@ -1,24 +1,21 @@
 // pattern.rs: patterns. The common indent is known only where a pattern ends. Until then a text at the start of a line is marked from
-// the line's start on, by a kind of its own; at the end the marks are settled.
+// the line's start on, by a kind of its own; at the end the marks are settled. get_pattern itself stands in expression.rt.
 ghost use Prim.Native.Nat.{_+_, _≤_, _<_, _^_, min};
 ghost use mathlib.Core.Bool.{true, false};
 ghost use mathlib.Core.Path.{_≡_};
 ghost use mathlib.Core.List.{[], _∷_, map};
 ghost use lib.ListN.{length, drop};
 ghost use Rattle.syntax.specs.Bytes.{startsWith, spaces};
-ghost use Rattle.syntax.specs.Pattern.{goesOn, getTextSlice, withText, textTurn, getPattern};
-ghost use Rattle.syntax.specs.Expression.{level};
+ghost use Rattle.syntax.specs.Pattern.{goesOn, getTextSlice, withText, textTurn};
 ghost use Rattle.parser.specs.Tree.{word, marksIn, Step, Fits};
 ghost use Rattle.parser.specs.Settle.{settleWord, isTrimmed, trimmedEnd, trimWords, Within};
 ghost use Rattle.parser.specs.Elements.{opening};
 ghost use Rattle.parser.specs.Place.{Inside};
-ghost use Rattle.parser.specs.Did.{reading, Did, Room};
+ghost use Rattle.parser.specs.Did.{Room};
 ghost use Rattle.parser.specs.Slice.{crlfWidth};
 ghost use Rattle.parser.specs.Texts.{startsLine, isFeed, positionAfter, isPart, leastOf, textWords, afterText, TextDid, Ready, Ends, Ended, Started, afterPlaceable};
-use crate::core::get_placeable;
 use crate::errors::error;
 use crate::helper::is_byte_pattern_continuation;
-use crate::helper::is_current_byte;
 use crate::helper::skip_blank_block;
 use crate::helper::skip_blank_inline;
 use crate::helper::skip_eol;
@@ -32,7 +29,7 @@ use syntax::errors::ErrorKind;
 use syntax::errors::ParserError;
 
 // Where in its pattern a text stands.
-enum TextElementPosition {
+pub enum TextElementPosition {
     InitialLineStart,
     LineStart,
     Continuation,
@@ -40,7 +37,7 @@ enum TextElementPosition {
 
 // What is known while a pattern is read: the place; the count of marks; where the next text stands; the count of marks
 // through the last element that is not blank; the common indent, or the source's length where there is none yet.
-struct Reading {
+pub struct Reading {
     pub at: usize,
     pub n: usize,
     pub role: TextElementPosition,
@@ -49,7 +46,7 @@ struct Reading {
 }
 
 // What became of a text: the state after it; where the pattern ends instead; or an error and where reading stopped.
-enum TextTurn {
+pub enum TextTurn {
     Next(Reading),
     End(usize),
     Bad(ParserError, usize),
@@ -301,7 +298,7 @@ fn get_text(source: &[u8], st: Reading, indent: usize, tree: &mut [u32], cap: us
 }
 
 // What stands at a place of a pattern where no placeable starts.
-fn text_turn(source: &[u8], st: Reading, tree: &mut [u32], cap: usize) -> TextTurn
+pub fn text_turn(source: &[u8], st: Reading, tree: &mut [u32], cap: usize) -> TextTurn
     requires { ⌜ Room (now source) (now tree) cap (st .at) (st .n) 1 ⌝ }
     requires { ⌜ (st .at < length (now source)) × (startsWith 123 (drop (st .at) (now source)) ≡ false) ⌝ }
     ensures { λ r. ⌜ TextDid (now (source .entry)) cap (now (tree .entry)) (now (tree .exit)) st (λ d. textTurn d (drop (st .at) (now (source .entry)))) r ⌝ }
@@ -322,7 +319,14 @@ fn text_turn(source: &[u8], st: Reading, tree: &mut [u32], cap: usize) -> TextTu
 }
 
 // The pattern ends. Its marks through the last element that is not blank are settled; without such an element there is no pattern.
-fn finish(source: &[u8], st: Reading, end: usize, tree: &mut [u32], cap: usize, n: usize) -> Read
+pub fn finish(
+    source: &[u8],
+    st: Reading,
+    end: usize,
+    tree: &mut [u32],
+    cap: usize,
+    n: usize,
+) -> Read
     requires { ⌜ Ends (now source) (now tree) cap n st ⌝ }
     ensures { λ r. ⌜ Ended (now (source .entry)) cap n (now (tree .entry)) (now (tree .exit)) st end r ⌝ }
 {
@@ -339,7 +343,7 @@ fn finish(source: &[u8], st: Reading, end: usize, tree: &mut [u32], cap: usize, 
 }
 
 // Where the first text or placeable of a pattern stands: on the line, or on a line of its own after blank lines.
-fn start(source: &[u8], at: usize, n: usize) -> Reading
+pub fn start(source: &[u8], at: usize, n: usize) -> Reading
     requires { ⌜ Inside (now source) at ⌝ }
     ensures { λ r. ⌜ Started (now (source .entry)) at n r ⌝ }
 {
@@ -367,7 +371,7 @@ fn start(source: &[u8], at: usize, n: usize) -> Reading
 }
 
 // The state after a placeable, which ends here after n marks.
-fn with_placeable(st: Reading, at: usize, n: usize) -> Reading
+pub fn with_placeable(st: Reading, at: usize, n: usize) -> Reading
     ensures { λ r. ⌜ r ≡ afterPlaceable st at n ⌝ }
 {
     let position = st.role;
@@ -380,45 +384,4 @@ fn with_placeable(st: Reading, at: usize, n: usize) -> Reading
         last_non_blank: n,
         common_indent,
     }
-}
-
-pub fn get_pattern(
-    source: &[u8],
-    at: usize,
-    left: usize,
-    tree: &mut [u32],
-    cap: usize,
-    n: usize,
-) -> Read
-    requires { ⌜ Room (now source) (now tree) cap at n 2 ⌝ }
-    ensures { λ r. ⌜ Did reading cap at n (now (tree .entry)) (now (tree .exit)) r (getPattern (level left) (drop at (now (source .entry)))) ⌝ }
-{
-    let m = put(tree, cap, n, 11, 0);
-    let mut st = start(source, at, m);
-    while st.at < source.len() {
-        let here = st.at;
-        if is_current_byte(source, here, b'{') {
-            let m = put(tree, cap, st.n, 13, 0);
-            let r = get_placeable(source, here, left, tree, cap, m);
-            let Read::Ok(end, m) = r else {
-                return r;
-            };
-            let m = put(tree, cap, m, 113, 0);
-            st = with_placeable(st, end, m);
-        } else {
-            match text_turn(source, st, tree, cap) {
-                TextTurn::Next(next) => {
-                    st = next;
-                }
-                TextTurn::End(end) => {
-                    return finish(source, st, end, tree, cap, n);
-                }
-                TextTurn::Bad(e, end) => {
-                    return Read::Bad(e, end);
-                }
-            }
-        }
-    }
-    let end = st.at;
-    finish(source, st, end, tree, cap, n)
 }
