@@ -4,6 +4,7 @@ pub mod Marks
 pub mod Stack
 pub mod Check
 pub mod Pieces
+pub mod Stores
 pub mod Texts
 pub mod Walk
 pub mod Comments

@@ -25,7 +25,7 @@ use Rattle.serializer.specs.declared.shape.Shape.the-variants as Shape
 use Rattle.serializer.specs.declared.writer.TextWriter.{TextWriter}
 use Rattle.serializer.specs.Shape.{shapeOf}
 use Rattle.serializer.specs.Writer.{begun, Room, Wrote}
-use Rattle.serializer.specs.Call.{Ready, DidWriteInto, DidWrite}
+use Rattle.serializer.specs.Call.{Writable, DidWriteInto, DidWrite}
 use Rattle.serializer.proofs.Check.{sizes, no-mark}
 
 -- the writing of a tree that is well formed
@@ -36,7 +36,7 @@ module _ (s t : List ℕ) (junk : Bool) where
   abbrev text : List ℕ
   text = serialize s junk (marksIn t)
 
-  pub roomy : Ready s t → Room begun piece
+  pub roomy : Writable s t → Room begun piece
   unfolding serialize
   roomy z =
       let fit = sizes t (z .sizes) in

@@ -1,13 +1,14 @@
 -- Pieces written one after another.
-use Prim.Native.Nat.{ℕ, _+_, _-_, _*_, _^_, _≤_, _<_}
+use Prim.Native.Nat.{ℕ, zero, suc, _+_, _-_, _*_, _^_, _≤_, _<_}
 use native.Mathlib.Nat.{add-zero}
 use native.Mathlib.Numerals.{add-one}
 use native.Mathlib.Omega.{arith}
 use mathlib.Core.Path.{_≡_, refl, sym, ap, ap₂, _∙_}
 use mathlib.Core.Bool.{Bool, true, false, not}
 use mathlib.Core.List.{List, [], _∷_, _++_, append-assoc, append-nil}
-use lib.ListN.{length, length-append, set, take, getD, replicate, length-replicate, replicate-append-replicate}
-use lib.Seq.{sets, length-sets, take-suc}
+use lib.ListN.{length, length-append, set, replicate, length-replicate, replicate-append-replicate}
+use lib.Seq.{sets, length-sets}
+use lib.Dec.{eqb}
 use borrow.Author.Tests.{eq-eqb, ne-eqb}
 use Rattle.laws.specs.Sets.{sets-append, sets-last}
 use Rattle.syntax.specs.Byte as Byte
@@ -36,10 +37,9 @@ wrote-none {w = w} = record { stored = refl; end = sym (add-zero (w .at)); endin
 pub wrote-length : {o o′ : List ℕ} {w w′ : TextWriter} {p : Piece} → Wrote o o′ w w′ p → length o′ ≡ length o
 wrote-length {o} {w = w} {p = p} h = ap length (h .stored) ∙ length-sets o (w .at) (textAt w p)
 
--- a byte is stored, or there is no room for it
-pub wrote-byte : {o o′ : List ℕ} {w w′ : TextWriter} (b : ℕ) → o′ ≡ set o (w .at) b → w′ ≡ (record { at = w .at + 1; last = b; indent = w .indent }) → Wrote o o′ w w′ (bytes (b ∷ []))
-unfolding lastOf
-wrote-byte b e f = record { stored = e; end = ap (λ z. z .at) f; ending = ap (λ z. z .last) f; level = ap (λ z. z .indent) f }
+-- bytes are stored as far as there is room for them
+pub wrote-stored : {o o′ : List ℕ} {w w′ : TextWriter} (t : List ℕ) → o′ ≡ sets o (w .at) t → w′ ≡ (record { at = w .at + length t; last = lastOf (w .last) t; indent = w .indent }) → Wrote o o′ w w′ (bytes t)
+wrote-stored t e f = record { stored = e; end = ap (λ z. z .at) f; ending = ap (λ z. z .last) f; level = ap (λ z. z .indent) f }
 
 -- another piece with the same bytes here
 pub wrote-as : {o o′ : List ℕ} {w w′ : TextWriter} {p : Piece} (q : Piece) → textAt w p ≡ textAt w q → Wrote o o′ w w′ p → Wrote o o′ w w′ q
@@ -71,18 +71,22 @@ pub room-before : (w : TextWriter) (p q : Piece) → Room w (p ⊕ q) → Room w
 unfolding _⊕_
 room-before w p q r = omega (arith, length-append (textAt w p) (q (w .indent) (lastOf (w .last) (textAt w p))))
 
--- one byte more of a slice
-pub wrote-more : {o o₁ o₂ : List ℕ} {w w₁ w₂ : TextWriter} (t : List ℕ) (i : ℕ) → i < length t
-    → Wrote o o₁ w w₁ (bytes (take i t)) → Wrote o₁ o₂ w₁ w₂ (bytes (getD t i 0 ∷ [])) → Wrote o o₂ w w₂ (bytes (take (i + 1) t))
-unfolding _⊕_
-wrote-more {o} {o₂ = o₂} {w} {w₂ = w₂} t i l h k = rw (add-one, take-suc t i 0 l) (wrote-then h (bytes (getD t i 0 ∷ [])) k)
+-- the spaces of an indent
+spaces-last : (b n : ℕ) → 1 ≤ n → lastOf b (replicate n Byte.space) ≡ Byte.space
+unfolding lastOf
+spaces-last b zero h = absurd (omega arith)
+spaces-last b (suc zero) h = refl
+spaces-last b (suc (suc n)) h = spaces-last Byte.space (suc n) (omega arith)
 
--- the spaces of one level more
-pub wrote-level : {o o₁ o₂ : List ℕ} {w w₁ w₂ : TextWriter} (n : ℕ) → Wrote o o₁ w w₁ (bytes (replicate (4 * n) 32)) → Wrote o₁ o₂ w₁ w₂ (bytes (replicate 4 32)) → Wrote o o₂ w w₂ (bytes (replicate (4 * (n + 1)) 32))
-unfolding _⊕_
-wrote-level n h k =
-    let e : 4 * (n + 1) ≡ 4 * n + 4 = omega arith in
-    rw (e, ← replicate-append-replicate (4 * n) 4 Byte.space) (wrote-then h (bytes (replicate 4 32)) k)
+pub wrote-spaces : {o o′ : List ℕ} {w w′ : TextWriter} → 1 ≤ w .indent → o′ ≡ sets o (w .at) (replicate (4 * w .indent) Byte.space)
+    → w′ ≡ (record { at = w .at + 4 * w .indent; last = Byte.space; indent = w .indent }) → Wrote o o′ w w′ (bytes (replicate (4 * w .indent) Byte.space))
+wrote-spaces {w = w} h e f =
+    record {
+      stored = e;
+      end = ap (λ z. z .at) f ∙ ap (λ n. w .at + n) (sym (length-replicate (4 * w .indent) Byte.space));
+      ending = ap (λ z. z .last) f ∙ sym (spaces-last (w .last) (4 * w .indent) (omega arith));
+      level = ap (λ z. z .indent) f;
+    }
 
 -- the bytes of a line end, and of a literal, where the writer stands
 module _ (w : TextWriter) where
@@ -101,6 +105,24 @@ module _ (w : TextWriter) where
   pub literal-plain : (t : List ℕ) → (w .last ≡ Byte.lineFeed → ⊥) → textAt w (literal t) ≡ t
   unfolding literal
   literal-plain t e = rw (ne-eqb (w .last) Byte.lineFeed e, literal)
+
+  -- the indent where a line begins, and then the bytes
+  literal-split : (t : List ℕ) → textAt w (literal [] ⊕ bytes t) ≡ textAt w (literal t)
+  unfolding literal _⊕_
+  literal-split t = split (eqb (w .last) Byte.lineFeed)
+    where
+      split : (b : Bool) → (elim b [ true ↦ replicate (4 * w .indent) Byte.space ++ [] | false ↦ [] ] ++ t) ≡ elim b [ true ↦ replicate (4 * w .indent) Byte.space ++ t | false ↦ t ]
+      split true = ap (λ r. r ++ t) (append-nil (replicate (4 * w .indent) Byte.space))
+      split false = refl
+
+  pub room-line : (t : List ℕ) → Room w (literal t) → Room w (literal [])
+  room-line t r = room-before w (literal []) (bytes t) (rw (literal-split t) r)
+
+  pub room-literal : {o o₁ : List ℕ} {w₁ : TextWriter} (t : List ℕ) → Wrote o o₁ w w₁ (literal []) → Room w (literal t) → Room w₁ (bytes t)
+  room-literal t h r = room-after h (bytes t) (rw (literal-split t) r)
+
+  pub wrote-literal : {o o₁ o₂ : List ℕ} {w₁ w₂ : TextWriter} (t : List ℕ) → Wrote o o₁ w w₁ (literal []) → Wrote o₁ o₂ w₁ w₂ (bytes t) → Wrote o o₂ w w₂ (literal t)
+  wrote-literal t h k = wrote-as (literal t) (literal-split t) (wrote-then h (bytes t) k)
 
   star-length : 1 ≤ w .indent → length (textAt w star) ≡ 4 * w .indent
   unfolding star

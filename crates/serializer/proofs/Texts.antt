@@ -4,10 +4,10 @@ use native.Mathlib.Numerals.{add-one}
 use native.Mathlib.Omega.{arith}
 use mathlib.Core.Path.{_≡_, refl, sym, ap, _∙_}
 use mathlib.Core.Bool.{Bool, true, false, _&&_, _||_}
-use mathlib.Core.List.{List, [], _∷_}
+use mathlib.Core.List.{List, [], _∷_, _++_}
 use lib.Dec.{eqb}
-use lib.ListN.{length, drop, getD, drop-of-length-le}
-use lib.Seq.{drop-cons}
+use lib.ListN.{length, take, drop, getD, length-drop, drop-of-length-le, take-append-drop}
+use lib.Seq.{drop-cons, take-suc, take-add, take-all, take-take, getD-drop}
 use Rattle.syntax.specs.Byte as Byte
 use Rattle.syntax.specs.Bytes.{startsWith, all}
 use Rattle.syntax.specs.Serializer.{blankLine, hasNewline}
@@ -44,6 +44,58 @@ module _ (t : List ℕ) (i : ℕ) (h : length t ≤ i) where
   pub newline-end : hasNewline [] (drop i t) ≡ false
   unfolding hasNewline
   newline-end = ap (λ r. hasNewline [] r) (drop-of-length-le t h)
+
+-- a newline in two parts of a text
+or-assoc : (a b c : Bool) → (a || (b || c)) ≡ ((a || b) || c)
+or-assoc true b c = refl
+or-assoc false b c = refl
+
+newline-append : (s t : List ℕ) → hasNewline [] (s ++ t) ≡ (hasNewline [] s || hasNewline [] t)
+unfolding hasNewline
+newline-append [] t = refl
+newline-append (b ∷ s) t = ap (λ v. eqb b Byte.lineFeed || v) (newline-append s t) ∙ or-assoc (eqb b Byte.lineFeed) (hasNewline [] s) (hasNewline [] t)
+
+or-false : (a : Bool) → (a || false) ≡ a
+or-false true = refl
+or-false false = refl
+
+or-true : (a : Bool) → (a || true) ≡ true
+or-true true = refl
+or-true false = refl
+
+or-first : (a b : Bool) → (a || b) ≡ false → a ≡ false
+or-first true b e = e
+or-first false b e = refl
+
+-- one byte more of 16
+pub newline-more : (t : List ℕ) (at i : ℕ) → at + i < length t → hasNewline [] (take (i + 1) (drop at t)) ≡ (hasNewline [] (take i (drop at t)) || eqb (getD t (at + i) 0) Byte.lineFeed)
+unfolding hasNewline
+newline-more t at i h =
+    ap (λ k. hasNewline [] (take k (drop at t))) (add-one i)
+    ∙ ap (λ r. hasNewline [] r) (take-suc (drop at t) i 0 (omega (arith, length-drop at t)))
+    ∙ newline-append (take i (drop at t)) (getD (drop at t) i 0 ∷ [])
+    ∙ ap (λ b. hasNewline [] (take i (drop at t)) || (eqb b Byte.lineFeed || false)) (getD-drop at t i 0)
+    ∙ ap (λ v. hasNewline [] (take i (drop at t)) || v) (or-false (eqb (getD t (at + i) 0) Byte.lineFeed))
+
+module _ (t : List ℕ) (at : ℕ) where
+  -- 16 bytes more have none, or one
+  pub newline-past : hasNewline [] (take at t) ≡ false → hasNewline [] (take 16 (drop at t)) ≡ false → hasNewline [] (take (at + 16) t) ≡ false
+  newline-past e f = ap (λ r. hasNewline [] r) (take-add at 16 t) ∙ newline-append (take at t) (take 16 (drop at t)) ∙ ap (λ v. v || hasNewline [] (take 16 (drop at t))) e ∙ f
+
+  pub newline-within : hasNewline [] (take 16 (drop at t)) ≡ true → hasNewline [] t ≡ true
+  newline-within e =
+      ap (λ r. hasNewline [] r) (sym (take-append-drop at t))
+      ∙ newline-append (take at t) (drop at t)
+      ∙ ap (λ v. hasNewline [] (take at t) || v)
+      (ap (λ r. hasNewline [] r) (sym (take-append-drop 16 (drop at t))) ∙ newline-append (take 16 (drop at t)) (drop 16 (drop at t)) ∙ ap (λ v. v || hasNewline [] (drop 16 (drop at t))) e)
+      ∙ or-true (hasNewline [] (take at t))
+
+  -- with none in the first bytes, the last 16 tell
+  pub newline-last : (last : ℕ) → last ≤ at → length t ≡ last + 16 → hasNewline [] (take at t) ≡ false → hasNewline [] (take 16 (drop last t)) ≡ hasNewline [] t
+  newline-last last h n e =
+      let none : hasNewline [] (take last t) ≡ false = or-first (hasNewline [] (take last t)) (hasNewline [] (drop last (take at t))) (sym (ap (λ r. hasNewline [] r) (sym (take-append-drop last (take at t)) ∙ ap (λ r. r ++ drop last (take at t)) (take-take last at t h)) ∙ newline-append (take last t) (drop last (take at t))) ∙ e) in
+      ap (λ r. hasNewline [] r) (take-all 16 (drop last t) (omega (arith, length-drop last t)))
+      ∙ sym (ap (λ r. hasNewline [] r) (sym (take-append-drop last t)) ∙ newline-append (take last t) (drop last t) ∙ ap (λ v. v || hasNewline [] (drop last t)) none)
 
 -- the first byte
 pub starts-none : (b : ℕ) (t : List ℕ) → length t ≡ 0 → startsWith b t ≡ false

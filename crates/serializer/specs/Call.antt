@@ -14,7 +14,7 @@ use Rattle.syntax.specs.Writing.{sizesFit, writeAnswer, textOver, outputAfter}
 use Rattle.laws.specs.Call.{written}
 
 -- the source is short enough, and the tree is well formed over it
-pub record Ready (s t : List ℕ) : Type 0 where
+pub record Writable (s t : List ℕ) : Type 0 where
   pub short : length s ≤ maxLength
   pub sizes : sizesFit t ≡ true
   pub shape : verdict (isBoundary s) maxOpen (marksIn t) ≡ none

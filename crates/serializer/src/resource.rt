@@ -86,13 +86,17 @@ pub fn serialize_resource(
     let mut wrote_non_junk_entry = false;
     while serializer.mark < count {
         let kind = kind_at(tree, serializer.mark);
-        serializer = serializer.serialize_entry(
+        let next = serializer.serialize_entry(
             source,
             tree,
             output,
             with_junk,
             wrote_non_junk_entry,
         );
+        serializer = Serializer {
+            writer: next.writer.copied(),
+            mark: next.mark,
+        };
         wrote_non_junk_entry = wrote_by(wrote_non_junk_entry, kind);
     }
     serializer.writer

@@ -3,7 +3,7 @@ ghost use Prim.Native.Nat.{ℕ, _+_, _^_, _≤_, _<_};
 ghost use mathlib.Core.Path.{_≡_};
 ghost use mathlib.Core.Bool.{true, _||_, _&&_, not};
 ghost use mathlib.Core.List.{List, [], _∷_};
-ghost use lib.ListN.{length};
+ghost use lib.ListN.{length, take, drop};
 ghost use lib.Dec.{eqb};
 ghost use Rattle.utf8.specs.Utf8.{isBoundary};
 ghost use Rattle.syntax.specs.Byte as Byte;
@@ -69,7 +69,7 @@ fn is_blank_line(text: &[u8]) -> bool
     true
 }
 
-fn has_newline(text: &[u8]) -> bool
+fn has_newline_by_bytes(text: &[u8]) -> bool
     ensures { λ r. ⌜ r ≡ hasNewline [] (now (text .entry)) ⌝ }
 {
     let mut i = 0;
@@ -80,6 +80,38 @@ fn has_newline(text: &[u8]) -> bool
         i += 1;
     }
     false
+}
+
+// Whether 16 bytes have a newline. All are looked at, so that a compiler can take them as one.
+fn has_newline_at(text: &[u8], at: usize) -> bool
+    requires { ⌜ at + 16 ≤ length (now text) ⌝ }
+    ensures { λ r. ⌜ r ≡ hasNewline [] (take 16 (drop at (now (text .entry)))) ⌝ }
+{
+    let mut found = false;
+    let mut i = 0;
+    while i < 16 {
+        found |= text[at + i] == b'\n';
+        i += 1;
+    }
+    found
+}
+
+// The last 16 bytes may lie in part over those before them.
+fn has_newline(text: &[u8]) -> bool
+    ensures { λ r. ⌜ r ≡ hasNewline [] (now (text .entry)) ⌝ }
+{
+    if text.len() < 16 {
+        return has_newline_by_bytes(text);
+    }
+    let last = text.len() - 16;
+    let mut at = 0;
+    while at < last {
+        if has_newline_at(text, at) {
+            return true;
+        }
+        at += 16;
+    }
+    has_newline_at(text, last)
 }
 
 pub fn kind_at(tree: &[u32], mark: usize) -> u32
@@ -224,7 +256,7 @@ fn serialize_comment_line(
     } else {
         begun
             .write_literal(output, b" ")
-            .write_literal(output, line)
+            .write_text(output, line)
             .newline(output)
     }
 }
@@ -337,7 +369,7 @@ impl Serializer {
         let mark = self.mark;
         let text = text_at(source, tree, mark);
         Serializer {
-            writer: self.writer.write_literal(output, text),
+            writer: self.writer.write_text(output, text),
             mark: mark + 2,
         }
     }

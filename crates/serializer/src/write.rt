@@ -1,7 +1,7 @@
 // The writing call.
 ghost use Rattle.syntax.specs.Layout.{marksIn};
 ghost use Rattle.syntax.specs.Serializer.{serialize};
-ghost use Rattle.serializer.specs.Call.{Ready, DidWrite, DidWriteInto};
+ghost use Rattle.serializer.specs.Call.{Writable, DidWrite, DidWriteInto};
 use crate::resource::serialize_resource;
 use crate::shape::Shape;
 use crate::shape::check_shape;
@@ -36,7 +36,7 @@ pub fn write(source: &[u8], tree: &[u32], output: &mut [u8], with_junk: bool) ->
 
 // The writing of a tree that is well formed. A first pass counts its text's bytes, into an empty part of the output.
 fn write_into(source: &[u8], tree: &[u32], output: &mut [u8], with_junk: bool) -> Answer
-    requires { ⌜ Ready (now source) (now tree) ⌝ }
+    requires { ⌜ Writable (now source) (now tree) ⌝ }
     ensures { λ r. ⌜ DidWriteInto (serialize (now (source .entry)) «with_junk» (marksIn (now (tree .entry)))) (now (output .entry)) (now (output .exit)) r ⌝ }
 {
     let counted = serialize_resource(source, tree, &mut output[..0], with_junk);

@@ -3,16 +3,137 @@
 ghost use Prim.Native.Nat.{_+_, _-_, _*_, _≤_, _<_, _^_};
 ghost use mathlib.Core.Path.{_≡_};
 ghost use mathlib.Core.List.{[], _∷_};
-ghost use lib.ListN.{length, replicate};
+ghost use lib.ListN.{length, take, drop, replicate};
+ghost use lib.Seq.{sets};
 ghost use Rattle.syntax.specs.Byte as Byte;
-ghost use Rattle.syntax.specs.Serializer.{literal, newline, star, indentWidth};
+ghost use Rattle.syntax.specs.Serializer.{lastOf, literal, newline, star, indentWidth};
 ghost use Rattle.serializer.specs.Writer.{begun, bytes, Room, Wrote};
 
-// How many bytes have been written, the last of them (0 at the start), and the indent level.
+// The bytes that the last byte is compared with.
+const LINE_FEED: usize = 10;
+
+const CARRIAGE_RETURN: usize = 13;
+
+const SPACE: usize = 32;
+
+// How many bytes have been written, the last of them (0 at the start), and the indent level. The byte is as wide as the others:
+// the writer is copied at every call, and faster without padding.
 pub struct TextWriter {
     pub at: usize,
-    last: u8,
+    last: usize,
     indent: usize,
+}
+
+// Stores bytes for which there is room.
+fn store(output: &mut [u8], at: usize, item: &[u8])
+    requires { ⌜ at + length (now item) ≤ length (now output) ⌝ }
+    ensures { λ _. ⌜ now (output .exit) ≡ sets (now (output .entry)) at (now (item .entry)) ⌝ }
+{
+    let mut i = 0;
+    while i < item.len() {
+        output[at + i] = item[i];
+        i += 1;
+    }
+}
+
+// Stores as many bytes as there is room for.
+fn store_part(output: &mut [u8], at: usize, item: &[u8])
+    ensures { λ _. ⌜ now (output .exit) ≡ sets (now (output .entry)) at (now (item .entry)) ⌝ }
+{
+    if output.len() <= at {
+        return;
+    }
+    let room = output.len() - at;
+    if room < item.len() {
+        store(output, at, &item[0..room]);
+        return;
+    }
+    store(output, at, item);
+}
+
+// 16 bytes, which a compiler takes as one.
+fn block_at(item: &[u8], at: usize) -> [u8; 16]
+    requires { ⌜ at + 16 ≤ length (now item) ⌝ }
+    ensures { λ r. ⌜ r ≡ take 16 (drop at (now (item .entry))) ⌝ }
+{
+    let mut block = [0; 16];
+    let mut i = 0;
+    while i < 16 {
+        block[i] = item[at + i];
+        i += 1;
+    }
+    block
+}
+
+// Like store, 16 bytes at a time. The last 16 may lie in part over those before them.
+fn store_blocks(output: &mut [u8], at: usize, item: &[u8])
+    requires { ⌜ 16 ≤ length (now item) ⌝ }
+    requires { ⌜ at + length (now item) ≤ length (now output) ⌝ }
+    ensures { λ _. ⌜ now (output .exit) ≡ sets (now (output .entry)) at (now (item .entry)) ⌝ }
+{
+    let last = item.len() - 16;
+    let mut i = 0;
+    while i < last {
+        let block = block_at(item, i);
+        store(output, at + i, &block);
+        i += 16;
+    }
+    let block = block_at(item, last);
+    store(output, at + last, &block);
+}
+
+// Like store_part, for bytes that may be many.
+fn store_text(output: &mut [u8], at: usize, text: &[u8])
+    requires { ⌜ at + length (now text) < 2 ^ 63 ⌝ }
+    ensures { λ _. ⌜ now (output .exit) ≡ sets (now (output .entry)) at (now (text .entry)) ⌝ }
+{
+    if output.len() < at + text.len() {
+        store_part(output, at, text);
+        return;
+    }
+    if text.len() < 16 {
+        store(output, at, text);
+        return;
+    }
+    store_blocks(output, at, text);
+}
+
+// Stores spaces for which there is room.
+fn store_spaces(output: &mut [u8], at: usize, count: usize)
+    requires { ⌜ at + count ≤ length (now output) ⌝ }
+    ensures { λ _. ⌜ now (output .exit) ≡ sets (now (output .entry)) at (replicate count Byte.space) ⌝ }
+{
+    let mut i = 0;
+    while i < count {
+        output[at + i] = b' ';
+        i += 1;
+    }
+}
+
+// Stores as many of them as there is room for.
+fn store_indent(output: &mut [u8], at: usize, width: usize)
+    ensures { λ _. ⌜ now (output .exit) ≡ sets (now (output .entry)) at (replicate width Byte.space) ⌝ }
+{
+    if output.len() <= at {
+        return;
+    }
+    let room = output.len() - at;
+    if room < width {
+        store_spaces(output, at, room);
+        return;
+    }
+    store_spaces(output, at, width);
+}
+
+// The last byte after an item.
+fn last_of(last: usize, item: &[u8]) -> usize
+    ensures { λ r. ⌜ r ≡ lastOf last (now (item .entry)) ⌝ }
+{
+    let length = item.len();
+    if length == 0 {
+        return last;
+    }
+    item[length - 1] as usize
 }
 
 impl TextWriter {
@@ -23,6 +144,17 @@ impl TextWriter {
             at: 0,
             last: 0,
             indent: 0,
+        }
+    }
+
+    // The same, field by field. Read as a whole, right after its fields were stored one by one, it would have to wait for them.
+    pub fn copied(self) -> Self
+        ensures { λ r. ⌜ r ≡ self ⌝ }
+    {
+        TextWriter {
+            at: self.at,
+            last: self.last,
+            indent: self.indent,
         }
     }
 
@@ -58,7 +190,19 @@ impl TextWriter {
         }
         TextWriter {
             at: at + 1,
-            last: byte,
+            last: byte as usize,
+            indent: self.indent,
+        }
+    }
+
+    // Past bytes that are stored.
+    fn after(self, item: &[u8]) -> Self
+        requires { ⌜ self .at + length (now item) < 2 ^ 63 ⌝ }
+        ensures { λ r. ⌜ r ≡ (record { at = self .at + length (now (item .entry)); last = lastOf (self .last) (now (item .entry)); indent = self .indent }) ⌝ }
+    {
+        TextWriter {
+            at: self.at + item.len(),
+            last: last_of(self.last, item),
             indent: self.indent,
         }
     }
@@ -67,33 +211,46 @@ impl TextWriter {
         requires { ⌜ self .at + length (now item) < 2 ^ 63 ⌝ }
         ensures { λ r. ⌜ Wrote (now (output .entry)) (now (output .exit)) self r (bytes (now (item .entry))) ⌝ }
     {
-        let mut w = self;
-        let mut i = 0;
-        while i < item.len() {
-            w = w.put(output, item[i]);
-            i += 1;
-        }
-        w
+        let at = self.at;
+        store_part(output, at, item);
+        self.after(item)
     }
 
     fn write_indent(self, output: &mut [u8]) -> Self
         requires { ⌜ self .at + indentWidth * self .indent < 2 ^ 63 ⌝ }
         ensures { λ r. ⌜ Wrote (now (output .entry)) (now (output .exit)) self r (bytes (replicate (indentWidth * self .indent) Byte.space)) ⌝ }
     {
-        let mut w = self;
-        let mut level = 0;
-        while level < self.indent {
-            w = w.write_bytes(output, b"    ");
-            level += 1;
+        let indent = self.indent;
+        if indent == 0 {
+            return self;
         }
-        w
+        let at = self.at;
+        let width = 4 * indent;
+        store_indent(output, at, width);
+        TextWriter {
+            at: at + width,
+            last: SPACE,
+            indent,
+        }
+    }
+
+    // The indent, where a line begins.
+    fn begin_line(self, output: &mut [u8]) -> Self
+        requires { ⌜ Room self (literal []) ⌝ }
+        ensures { λ r. ⌜ Wrote (now (output .entry)) (now (output .exit)) self r (literal []) ⌝ }
+    {
+        if self.last == LINE_FEED {
+            self.write_indent(output)
+        } else {
+            self
+        }
     }
 
     pub fn newline(self, output: &mut [u8]) -> Self
         requires { ⌜ Room self newline ⌝ }
         ensures { λ r. ⌜ Wrote (now (output .entry)) (now (output .exit)) self r newline ⌝ }
     {
-        if self.last == b'\r' {
+        if self.last == CARRIAGE_RETURN {
             // A '\r' before it would be taken for a part of the line end.
             self.put(output, b'\r').put(output, b'\n')
         } else {
@@ -105,11 +262,18 @@ impl TextWriter {
         requires { ⌜ Room self (literal (now item)) ⌝ }
         ensures { λ r. ⌜ Wrote (now (output .entry)) (now (output .exit)) self r (literal (now (item .entry))) ⌝ }
     {
-        if self.last == b'\n' {
-            self.write_indent(output).write_bytes(output, item)
-        } else {
-            self.write_bytes(output, item)
-        }
+        self.begin_line(output).write_bytes(output, item)
+    }
+
+    // Likewise a text of the source, which may be long.
+    pub fn write_text(self, output: &mut [u8], text: &[u8]) -> Self
+        requires { ⌜ Room self (literal (now text)) ⌝ }
+        ensures { λ r. ⌜ Wrote (now (output .entry)) (now (output .exit)) self r (literal (now (text .entry))) ⌝ }
+    {
+        let w = self.begin_line(output);
+        let at = w.at;
+        store_text(output, at, text);
+        w.after(text)
     }
 
     // The Rust's write_char_into_indent with '*', after a line end: the last space of the indent is replaced.

@@ -40,16 +40,19 @@ serialize-entry-requires : tie.Need-serialize-entry-requires Inv-loop μ-loop
 unfolding count
 serialize-entry-requires c κs = entry-next (c .before .before .before .before .before .before .before .before .before .before .args .source .now) (c .before .before .before .before .before .before .before .before .before .before .args .tree .now) (c .before .before .before .before .before .before .before .before .before .before .args .with-junk) (c .before .before .before .before .before .before .before .before .before .before .pre .0) (c .before .before .before .before .loop .inv) (c .before .before .if1 .taken) .ready
 
+copied-requires : tie.Need-copied-requires Inv-loop μ-loop
+copied-requires c κs = search needs
+
 wrote-by-requires : tie.Need-wrote-by-requires Inv-loop μ-loop
 wrote-by-requires c κs = search needs
 
 loop-less : tie.Need-loop-less Inv-loop μ-loop
 unfolding count after
-loop-less c = omega (arith, c .before .before .before .serialize-entry .ensures .next, c .before .before .before .before .before .before .if1 .taken)
+loop-less c = omega (arith, c .before .before .before .before .serialize-entry .ensures .next, c .before .before .before .before .before .before .before .if1 .taken)
 
 loop-again : tie.Need-loop-again Inv-loop μ-loop
 unfolding count
-loop-again c = entry-next (c .before .before .before .before .before .before .before .before .before .before .before .before .before .before .args .source .now) (c .before .before .before .before .before .before .before .before .before .before .before .before .before .before .args .tree .now) (c .before .before .before .before .before .before .before .before .before .before .before .before .before .before .args .with-junk) (c .before .before .before .before .before .before .before .before .before .before .before .before .before .before .pre .0) (c .before .before .before .before .before .before .before .before .loop .inv) (c .before .before .before .before .before .before .if1 .taken) .on _ (c .before .before .before .serialize-entry .ensures) (c .wrote-by .ensures ∙ ap (λ k. wroteBy [] (c .before .before .before .before .before .before .before .before .loop .wrote-non-junk-entry) k) (c .before .before .before .before .before .kind-at .ensures))
+loop-again c = rw (c .before .copied .ensures) (entry-next (c .before .before .before .before .before .before .before .before .before .before .before .before .before .before .before .args .source .now) (c .before .before .before .before .before .before .before .before .before .before .before .before .before .before .before .args .tree .now) (c .before .before .before .before .before .before .before .before .before .before .before .before .before .before .before .args .with-junk) (c .before .before .before .before .before .before .before .before .before .before .before .before .before .before .before .pre .0) (c .before .before .before .before .before .before .before .before .before .loop .inv) (c .before .before .before .before .before .before .before .if1 .taken) .on _ (c .before .before .before .before .serialize-entry .ensures) (c .wrote-by .ensures ∙ ap (λ k. wroteBy [] (c .before .before .before .before .before .before .before .before .before .loop .wrote-non-junk-entry) k) (c .before .before .before .before .before .before .kind-at .ensures)))
 
 same-length : tie.Need-same-length Inv-loop μ-loop
 unfolding count
@@ -71,6 +74,7 @@ serialize-resource-spec =
     loop-holds
     kind-at-requires
     serialize-entry-requires
+    copied-requires
     wrote-by-requires
     loop-less
     loop-again

@@ -20,11 +20,11 @@ slice-aggregate-write-literal c = search needs
 write-literal-requires-2 : tie.Need-write-literal-requires-2
 write-literal-requires-2 c κs = room-first (going-on (going (c .before .before .before .before .before .before .before .before .before .before .before .args .output .now) (c .before .before .before .before .before .before .before .before .before .before .before .args .w) (line-full (c .before .before .before .before .before .before .before .before .before .before .before .args .prefix .now) (c .before .before .before .before .before .before .before .before .before .before .before .args .line .now) (sym (c .before .before .before .is-blank-line .ensures) ∙ c .before .before .if1 .left)) (c .before .before .before .before .before .before .before .before .before .before .before .pre)) (c .before .before .before .before .before .before .write-literal .ensures))
 
-write-literal-requires-3 : tie.Need-write-literal-requires-3
-write-literal-requires-3 c κs = room-first (going-on (going-on (going (c .before .before .before .before .before .before .before .before .before .before .before .before .before .before .before .args .output .now) (c .before .before .before .before .before .before .before .before .before .before .before .before .before .before .before .args .w) (line-full (c .before .before .before .before .before .before .before .before .before .before .before .before .before .before .before .args .prefix .now) (c .before .before .before .before .before .before .before .before .before .before .before .before .before .before .before .args .line .now) (sym (c .before .before .before .before .before .before .before .is-blank-line .ensures) ∙ c .before .before .before .before .before .before .if1 .left)) (c .before .before .before .before .before .before .before .before .before .before .before .before .before .before .before .pre)) (c .before .before .before .before .before .before .before .before .before .before .write-literal .ensures)) (c .before .before .before .write-literal2 .ensures))
+write-text-requires : tie.Need-write-text-requires
+write-text-requires c κs = room-first (going-on (going-on (going (c .before .before .before .before .before .before .before .before .before .before .before .before .before .before .before .args .output .now) (c .before .before .before .before .before .before .before .before .before .before .before .before .before .before .before .args .w) (line-full (c .before .before .before .before .before .before .before .before .before .before .before .before .before .before .before .args .prefix .now) (c .before .before .before .before .before .before .before .before .before .before .before .before .before .before .before .args .line .now) (sym (c .before .before .before .before .before .before .before .is-blank-line .ensures) ∙ c .before .before .before .before .before .before .if1 .left)) (c .before .before .before .before .before .before .before .before .before .before .before .before .before .before .before .pre)) (c .before .before .before .before .before .before .before .before .before .before .write-literal .ensures)) (c .before .before .before .write-literal2 .ensures))
 
 newline-requires-2 : tie.Need-newline-requires-2
-newline-requires-2 c κs = room-first (going-on (going-on (going-on (going (c .before .before .before .before .before .before .before .before .before .before .before .before .before .before .before .before .before .before .before .args .output .now) (c .before .before .before .before .before .before .before .before .before .before .before .before .before .before .before .before .before .before .before .args .w) (line-full (c .before .before .before .before .before .before .before .before .before .before .before .before .before .before .before .before .before .before .before .args .prefix .now) (c .before .before .before .before .before .before .before .before .before .before .before .before .before .before .before .before .before .before .before .args .line .now) (sym (c .before .before .before .before .before .before .before .before .before .before .before .is-blank-line .ensures) ∙ c .before .before .before .before .before .before .before .before .before .before .if1 .left)) (c .before .before .before .before .before .before .before .before .before .before .before .before .before .before .before .before .before .before .before .pre)) (c .before .before .before .before .before .before .before .before .before .before .before .before .before .before .write-literal .ensures)) (c .before .before .before .before .before .before .before .write-literal2 .ensures)) (c .before .before .before .write-literal3 .ensures))
+newline-requires-2 c κs = room-first (going-on (going-on (going-on (going (c .before .before .before .before .before .before .before .before .before .before .before .before .before .before .before .before .before .before .before .args .output .now) (c .before .before .before .before .before .before .before .before .before .before .before .before .before .before .before .before .before .before .before .args .w) (line-full (c .before .before .before .before .before .before .before .before .before .before .before .before .before .before .before .before .before .before .before .args .prefix .now) (c .before .before .before .before .before .before .before .before .before .before .before .before .before .before .before .before .before .before .before .args .line .now) (sym (c .before .before .before .before .before .before .before .before .before .before .before .is-blank-line .ensures) ∙ c .before .before .before .before .before .before .before .before .before .before .if1 .left)) (c .before .before .before .before .before .before .before .before .before .before .before .before .before .before .before .before .before .before .before .pre)) (c .before .before .before .before .before .before .before .before .before .before .before .before .before .before .write-literal .ensures)) (c .before .before .before .before .before .before .before .write-literal2 .ensures)) (c .before .before .before .write-text .ensures))
 
 same-length : tie.Need-same-length
 same-length c = search needs
@@ -36,7 +36,7 @@ same-length-2 : tie.Need-same-length-2
 same-length-2 c = search needs
 
 returns-2 : tie.Need-returns-2
-returns-2 c = gone (going-on (going-on (going-on (going-on (going (c .before .before .before .before .before .before .before .before .before .before .before .before .before .before .before .before .before .before .before .before .before .before .args .output .now) (c .before .before .before .before .before .before .before .before .before .before .before .before .before .before .before .before .before .before .before .before .before .before .args .w) (line-full (c .before .before .before .before .before .before .before .before .before .before .before .before .before .before .before .before .before .before .before .before .before .before .args .prefix .now) (c .before .before .before .before .before .before .before .before .before .before .before .before .before .before .before .before .before .before .before .before .before .before .args .line .now) (sym (c .before .before .before .before .before .before .before .before .before .before .before .before .before .before .is-blank-line .ensures) ∙ c .before .before .before .before .before .before .before .before .before .before .before .before .before .if1 .left)) (c .before .before .before .before .before .before .before .before .before .before .before .before .before .before .before .before .before .before .before .before .before .before .pre)) (c .before .before .before .before .before .before .before .before .before .before .before .before .before .before .before .before .before .write-literal .ensures)) (c .before .before .before .before .before .before .before .before .before .before .write-literal2 .ensures)) (c .before .before .before .before .before .before .write-literal3 .ensures)) (c .before .before .newline2 .ensures))
+returns-2 c = gone (going-on (going-on (going-on (going-on (going (c .before .before .before .before .before .before .before .before .before .before .before .before .before .before .before .before .before .before .before .before .before .before .args .output .now) (c .before .before .before .before .before .before .before .before .before .before .before .before .before .before .before .before .before .before .before .before .before .before .args .w) (line-full (c .before .before .before .before .before .before .before .before .before .before .before .before .before .before .before .before .before .before .before .before .before .before .args .prefix .now) (c .before .before .before .before .before .before .before .before .before .before .before .before .before .before .before .before .before .before .before .before .before .before .args .line .now) (sym (c .before .before .before .before .before .before .before .before .before .before .before .before .before .before .is-blank-line .ensures) ∙ c .before .before .before .before .before .before .before .before .before .before .before .before .before .if1 .left)) (c .before .before .before .before .before .before .before .before .before .before .before .before .before .before .before .before .before .before .before .before .before .before .pre)) (c .before .before .before .before .before .before .before .before .before .before .before .before .before .before .before .before .before .write-literal .ensures)) (c .before .before .before .before .before .before .before .before .before .before .write-literal2 .ensures)) (c .before .before .before .before .before .before .write-text .ensures)) (c .before .before .newline2 .ensures))
 
 pub serialize-comment-line-spec : {M : Type 1} → statement M
 serialize-comment-line-spec =
@@ -47,7 +47,7 @@ serialize-comment-line-spec =
     newline-requires
     slice-aggregate-write-literal
     write-literal-requires-2
-    write-literal-requires-3
+    write-text-requires
     newline-requires-2
     same-length
     returns

@@ -11,9 +11,9 @@ use Rattle.serializer.proofs.serializer.Serializer.serialize_text.Tie a
 text-at-requires : tie.Need-text-at-requires
 text-at-requires c κs = (c .before .before .before .pre .0, c .before .before .before .pre .1 .0)
 
-write-literal-requires : tie.Need-write-literal-requires
+write-text-requires : tie.Need-write-text-requires
 unfolding name
-write-literal-requires c κs = rw (c .before .text-at .ensures) (c .before .before .before .before .before .pre .1 .1)
+write-text-requires c κs = rw (c .before .text-at .ensures) (c .before .before .before .before .before .pre .1 .1)
 
 add-t10 : tie.Need-add-t10
 add-t10 c = omega (arith, sizes (c .before .before .before .before .before .before .before .before .args .tree .now) (c .before .before .before .before .before .before .before .before .pre .0), at-count (c .before .before .before .before .before .before .before .before .args .tree .now) (sizes (c .before .before .before .before .before .before .before .before .args .tree .now) (c .before .before .before .before .before .before .before .before .pre .0)) (c .before .before .before .before .before .before .before .before .pre .1 .0 .at))
@@ -23,8 +23,8 @@ same-length c = search needs
 
 returns : tie.Need-returns
 unfolding name
-returns c = record { wrote = rw (c .before .before .before .before .text-at .ensures) at (c .before .before .write-literal .ensures); next = sym (text-after (c .before .before .before .before .before .before .before .before .pre .1 .0 .at) (c .before .before .before .before .before .before .before .before .pre .1 .0 .isText)) }
+returns c = record { wrote = rw (c .before .before .before .before .text-at .ensures) at (c .before .before .write-text .ensures); next = sym (text-after (c .before .before .before .before .before .before .before .before .pre .1 .0 .at) (c .before .before .before .before .before .before .before .before .pre .1 .0 .isText)) }
 
 pub serialize-text-spec : {M : Type 1} → statement M
 serialize-text-spec =
-    tie.close (tie.spec text-at-requires write-literal-requires add-t10 same-length returns)
+    tie.close (tie.spec text-at-requires write-text-requires add-t10 same-length returns)

@@ -4,7 +4,8 @@ use mathlib.Core.Path.{_≡_, refl, sym, ap, _∙_}
 use mathlib.Core.Logic.{⊎-elim}
 use lib.ListN.{length, set, length-set}
 use Rattle.laws.specs.Sets.{set-past}
-use Rattle.serializer.proofs.Pieces.{wrote-byte}
+use Rattle.syntax.specs.Serializer.{lastOf}
+use Rattle.serializer.proofs.Pieces.{wrote-stored}
 use Rattle.serializer.proofs.writer.TextWriter.put.Statement.{statement}
 use Rattle.serializer.proofs.writer.TextWriter.put.Tie as tie
 
@@ -21,7 +22,8 @@ same-length : tie.Need-same-length
 same-length c = ap length (stored c) ∙ simp length-set
 
 returns : tie.Need-returns
-returns c = wrote-byte _ (stored c) refl
+unfolding lastOf
+returns c = wrote-stored _ (stored c) refl
 
 pub put-spec : {M : Type 1} → statement M
 put-spec = tie.close (tie.spec slice-write-output add-t5 same-length returns)

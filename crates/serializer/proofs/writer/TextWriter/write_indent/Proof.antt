@@ -1,57 +1,33 @@
--- `TextWriter::write_indent` meets its contract: in the loop the spaces of the levels so far have been written.
-use Prim.Native.Nat.{_-_, _*_, _≤_}
+-- `TextWriter::write_indent` meets its contract.
+use Prim.Native.Nat.{_*_}
 use native.Mathlib.Omega.{arith}
-use mathlib.Core.Path.{_≡_, refl, sym, ap}
-use lib.ListN.{length, replicate, length-replicate}
+use mathlib.Core.Path.{refl, sym, ap}
+use lib.ListN.{replicate}
+use borrow.Author.Needs.{needs}
 use Rattle.syntax.specs.Byte as Byte
-use Rattle.syntax.specs.Serializer.{indentWidth}
-use Rattle.serializer.specs.Writer.{bytes, Wrote}
-use Rattle.serializer.proofs.Pieces.{wrote-none, wrote-level, wrote-length}
+use Rattle.serializer.specs.Writer.{bytes}
+use Rattle.serializer.proofs.Pieces.{wrote-none, wrote-as, wrote-spaces}
 use Rattle.serializer.proofs.writer.TextWriter.write_indent.Statement.{statement}
 use Rattle.serializer.proofs.writer.TextWriter.write_indent.Tie as tie
 
-abbrev Inv-loop : tie.InvT-loop
-Inv-loop self output₀ w₀ level₀ t5 output w level =
-    (t5 ≡ replicate 4 Byte.space) × ((level ≤ self .indent) × Wrote output₀ output self w (bytes (replicate (indentWidth * level) Byte.space)))
+returns : tie.Need-returns
+returns c = wrote-as (bytes (replicate (4 * c .before .before .args .self .indent) Byte.space)) (ap (λ n. replicate (4 * n) Byte.space) (sym (c .if1 .taken))) wrote-none
 
-abbrev μ-loop : tie.MeasureT-loop
-μ-loop self output₀ w₀ level₀ t5 output w level = self .indent - level
+mul-width : tie.Need-mul-width
+mul-width c = search needs
 
-loop-holds : tie.Need-loop-holds Inv-loop μ-loop
-loop-holds c = (refl, (omega arith, wrote-none))
+store-indent-requires : tie.Need-store-indent-requires
+store-indent-requires c κs = search needs
 
-slice-aggregate-write-bytes : tie.Need-slice-aggregate-write-bytes Inv-loop μ-loop
-slice-aggregate-write-bytes c = sym (ap length (c .before .before .before .before .loop .inv .0))
+add-t10 : tie.Need-add-t10
+add-t10 c = search needs
 
-write-bytes-requires : tie.Need-write-bytes-requires Inv-loop μ-loop
-write-bytes-requires c κs = omega (arith, c .before .before .before .before .before .before .pre, c .before .before .if1 .taken, c .before .before .before .before .loop .inv .1 .1 .end, ap length (c .before .before .before .before .loop .inv .0), length-replicate (4 * c .before .before .before .before .loop .level) Byte.space)
+same-length : tie.Need-same-length
+same-length c = search needs
 
-add-level : tie.Need-add-level Inv-loop μ-loop
-add-level c = omega (arith, c .before .before .before .before .before .if1 .taken, c .before .before .before .before .before .before .before .before .before .pre)
-
-loop-less : tie.Need-loop-less Inv-loop μ-loop
-loop-less c = omega (arith, c .before .before .before .before .before .if1 .taken)
-
-loop-again : tie.Need-loop-again Inv-loop μ-loop
-loop-again c = (c .before .before .before .before .before .before .before .loop .inv .0, (omega (arith, c .before .before .before .before .before .if1 .taken), wrote-level (c .before .before .before .before .before .before .before .loop .level) (c .before .before .before .before .before .before .before .loop .inv .1 .1) (rw (c .before .before .before .before .before .before .before .loop .inv .0) at (c .before .before .write-bytes .ensures))))
-
-same-length : tie.Need-same-length Inv-loop μ-loop
-same-length c = wrote-length (c .before .before .loop .inv .1 .1)
-
-returns : tie.Need-returns Inv-loop μ-loop
-returns c = let e : c .before .before .loop .level ≡ c .before .before .before .before .args .self .indent = omega arith in rw e at (c .before .before .loop .inv .1 .1)
+returns-2 : tie.Need-returns-2
+returns-2 c = wrote-spaces (omega arith) (c .before .before .store-indent .ensures) refl
 
 pub write-indent-spec : {M : Type 1} → statement M
 write-indent-spec =
-    tie.close
-    (tie.spec
-    Inv-loop
-    μ-loop
-    loop-holds
-    slice-aggregate-write-bytes
-    write-bytes-requires
-    add-level
-    loop-less
-    loop-again
-    same-length
-    returns)
+    tie.close (tie.spec returns mul-width store-indent-requires add-t10 same-length returns-2)

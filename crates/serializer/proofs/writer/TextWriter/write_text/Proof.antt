@@ -1,0 +1,26 @@
+-- `TextWriter::write_text` meets its contract: the indent where a line begins, and then the bytes.
+use borrow.Author.Needs.{needs}
+use Rattle.serializer.proofs.Pieces.{room-line, room-literal, wrote-stored, wrote-literal}
+use Rattle.serializer.proofs.writer.TextWriter.write_text.Statement.{statement}
+use Rattle.serializer.proofs.writer.TextWriter.write_text.Tie as tie
+
+begin-line-requires : tie.Need-begin-line-requires
+begin-line-requires c κs = room-line (c .before .before .before .args .self) (c .before .before .before .args .text .now) (c .before .before .before .pre)
+
+store-text-requires : tie.Need-store-text-requires
+store-text-requires c κs = room-literal (c .before .before .before .before .before .before .before .args .self) (c .before .before .before .before .before .before .before .args .text .now) (c .before .before .before .begin-line .ensures) (c .before .before .before .before .before .before .before .pre)
+
+after-requires : tie.Need-after-requires
+after-requires c κs = room-literal (c .before .before .before .before .before .before .before .before .before .before .args .self) (c .before .before .before .before .before .before .before .before .before .before .args .text .now) (c .before .before .before .before .before .before .begin-line .ensures) (c .before .before .before .before .before .before .before .before .before .before .pre)
+
+same-length : tie.Need-same-length
+same-length c = search needs
+
+returns : tie.Need-returns
+returns c =
+    let t = c .before .before .before .before .before .before .before .before .before .before .before .args .text .now in
+    wrote-literal (c .before .before .before .before .before .before .before .before .before .before .before .args .self) t (c .before .before .before .before .before .before .before .begin-line .ensures) (wrote-stored t (c .before .before .before .store-text .ensures) (c .after .ensures))
+
+pub write-text-spec : {M : Type 1} → statement M
+write-text-spec =
+    tie.close (tie.spec begin-line-requires store-text-requires after-requires same-length returns)
