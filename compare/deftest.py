@@ -1,18 +1,19 @@
 #!/usr/bin/env python3
 """Tries the definitions of crates/syntax/specs on sources, against the Rust's answers.
 
-usage: deftest.py [--oracle PATH] [--rows N] [--texts 0|1] < sources     (one source a line, in hex)
+usage: deftest.py [--oracle PATH] [--rows N] [--texts 0|1] [--entries 0|1] < sources     (one source a line, in hex)
 
-Each source becomes a row `parse 64 source ≡ read marks errors` and, unless --texts is 0, two rows
-`serialize source junk marks ≡ text`, with what the oracle's `batch` answers on the right, and `refl` as the proof. The rows
-stand in modules of N readings in a scratch copy of the crate; a row that does not hold is an error at its line. Sources
-that the oracle refuses with 1 or 2 are left out: the definitions of reading begin where those refusals end.
+Each source becomes a row `parse 64 source ≡ read marks errors` and, unless --texts is 0, two rows `serialize source junk
+marks ≡ text`, with what the oracle's `batch` answers on the right, and `refl` as the proof. With --entries 1 there is also a
+row `parseExtents 64 source ≡ extents` for each source that is read, by the oracle's `entries`. The rows stand in modules of
+N readings in a scratch copy of the crate; a row that does not hold is an error at its line. Sources that the oracle refuses
+with 1 or 2 are left out: the definitions of reading begin where those refusals end.
 The oracle is the unchanged Rust with a listing: shared/oracle of this project, built by `cargo build --release --offline`.
 """
 import argparse, os, re, shutil, subprocess, sys, tempfile
 
 ROOT = os.path.dirname(os.path.dirname(os.path.abspath(__file__)))
-DEFINITIONS = ('Bytes', 'Marks', 'Reader', 'Helper', 'Comment', 'Pattern', 'Expression', 'Core', 'Serializer')
+DEFINITIONS = ('Bytes', 'Marks', 'Reader', 'Helper', 'Comment', 'Pattern', 'Expression', 'Core', 'Serializer', 'Next')
 KINDS = [None, 'ExpectedToken', 'ExpectedCharRange', 'ExpectedMessageField', 'ExpectedTermField', 'ForbiddenCallee',
          'MissingDefaultVariant', 'MissingValue', 'MultipleDefaultVariants', 'MessageReferenceAsSelector',
          'TermReferenceAsSelector', 'MessageAttributeAsSelector', 'TermAttributeAsPlaceable', 'UnterminatedStringLiteral',
@@ -52,7 +53,13 @@ def unfolding(specs, modules):
     return 'unfolding ' + ' '.join(names)
 
 
-def rows(sources, answers, texts, unfold):
+def extents(oracle, data):
+    """The starts and stops of a source's entries."""
+    out = subprocess.run([oracle, 'entries'], input=data, capture_output=True, check=True).stdout.decode()
+    return bytes_list('record {{ start = {}; stop = {} }}'.format(*l.split()) for l in out.splitlines())
+
+
+def rows(sources, answers, texts, entries, unfold):
     """The rows of a module: text, and how many."""
     out, count = [], 0
     for i, (source, answer) in enumerate(zip(sources, answers)):
@@ -71,6 +78,9 @@ def rows(sources, answers, texts, unfold):
             want = f'read {bytes_list(marks)} {bytes_list(errors)}'
         out.append(f'-- {data!r}\nr{i} : CoreOf.parse 64 {bytes_list(data)} ≡ {want}\n{unfold}\nr{i} = refl\n')
         count += 1
+        if entries and first[0] == '0':
+            out.append(f'e{i} : NextOf.parseExtents 64 {bytes_list(data)} ≡ {extents(entries, data)}\n{unfold}\ne{i} = refl\n')
+            count += 1
         for column, flag in ((1, 'false'), (2, 'true')):
             if texts and first[0] == '0':
                 text = bytes_list(bytes.fromhex(columns[column]))
@@ -116,6 +126,7 @@ def main():
     args.add_argument('--oracle', default=os.path.join(ROOT, '../shared/oracle/target/release/oracle'))
     args.add_argument('--rows', type=int, default=500)
     args.add_argument('--texts', type=int, default=1)
+    args.add_argument('--entries', type=int, default=0)
     args = args.parse_args()
     sources = [l.strip() for l in sys.stdin]
     answers = subprocess.run([args.oracle, 'batch'], input='\n'.join(sources) + '\n', capture_output=True, text=True,
@@ -123,7 +134,8 @@ def main():
     unfold = unfolding(os.path.join(ROOT, 'crates/syntax/specs'), DEFINITIONS)
     total = wrong = 0
     for start in range(0, len(sources), args.rows):
-        text, count = rows(sources[start:start + args.rows], answers[start:start + args.rows], args.texts, unfold)
+        text, count = rows(sources[start:start + args.rows], answers[start:start + args.rows], args.texts,
+                           args.entries and args.oracle, unfold)
         wrong += unproved(('utf8', 'syntax'), 'syntax', HEAD + text)
         total += count
         print(f'{total} rows, {wrong} wrong', flush=True)

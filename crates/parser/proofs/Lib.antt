@@ -34,6 +34,7 @@ pub mod Nexts
 pub mod Words
 pub mod Comments
 pub mod Outcome
+pub mod Stops
 pub mod Got
 pub mod Rows
 pub mod Files

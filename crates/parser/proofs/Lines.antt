@@ -117,13 +117,17 @@ starts-first s i h = rw h
 pub starts-after : (s : List ℕ) (i : ℕ) → (i ≡ 0 → ⊥) → i ≤ length s → eqb (getD s (i - 1) 0) Byte.lineFeed ≡ lineStartsAt i s
 starts-after s i h l = let e : i ≡ suc (i - 1) = omega arith in sym (ap (λ (k : ℕ). lineStartsAt k s) e ∙ start-after (i - 1) s (omega arith))
 
+-- past a place, whether a line starts does not depend on the place
+pub starts-past : (s : List ℕ) (i k : ℕ) → i + suc k ≤ length s → lineStartsAt (i + suc k) s ≡ lineStartsAt (suc k) (drop i s)
+starts-past s i k l =
+    let e : i + k < length s = omega arith in
+    rw (add-suc, start-after (i + k) s e, start-after k (drop i s) (omega (arith, length-drop i s)), getD-drop i s k 0)
+
 -- a line that starts after one does
 pub starts-later : (s : List ℕ) (i k : ℕ) → lineStartsAt i s ≡ true → i + k ≤ length s → lineStartsAt (i + k) s ≡ lineStartsAt k (drop i s)
 unfolding lineStartsAt
 starts-later s i zero h l = rw add-zero h
-starts-later s i (suc k) h l =
-    let e : i + k < length s = omega arith in
-    rw (add-suc, start-after (i + k) s e, start-after k (drop i s) (omega (arith, length-drop i s)), getD-drop i s k 0)
+starts-later s i (suc k) h l = starts-past s i k l
 
 -- ---- junk
 

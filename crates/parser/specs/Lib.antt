@@ -17,3 +17,4 @@ pub mod Call
 pub mod Resource
 pub mod Fields
 pub mod Names
+pub mod Next

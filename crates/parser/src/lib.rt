@@ -8,6 +8,7 @@ mod helper;
 mod layout;
 mod list;
 mod marks;
+pub mod next;
 mod pattern;
 pub mod read;
 mod resource;

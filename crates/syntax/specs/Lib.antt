@@ -15,8 +15,10 @@ pub mod Core
 pub mod Serializer
 pub mod Layout
 pub mod Reading
+pub mod Next
 pub mod Shape
 pub mod ShapeTable
 pub mod Writing
 pub mod Listing
 pub mod Table
+pub mod NextTable

@@ -1,0 +1,66 @@
+// Prints where each entry of a source on standard input, of at most 4,000 bytes, starts and where its reading stopped.
+ghost use Prim.Native.Nat.{_≤_};
+ghost use lib.ListN.{length};
+ghost use Rattle.entries.specs.Listed.{maxSource, Lent, Listed};
+use input::Input;
+use input::read_input;
+use libc::STDERR_FILENO;
+use libc::STDOUT_FILENO;
+use parser::next::first_place;
+use reader::entry_after;
+use syntax::next::Next;
+
+// Puts the start and the stop of each entry into the list. Answers how many entries there are.
+fn list_entries(source: &[u8], tree: &mut [u32], list: &mut [u32]) -> usize
+    requires { ⌜ Lent (now source) (now tree) (now list) ⌝ }
+    ensures { λ r. ⌜ Listed (now (source .entry)) (now (list .entry)) (now (list .exit)) r ⌝ }
+{
+    let mut at = first_place(source);
+    let mut n = 0;
+    loop {
+        let Next::Entry(start, stop) = entry_after(source, at, tree) else {
+            return n;
+        };
+        let i = 2 * n;
+        list[i] = start as u32;
+        let i = i + 1;
+        list[i] = stop as u32;
+        at = stop;
+        n += 1;
+    }
+}
+
+fn print_entry(start: u32, stop: u32) {
+    io::print_decimal(STDOUT_FILENO, start as u64);
+    io::write_all(STDOUT_FILENO, b" ");
+    io::print_decimal(STDOUT_FILENO, stop as u64);
+    io::write_all(STDOUT_FILENO, b"\n");
+}
+
+// Prints the entries of a source. The tree has 2 + 16 words a byte, and the list two words for each entry, which takes a byte.
+fn print(source: &[u8])
+    requires { ⌜ length (now source) ≤ maxSource ⌝ }
+{
+    let mut tree = [0u32; 64_002];
+    let mut list = [0u32; 8_000];
+    let n = list_entries(source, &mut tree, &mut list);
+    let mut i = 0;
+    while i < n {
+        print_entry(list[2 * i], list[2 * i + 1]);
+        i += 1;
+    }
+}
+
+fn main() {
+    // One byte more than a source may have, so that a longer one is not cut.
+    let mut buffer = [0u8; 4_001];
+    let Input::Bytes(length) = read_input(&mut buffer) else {
+        io::write_all(STDERR_FILENO, b"entries: standard input cannot be read\n");
+        return;
+    };
+    if 4_000 < length {
+        io::write_all(STDERR_FILENO, b"entries: more than 4,000 bytes\n");
+        return;
+    }
+    print(&buffer[..length]);
+}
