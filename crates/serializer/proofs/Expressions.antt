@@ -1,27 +1,27 @@
 -- The parts of expressions, variants and arguments, and their pieces in a row.
-use Prim.Native.Nat.{ℕ, _+_}
+use Prim.Native.Nat.{ℕ, _+_, _*_}
 use native.Mathlib.Omega.{arith}
 use mathlib.Core.Path.{_≡_, refl, sym, ap, _∙_}
-use mathlib.Core.Bool.{Bool, false, _||_}
+use mathlib.Core.Bool.{Bool, true, false, _||_}
 use mathlib.Core.List.{List, [], _∷_}
 use lib.Dec.{eqb}
 use lib.ListN.{length}
-use borrow.Author.Tests.{eq-eqb, ne-eqb}
+use borrow.Author.Tests.{eqb-true, eq-eqb, ne-eqb}
 use Rattle.utf8.specs.Utf8.{isBoundary}
 use Rattle.syntax.specs.Kind as Kind
 use Rattle.syntax.specs.Bytes.{ascii}
 use Rattle.syntax.specs.Marks.{Mark}
 use Rattle.syntax.specs.Layout.{marksIn}
 use Rattle.syntax.specs.Shape.{among, models, finalBy, final, inline}
-use Rattle.syntax.specs.Serializer.{Node, nodesFrom, nodes, _⊕_, literal, newline, indented, star, each, if, first, ofKind, name, reference}
-use Rattle.laws.specs.Bytes.{clash}
+use Rattle.syntax.specs.Serializer.{Node, nodesFrom, nodes, _⊕_, empty, literal, newline, indented, star, each, if, first, ofKind, name, reference}
+use Rattle.laws.specs.Bytes.{byCase, clash}
 use Rattle.laws.specs.Shape.Run.{otherwise, child-rule}
 use Rattle.laws.specs.Text.{expressionOf, selectOf, variantOf, inlineOf, separatedOf, argumentOf}
 use Rattle.laws.specs.Text as Text
 use Rattle.serializer.specs.Walk.{kindAt, nodeAt, after, innerAt, At, TextAt, OneAt, Open}
-use Rattle.serializer.specs.Serialize.{expressions, variants, arguments, references, patternIn, selectIn, argumentsIn, variantLines, sigil, quoted, referenceOf, keyAt, argumentName, Call, Named}
+use Rattle.serializer.specs.Serialize.{variants, arguments, references, patternIn, selectIn, argumentsIn, variantLines, sigil, quoted, referenceOf, keyAt, argumentName, oneIf, Call, Named}
 use Rattle.serializer.specs.Serialize as Spec
-use Rattle.serializer.proofs.Pieces.{Row, one, two, three, four, row-same, then-assoc}
+use Rattle.serializer.proofs.Pieces.{Row, one, two, three, four, row-same, then-assoc, empty-then}
 use Rattle.serializer.proofs.Walk.{at-kind, node-kind, enter, Entered}
 use Rattle.serializer.proofs.Children.{must, only, at-as, others, keeps, omits}
 use Rattle.serializer.proofs.Variants.{Pair, variant-pair, argument-pair}
@@ -96,6 +96,13 @@ pub record Chosen (source : List ℕ) (boundary : ℕ → Bool) (ms : List Mark)
   pub rest : Open boundary ms (after ms (i + 1)) Kind.select 1
   pub till : after ms (i + 1) + length (innerAt ms (after ms (i + 1))) + 1 ≡ after ms i
 
+-- an argument, by whether it is a named one: its name, and its value at the mark j
+pub record Argued (source : List ℕ) (boundary : ℕ → Bool) (ms : List Mark) (i j : ℕ) (named : Bool) : Type 0 where
+  pub key : named ≡ true → At boundary ms i Kind.namedArgument
+  pub value : OneAt boundary inline ms j
+  pub parts : Row (argumentOf source (nodeAt ms i)) (if named (argumentName source (nodeAt ms (i + 1))) ∷ inlineOf source (nodeAt ms j) ∷ [])
+  pub till : after ms j + oneIf named ≡ after ms i
+
 module _ (source : List ℕ) {boundary : ℕ → Bool} {ms : List Mark} {i : ℕ} where
   pub chosen : OneAt boundary (Kind.select ∷ []) ms i → Chosen source boundary ms i
   unfolding Kind.isText among models finalBy final variantLines
@@ -141,11 +148,11 @@ module _ (source : List ℕ) {boundary : ℕ → Bool} {ms : List Mark} {i : ℕ
 
   -- an argument: a value, or a name and a value
   module _ (a : OneAt boundary arguments ms i) where
-    pub argument-value : (kindAt ms i ≡ Kind.namedArgument → ⊥) → OneAt boundary inline ms i × (argumentOf source (nodeAt ms i) ≡ inlineOf source (nodeAt ms i))
+    argument-value : (kindAt ms i ≡ Kind.namedArgument → ⊥) → OneAt boundary inline ms i × (argumentOf source (nodeAt ms i) ≡ inlineOf source (nodeAt ms i))
     argument-value h =
         (others a h, Text.argument-is source (nodeAt ms i) ∙ rw (ne-eqb (nodeAt ms i .kind) Kind.namedArgument (λ e. h (at-kind (a .at) ∙ sym (node-kind (a .at)) ∙ e))))
 
-    pub argument-named : kindAt ms i ≡ Kind.namedArgument → Pair boundary ms i inline × Row (argumentOf source (nodeAt ms i)) (argumentName source (nodeAt ms (i + 1)) ∷ inlineOf source (nodeAt ms (i + 3)) ∷ [])
+    argument-named : kindAt ms i ≡ Kind.namedArgument → Pair boundary ms i inline × Row (argumentOf source (nodeAt ms i)) (argumentName source (nodeAt ms (i + 1)) ∷ inlineOf source (nodeAt ms (i + 3)) ∷ [])
     unfolding first argumentName
     argument-named e =
         let b = at-as a e in
@@ -155,3 +162,17 @@ module _ (source : List ℕ) {boundary : ℕ → Bool} {ms : List Mark} {i : ℕ
           p,
           row-same (Text.argument-is source (nodeAt ms i) ∙ rw (eq-eqb (nodeAt ms i .kind) Kind.namedArgument (node-kind b), p .both) (Text.namedArgument-is source K (P ∷ []) ∙ sym (then-assoc (name source K) (literal (ascii ": ")) (inlineOf source P)))) (two (argumentName source K) (inlineOf source P)),
         )
+
+    value-alone : (kindAt ms i ≡ Kind.namedArgument → ⊥) → (j : ℕ) → j ≡ i → Argued source boundary ms i j false
+    unfolding if
+    value-alone h j e =
+        let v = argument-value h in
+        let x = inlineOf source (nodeAt ms i) in
+        rw e (record { key = λ z. clash z refl; value = v .0; parts = row-same (v .1 ∙ sym (empty-then x)) (two empty x); till = omega arith })
+
+    pub argued : Argued source boundary ms i (i + 3 * oneIf (eqb (kindAt ms i) Kind.namedArgument)) (eqb (kindAt ms i) Kind.namedArgument)
+    unfolding if
+    argued =
+        byCase (eqb (kindAt ms i) Kind.namedArgument)
+        (λ e. let is = eqb-true (kindAt ms i) Kind.namedArgument e in let n = argument-named is in rw e (record { key = λ z. at-as a is; value = n .0 .value; parts = n .1; till = n .0 .till }))
+        (λ e. rw e (value-alone (λ z. clash (eq-eqb (kindAt ms i) Kind.namedArgument z) e) (i + 3 * 0) (omega arith)))

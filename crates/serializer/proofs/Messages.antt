@@ -25,10 +25,10 @@ use Rattle.serializer.specs.declared.serializer.Serializer.{Serializer}
 use Rattle.serializer.specs.declared.writer.TextWriter.{TextWriter}
 use Rattle.serializer.specs.Writer.{Wrote}
 use Rattle.serializer.specs.Walk.{firstKind, kindAt, nodeAt, after, innerAt, At, TextAt, OneAt, Inside}
-use Rattle.serializer.specs.Serialize.{patternIn, Ready, Done}
+use Rattle.serializer.specs.Serialize.{patternIn, raise, lower, Ready, Done}
 use Rattle.serializer.specs.Message.{naming, values, messageIn, termIn, ReadyFor, Valued}
 use Rattle.serializer.proofs.Check.{Sizes}
-use Rattle.serializer.proofs.Pieces.{Row, two, then-assoc, then-empty, Going, going, room-first, going-on, gone, raised, lowered, room-indented, wrote-indented}
+use Rattle.serializer.proofs.Pieces.{Row, two, then-assoc, then-empty, Going, going, room-first, going-on, gone, room-within, wrote-within}
 use Rattle.serializer.proofs.Walk.{Next, ends, goes, next, mark-inside, run-levels, inner-at, enter, at-kind, node-kind, text-after}
 use Rattle.serializer.proofs.Comments.{each-row}
 use Rattle.serializer.proofs.Children.{Leads, must, only, keeps, omits, text-one}
@@ -248,7 +248,7 @@ module _ (source tree : List ℕ) where
     pub way : Going o₀ o w₀ (s .writer) (each (attribute source) (nodes (innerAt (marksIn tree) m₀))) (map (attribute source) (nodes (innerAt (marksIn tree) (s .mark))))
     pub till : s .mark + length (innerAt (marksIn tree) (s .mark)) ≡ m₀ + length (innerAt (marksIn tree) m₀)
 
-  pub attributes-first : (o : List ℕ) (s : Serializer) → ReadyFor source tree s 2 (attributes source) → Attributes o o (raised (s .writer)) (s .mark) (record { writer = raised (s .writer); mark = s .mark })
+  pub attributes-first : (o : List ℕ) (s : Serializer) → ReadyFor source tree s 2 (attributes source) → Attributes o o (raise true (s .writer)) (s .mark) (record { writer = raise true (s .writer); mark = s .mark })
   attributes-first o s h =
       let ns = nodes (innerAt (marksIn tree) (s .mark)) in
       record {
@@ -256,7 +256,7 @@ module _ (source tree : List ℕ) where
         one = h .one;
         here = h .here;
         shallow = h .shallow;
-        way = going o (raised (s .writer)) (record { same = each-row (attribute source) ns }) (room-indented (s .writer) (each (attribute source) ns) (rw (attributes-each source ns) at (h .room)));
+        way = going o (raise true (s .writer)) (record { same = each-row (attribute source) ns }) (room-within true (s .writer) (each (attribute source) ns) (rw (attributes-each source ns) at (h .room)));
         till = refl;
       }
 
@@ -304,5 +304,5 @@ module _ (source tree : List ℕ) where
         go (ends c z f) = record { wrote = gone (rw z at (h .way)); end = omega (arith, h .till, ap length z) }
         go (goes j r t a n ns l) = absurd (e (at-kind a ∙ third (h .kind) (h .one) j r t .0))
 
-  pub attributes-wrote : {o₀ o : List ℕ} {w w′ : TextWriter} (m : ℕ) → Wrote o₀ o (raised w) w′ (each (attribute source) (nodes (innerAt (marksIn tree) m))) → Wrote o₀ o w (lowered w′) (attributes source (nodes (innerAt (marksIn tree) m)))
-  attributes-wrote {w = w} m h = let ns = nodes (innerAt (marksIn tree) m) in rw (attributes-each source ns) (wrote-indented w (each (attribute source) ns) h)
+  pub attributes-wrote : {o₀ o : List ℕ} {w w′ : TextWriter} (m : ℕ) → Wrote o₀ o (raise true w) w′ (each (attribute source) (nodes (innerAt (marksIn tree) m))) → Wrote o₀ o w (lower true w′) (attributes source (nodes (innerAt (marksIn tree) m)))
+  attributes-wrote {w = w} m h = let ns = nodes (innerAt (marksIn tree) m) in rw (attributes-each source ns) (wrote-within true w (each (attribute source) ns) h)

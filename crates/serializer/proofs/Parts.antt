@@ -11,13 +11,13 @@ use Rattle.syntax.specs.Kind as Kind
 use Rattle.syntax.specs.Bytes.{ascii}
 use Rattle.syntax.specs.Marks.{Mark}
 use Rattle.syntax.specs.Shape.{among, models, finalBy, final, inline}
-use Rattle.syntax.specs.Serializer.{Node, nodesFrom, nodes, _⊕_, literal, newline, indented, each, first, name, leadingDot, isMultiline}
+use Rattle.syntax.specs.Serializer.{Node, nodesFrom, nodes, Piece, _⊕_, literal, newline, indented, each, first, name, leadingDot, isMultiline}
 use Rattle.laws.specs.Bytes.{byCase}
 use Rattle.laws.specs.Text.{elementOf, inBracesOf, expressionOf, inlineOf}
 use Rattle.laws.specs.Text as Text
 use Rattle.serializer.specs.Walk.{kindAt, nodeAt, after, innerAt, At, OneAt, elements}
-use Rattle.serializer.specs.Serialize.{expressions, patternIn, selectIn, openingBraces, closingBraces, bracesOf}
-use Rattle.serializer.proofs.Pieces.{Row, row, one, two, three, row-same}
+use Rattle.serializer.specs.Serialize.{expressions, patternIn, selectIn, patternStart, openingBraces, closingBraces, bracesOf}
+use Rattle.serializer.proofs.Pieces.{Row, one, two, three, row-same, within}
 use Rattle.serializer.proofs.Walk.{at-kind, node-kind, enter, Entered}
 use Rattle.serializer.proofs.Children.{must, none, only, at-as, others}
 use Rattle.serializer.proofs.Patterns.{element-placeable}
@@ -32,15 +32,13 @@ module _ (source : List ℕ) {boundary : ℕ → Bool} {ms : List Mark} {i : ℕ
     unfolding Kind.isText
     pattern-entered = enter pattern-at refl
 
-    pub pattern-lines : (not (leadingDot source (nodes (nodeAt ms i .inner))) && isMultiline source (nodes (nodeAt ms i .inner))) ≡ true
-        → Row (patternIn source (nodeAt ms i)) (newline ∷ indented (each (elementOf source) (nodes (innerAt ms (i + 1)))) ∷ [])
-    pattern-lines e =
-        row-same (Text.pattern-is source (nodeAt ms i .inner) ∙ rw (e, pattern-entered .inner)) (two newline (indented (each (elementOf source) (nodes (innerAt ms (i + 1))))))
+    abbrev body : Piece
+    body = each (elementOf source) (nodes (innerAt ms (i + 1)))
 
-    pub pattern-line : (not (leadingDot source (nodes (nodeAt ms i .inner))) && isMultiline source (nodes (nodeAt ms i .inner))) ≡ false
-        → Row (patternIn source (nodeAt ms i)) (literal (ascii " ") ∷ each (elementOf source) (nodes (innerAt ms (i + 1))) ∷ [])
-    pattern-line e =
-        row-same (Text.pattern-is source (nodeAt ms i .inner) ∙ rw (e, pattern-entered .inner)) (two (literal (ascii " ")) (each (elementOf source) (nodes (innerAt ms (i + 1)))))
+    pub pattern-parts : (b : Bool) → b ≡ (not (leadingDot source (nodes (nodeAt ms i .inner))) && isMultiline source (nodes (nodeAt ms i .inner))) → Row (patternIn source (nodeAt ms i)) (patternStart b ∷ within b body ∷ [])
+    unfolding patternStart
+    pattern-parts true e = row-same (Text.pattern-is source (nodeAt ms i .inner) ∙ rw (sym e, pattern-entered .inner)) (two newline (indented body))
+    pattern-parts false e = row-same (Text.pattern-is source (nodeAt ms i .inner) ∙ rw (sym e, pattern-entered .inner)) (two (literal (ascii " ")) body)
 
   -- an expression
   module _ (a : OneAt boundary expressions ms i) where

@@ -18,6 +18,7 @@ use Rattle.syntax.specs.Serializer.{Piece, lastOf, _⊕_, empty, literal, newli
 use Rattle.serializer.specs.declared.writer.TextWriter.{TextWriter}
 use Rattle.serializer.specs.Writer.{textAt, bytes, Room, Wrote}
 use Rattle.serializer.specs.Walk.{lineOf}
+use Rattle.serializer.specs.Serialize.{oneIf, raise, lower}
 
 lastOf-append : (b : ℕ) (s t : List ℕ) → lastOf b (s ++ t) ≡ lastOf (lastOf b s) t
 unfolding lastOf
@@ -218,24 +219,27 @@ four p q r s = record { same = ap (λ z. p ⊕ z) (three q r s .same) }
 pub row-same : {p q : Piece} {rest : List Piece} → p ≡ q → Row q rest → Row p rest
 row-same e r = record { same = e ∙ r .same }
 
--- between indent and dedent
-abbrev pub raised : TextWriter → TextWriter
-raised w = record { at = w .at; last = w .last; indent = w .indent + 1 }
+-- at most one
+pub one-most : (b : Bool) → oneIf b ≤ 1
+one-most true = omega arith
+one-most false = omega arith
 
-abbrev pub lowered : TextWriter → TextWriter
-lowered w = record { at = w .at; last = w .last; indent = w .indent - 1 }
+-- between indent and dedent, where b
+abbrev pub within : Bool → Piece → Piece
+within b p = elim b [ true ↦ indented p | false ↦ p ]
 
-module _ (w : TextWriter) (p : Piece) where
-  indented-text : textAt w (indented p) ≡ textAt (raised w) p
-  unfolding indented
-  indented-text = ap (λ n. p n (w .last)) (sym (add-one (w .indent)))
+within-text : (b : Bool) (w : TextWriter) (p : Piece) → textAt w (within b p) ≡ textAt (raise b w) p
+unfolding indented
+within-text true w p = ap (λ n. p n (w .last)) (sym (add-one (w .indent)))
+within-text false w p = ap (λ n. p n (w .last)) (sym (add-zero (w .indent)))
 
-  pub room-indented : Room w (indented p) → Room (raised w) p
-  room-indented r = rw indented-text at r
+module _ (b : Bool) (w : TextWriter) (p : Piece) where
+  pub room-within : Room w (within b p) → Room (raise b w) p
+  room-within r = rw (within-text b w p) at r
 
-  pub wrote-indented : {o o′ : List ℕ} {w′ : TextWriter} → Wrote o o′ (raised w) w′ p → Wrote o o′ w (lowered w′) (indented p)
-  wrote-indented {o} h =
-      let e = sym indented-text in
+  pub wrote-within : {o o′ : List ℕ} {w′ : TextWriter} → Wrote o o′ (raise b w) w′ p → Wrote o o′ w (lower b w′) (within b p)
+  wrote-within {o} h =
+      let e = sym (within-text b w p) in
       record { stored = h .stored ∙ ap (λ t. sets o (w .at) t) e; end = h .end ∙ ap (λ t. w .at + length t) e; ending = h .ending ∙ ap (λ t. lastOf (w .last) t) e; level = omega (arith, h .level) }
 
 -- a comment's line, blank or not

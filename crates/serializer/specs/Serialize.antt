@@ -1,5 +1,5 @@
 -- What the functions that write nodes are given, and what they leave; the pieces that they write.
-use Prim.Native.Nat.{ℕ, _+_, _≤_}
+use Prim.Native.Nat.{ℕ, _+_, _-_, _≤_}
 use mathlib.Core.Path.{_≡_}
 use mathlib.Core.Bool.{Bool, true, false}
 use mathlib.Core.List.{List, [], _∷_}
@@ -15,6 +15,7 @@ use Rattle.syntax.specs.Shape.{inline}
 use Rattle.syntax.specs.Serializer.{Node, nodes, Piece, _⊕_, literal, newline, star, each, if, ofKind, name, reference}
 use Rattle.laws.specs.Text.{patternOf, selectOf, variantOf, argumentsOf}
 use Rattle.serializer.specs.declared.serializer.Serializer.{Serializer}
+use Rattle.serializer.specs.declared.writer.TextWriter.{TextWriter}
 use Rattle.serializer.specs.Writer.{Room, Wrote}
 use Rattle.serializer.specs.Walk.{kindAt, nodeAt, after, innerAt, At, OneAt, Open}
 
@@ -47,6 +48,27 @@ pub record Went (out out′ : List ℕ) (s s′ : Serializer) (p : Piece) (m : �
 -- the node was written
 abbrev pub Done : (tree out out′ : List ℕ) (s s′ : Serializer) (f : Node → Piece) → Type 0
 Done tree out out′ s s′ f = Went out out′ s s′ (f (nodeAt (marksIn tree) (s .mark))) (after (marksIn tree) (s .mark))
+
+-- 1 where b, else 0
+abbrev pub oneIf : Bool → ℕ
+oneIf b = elim b [ true ↦ 1 | false ↦ 0 ]
+
+-- a level more of indent where b, and a level less
+abbrev pub raise : Bool → TextWriter → TextWriter
+raise b w = record { at = w .at; last = w .last; indent = w .indent + oneIf b }
+
+abbrev pub lower : Bool → TextWriter → TextWriter
+lower b w = record { at = w .at; last = w .last; indent = w .indent - oneIf b }
+
+-- serialize_pattern: what stands before the elements, by whether they start on a new line
+unfoldable pub patternStart : Bool → Piece
+patternStart b = elim b [ true ↦ newline | false ↦ literal (ascii " ") ]
+
+-- it was written, the indent is raised where they start on a new line, and they are next
+pub record Begun (out out′ : List ℕ) (s s′ : Serializer) (b : Bool) : Type 0 where
+  pub line : TextWriter
+  pub wrote : Wrote out out′ (s .writer) line (patternStart b)
+  pub next : s′ ≡ (record { writer = raise b line; mark = s .mark + 1 })
 
 -- a node of the kind k is open, in a state from q on, and there is room for the children that are left
 pub record ReadyIn (source tree : List ℕ) (s : Serializer) (k q : ℕ) (f : List Node → Piece) : Type 0 where

@@ -1,5 +1,5 @@
 // The serializer: it walks over the marks of a tree that the check has accepted, and writes their normal text.
-ghost use Prim.Native.Nat.{ℕ, _+_, _^_, _≤_, _<_};
+ghost use Prim.Native.Nat.{ℕ, _+_, _*_, _^_, _≤_, _<_};
 ghost use mathlib.Core.Path.{_≡_};
 ghost use mathlib.Core.Bool.{true, _||_, _&&_, not};
 ghost use mathlib.Core.List.{List, [], _∷_};
@@ -12,11 +12,11 @@ ghost use Rattle.syntax.specs.Bytes.{ascii};
 ghost use Rattle.syntax.specs.Layout.{count, marksIn};
 ghost use Rattle.syntax.specs.Writing.{sizesFit};
 ghost use Rattle.syntax.specs.Shape.{inline};
-ghost use Rattle.syntax.specs.Serializer.{Node, nodes, each, if, literal, newline, star, blankLine, hasNewline, isSelect, multilineElement, isMultiline, leadingDot, textOf, name, comment, freeComment};
-ghost use Rattle.laws.specs.Text.{elementOf, expressionOf, variantOf, inlineOf, argumentOf};
+ghost use Rattle.syntax.specs.Serializer.{Node, nodes, if, literal, newline, star, blankLine, hasNewline, isSelect, multilineElement, isMultiline, leadingDot, textOf, name, comment, freeComment};
+ghost use Rattle.laws.specs.Text.{elementOf, expressionOf, variantOf, inlineOf};
 ghost use Rattle.serializer.specs.Writer.{Room, Wrote};
 ghost use Rattle.serializer.specs.Walk.{kindAt, nodeAt, after, At, NodeAt, TextAt, CommentAt, OneAt, elements, lineOf};
-ghost use Rattle.serializer.specs.Serialize.{expressions, variants, arguments, references, Ready, Went, Done, ReadyIn, DoneIn, patternIn, selectIn, argumentsIn, variantLines, openingBraces, closingBraces, bracesOf, sigil, quoted, referenceOf, keyAt, argumentName, Named};
+ghost use Rattle.serializer.specs.Serialize.{expressions, variants, references, oneIf, lower, Ready, Went, Done, Begun, patternIn, selectIn, argumentsIn, patternStart, openingBraces, closingBraces, bracesOf, sigil, quoted, referenceOf, keyAt, argumentName, Named};
 use crate::writer::TextWriter;
 
 // The kinds that the code tests for.
@@ -490,38 +490,74 @@ impl Serializer {
         }
     }
 
+    // What stands before the elements of a pattern: a new line, which is indented, or a blank.
+    fn begin_pattern(self, output: &mut [u8], start_on_newline: bool) -> Self
+        requires { ⌜ Room (self .writer) (patternStart «start_on_newline») ⌝ }
+        requires { ⌜ self .writer .indent < 2 ^ 63 ⌝ }
+        requires { ⌜ self .mark < 2 ^ 63 ⌝ }
+        ensures { λ r. ⌜ Begun (now (output .entry)) (now (output .exit)) self r «start_on_newline» ⌝ }
+    {
+        if start_on_newline {
+            return Serializer {
+                writer: self.writer.newline(output).indent(),
+                mark: self.mark + 1,
+            };
+        }
+        Serializer {
+            writer: self.writer.write_literal(output, b" "),
+            mark: self.mark + 1,
+        }
+    }
+
+    // Past the closing mark, with the indent as before the pattern.
+    fn end_pattern(self, start_on_newline: bool) -> Self
+        requires { ⌜ oneIf «start_on_newline» ≤ self .writer .indent ⌝ }
+        requires { ⌜ self .mark < 2 ^ 63 ⌝ }
+        ensures { λ r. ⌜ r ≡ (record { writer = lower «start_on_newline» (self .writer); mark = self .mark + 1 }) ⌝ }
+    {
+        if start_on_newline {
+            return Serializer {
+                writer: self.writer.dedent(),
+                mark: self.mark + 1,
+            };
+        }
+        self.next()
+    }
+
+    // The name of an argument, if it is a named one; the value is next.
+    fn begin_argument(self, source: &[u8], tree: &[u32], output: &mut [u8], named: bool) -> Self
+        requires { ⌜ sizesFit (now tree) ≡ true ⌝ }
+        requires { ⌜ (named ≡ true → At (isBoundary (now source)) (marksIn (now tree)) (self .mark) Kind.namedArgument) ⌝ }
+        requires { ⌜ Room (self .writer) (if named (argumentName (now source) (nodeAt (marksIn (now tree)) (self .mark + 1)))) ⌝ }
+        ensures { λ r. ⌜ Went (now (output .entry)) (now (output .exit)) self r (if named (argumentName (now (source .entry)) (nodeAt (marksIn (now (tree .entry))) (self .mark + 1)))) (self .mark + 3 * oneIf named) ⌝ }
+    {
+        if named {
+            return self.serialize_argument_name(source, tree, output);
+        }
+        self
+    }
+
+    // Past the closing mark, which a named argument alone has.
+    fn end_argument(self, named: bool) -> Self
+        requires { ⌜ self .mark < 2 ^ 63 ⌝ }
+        ensures { λ r. ⌜ r ≡ (record { writer = self .writer; mark = self .mark + oneIf named }) ⌝ }
+    {
+        if named {
+            return self.next();
+        }
+        self
+    }
+
     pub fn serialize_pattern(self, source: &[u8], tree: &[u32], output: &mut [u8]) -> Self
         requires { ⌜ Ready (now source) (now tree) self (Kind.pattern ∷ []) (patternIn (now source)) ⌝ }
         ensures { λ r. ⌜ Done (now (tree .entry)) (now (output .entry)) (now (output .exit)) self r (patternIn (now (source .entry))) ⌝ }
     {
-        if starts_on_new_line(source, tree, self.mark) {
-            let raised = Serializer {
-                writer: self.writer.newline(output).indent(),
-                mark: self.mark + 1,
-            };
-            let written = raised.serialize_elements(source, tree, output);
-            return Serializer {
-                writer: written.writer.dedent(),
-                mark: written.mark,
-            };
-        }
-        let begun = Serializer {
-            writer: self.writer.write_literal(output, b" "),
-            mark: self.mark + 1,
-        };
-        begun.serialize_elements(source, tree, output)
-    }
-
-    // What is left of a pattern's elements.
-    fn serialize_elements(self, source: &[u8], tree: &[u32], output: &mut [u8]) -> Self
-        requires { ⌜ ReadyIn (now source) (now tree) self Kind.pattern 0 (each (elementOf (now source))) ⌝ }
-        ensures { λ r. ⌜ DoneIn (now (tree .entry)) (now (output .entry)) (now (output .exit)) self r (each (elementOf (now (source .entry)))) ⌝ }
-    {
-        let mut s = self;
+        let start_on_newline = starts_on_new_line(source, tree, self.mark);
+        let mut s = self.begin_pattern(output, start_on_newline);
         while kind_at(tree, s.mark) < CLOSING {
             s = s.serialize_element(source, tree, output);
         }
-        s.next()
+        s.end_pattern(start_on_newline)
     }
 
     fn serialize_element(self, source: &[u8], tree: &[u32], output: &mut [u8]) -> Self
@@ -583,7 +619,7 @@ impl Serializer {
     {
         let entered = self.next();
         let selector = entered.serialize_inline_expression(source, tree, output);
-        let raised = Serializer {
+        let mut s = Serializer {
             writer: selector
                 .writer
                 .write_literal(output, b" ->")
@@ -591,20 +627,6 @@ impl Serializer {
                 .indent(),
             mark: selector.mark,
         };
-        let written = raised.serialize_variants(source, tree, output);
-        Serializer {
-            writer: written.writer.dedent(),
-            mark: written.mark,
-        }
-    }
-
-    // What is left of a select's variants.
-    fn serialize_variants(self, source: &[u8], tree: &[u32], output: &mut [u8]) -> Self
-        requires { ⌜ ReadyIn (now source) (now tree) self Kind.select 1 (variantLines (now source)) ⌝ }
-        requires { ⌜ 1 ≤ self .writer .indent ⌝ }
-        ensures { λ r. ⌜ DoneIn (now (tree .entry)) (now (output .entry)) (now (output .exit)) self r (variantLines (now (source .entry))) ⌝ }
-    {
-        let mut s = self;
         while kind_at(tree, s.mark) < CLOSING {
             let written = s.serialize_variant(source, tree, output);
             s = Serializer {
@@ -612,7 +634,10 @@ impl Serializer {
                 mark: written.mark,
             };
         }
-        s.next()
+        Serializer {
+            writer: s.writer.dedent(),
+            mark: s.mark + 1,
+        }
     }
 
     fn serialize_variant(self, source: &[u8], tree: &[u32], output: &mut [u8]) -> Self
@@ -639,24 +664,15 @@ impl Serializer {
                 writer: separate(s.writer, output, argument_written),
                 mark: s.mark,
             };
-            s = separated.serialize_argument(source, tree, output);
+            let named = kind_at(tree, s.mark) == NAMED_ARGUMENT;
+            let begun = separated.begin_argument(source, tree, output, named);
+            let value = begun.serialize_inline_expression(source, tree, output);
+            s = value.end_argument(named);
             argument_written = true;
         }
         Serializer {
             writer: s.writer.write_literal(output, b")"),
             mark: s.mark + 1,
         }
-    }
-
-    fn serialize_argument(self, source: &[u8], tree: &[u32], output: &mut [u8]) -> Self
-        requires { ⌜ Ready (now source) (now tree) self arguments (argumentOf (now source)) ⌝ }
-        ensures { λ r. ⌜ Done (now (tree .entry)) (now (output .entry)) (now (output .exit)) self r (argumentOf (now (source .entry))) ⌝ }
-    {
-        if kind_at(tree, self.mark) != NAMED_ARGUMENT {
-            return self.serialize_inline_expression(source, tree, output);
-        }
-        let named = self.serialize_argument_name(source, tree, output);
-        let written = named.serialize_inline_expression(source, tree, output);
-        written.next()
     }
 }

@@ -3,14 +3,10 @@ use Prim.Native.Nat.{ℕ, _+_, _-_, _*_, _<_}
 use borrow.Fn.Kinds.{In}
 use borrow.Fn.PlainCycle.{Measures, is, falls, and}
 use Rattle.syntax.specs.Layout.{count}
-use Rattle.serializer.proofs.serializer.Serializer.serialize_argument.Reads as serialize-argument
-use Rattle.serializer.proofs.serializer.Serializer.serialize_argument.Kinds as serialize-argument-kinds
 use Rattle.serializer.proofs.serializer.Serializer.serialize_call_arguments.Reads as serialize-call-arguments
 use Rattle.serializer.proofs.serializer.Serializer.serialize_call_arguments.Kinds as serialize-call-arguments-kinds
 use Rattle.serializer.proofs.serializer.Serializer.serialize_element.Reads as serialize-element
 use Rattle.serializer.proofs.serializer.Serializer.serialize_element.Kinds as serialize-element-kinds
-use Rattle.serializer.proofs.serializer.Serializer.serialize_elements.Reads as serialize-elements
-use Rattle.serializer.proofs.serializer.Serializer.serialize_elements.Kinds as serialize-elements-kinds
 use Rattle.serializer.proofs.serializer.Serializer.serialize_expression.Reads as serialize-expression
 use Rattle.serializer.proofs.serializer.Serializer.serialize_expression.Kinds as serialize-expression-kinds
 use Rattle.serializer.proofs.serializer.Serializer.serialize_inline_expression.Reads as serialize-inline-expression
@@ -21,17 +17,6 @@ use Rattle.serializer.proofs.serializer.Serializer.serialize_select_exp
 use Rattle.serializer.proofs.serializer.Serializer.serialize_select_expression.Kinds as serialize-select-expression-kinds
 use Rattle.serializer.proofs.serializer.Serializer.serialize_variant.Reads as serialize-variant
 use Rattle.serializer.proofs.serializer.Serializer.serialize_variant.Kinds as serialize-variant-kinds
-use Rattle.serializer.proofs.serializer.Serializer.serialize_variants.Reads as serialize-variants
-use Rattle.serializer.proofs.serializer.Serializer.serialize_variants.Kinds as serialize-variants-kinds
-
-abbrev pub μ-serialize-argument : Measures 3 serialize-argument-kinds.ps ℕ
-μ-serialize-argument κs a = 2 * (count (a .1 .1 .0 .now) - a .0 .mark) + 1
-
-abbrev pub serialize-argument-at : ℕ → In 3 serialize-argument-kinds.ps
-serialize-argument-at t = and 3 serialize-argument-kinds.ps (is 3 serialize-argument-kinds.ps μ-serialize-argument t) serialize-argument.Pre
-
-abbrev pub serialize-argument-below : ℕ → In 3 serialize-argument-kinds.ps
-serialize-argument-below t = and 3 serialize-argument-kinds.ps (falls 3 serialize-argument-kinds.ps _<_ μ-serialize-argument t) serialize-argument.Pre
 
 abbrev pub μ-serialize-call-arguments : Measures 3 serialize-call-arguments-kinds.ps ℕ
 μ-serialize-call-arguments κs a = 2 * (count (a .1 .1 .0 .now) - a .0 .mark)
@@ -50,15 +35,6 @@ serialize-element-at t = and 3 serialize-element-kinds.ps (is 3 serialize-elemen
 
 abbrev pub serialize-element-below : ℕ → In 3 serialize-element-kinds.ps
 serialize-element-below t = and 3 serialize-element-kinds.ps (falls 3 serialize-element-kinds.ps _<_ μ-serialize-element t) serialize-element.Pre
-
-abbrev pub μ-serialize-elements : Measures 3 serialize-elements-kinds.ps ℕ
-μ-serialize-elements κs a = 2 * (count (a .1 .1 .0 .now) - a .0 .mark) + 1
-
-abbrev pub serialize-elements-at : ℕ → In 3 serialize-elements-kinds.ps
-serialize-elements-at t = and 3 serialize-elements-kinds.ps (is 3 serialize-elements-kinds.ps μ-serialize-elements t) serialize-elements.Pre
-
-abbrev pub serialize-elements-below : ℕ → In 3 serialize-elements-kinds.ps
-serialize-elements-below t = and 3 serialize-elements-kinds.ps (falls 3 serialize-elements-kinds.ps _<_ μ-serialize-elements t) serialize-elements.Pre
 
 abbrev pub μ-serialize-expression : Measures 3 serialize-expression-kinds.ps ℕ
 μ-serialize-expression κs a = 2 * (count (a .1 .1 .0 .now) - a .0 .mark) + 1
@@ -104,12 +80,3 @@ serialize-variant-at t = and 3 serialize-variant-kinds.ps (is 3 serialize-varian
 
 abbrev pub serialize-variant-below : ℕ → In 3 serialize-variant-kinds.ps
 serialize-variant-below t = and 3 serialize-variant-kinds.ps (falls 3 serialize-variant-kinds.ps _<_ μ-serialize-variant t) serialize-variant.Pre
-
-abbrev pub μ-serialize-variants : Measures 3 serialize-variants-kinds.ps ℕ
-μ-serialize-variants κs a = 2 * (count (a .1 .1 .0 .now) - a .0 .mark) + 1
-
-abbrev pub serialize-variants-at : ℕ → In 3 serialize-variants-kinds.ps
-serialize-variants-at t = and 3 serialize-variants-kinds.ps (is 3 serialize-variants-kinds.ps μ-serialize-variants t) serialize-variants.Pre
-
-abbrev pub serialize-variants-below : ℕ → In 3 serialize-variants-kinds.ps
-serialize-variants-below t = and 3 serialize-variants-kinds.ps (falls 3 serialize-variants-kinds.ps _<_ μ-serialize-variants t) serialize-variants.Pre

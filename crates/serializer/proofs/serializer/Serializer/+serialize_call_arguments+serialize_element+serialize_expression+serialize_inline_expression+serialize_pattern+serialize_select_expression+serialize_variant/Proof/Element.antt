@@ -14,8 +14,8 @@ use Rattle.serializer.proofs.serializer.kind_at.Reads as kind-at-reads
 use Rattle.serializer.proofs.serializer.Serializer.serialize_expression.Reads as serialize-expression
 use Rattle.serializer.proofs.serializer.Serializer.serialize_text.Reads as serialize-text-reads
 use Rattle.serializer.proofs.serializer.Serializer.serialize_element.Reads as own
-use Rattle.serializer.proofs.serializer.Serializer.+serialize_argument+serialize_call_arguments+serialize_element+serialize_elements+serialize_expression+serialize_inline_expression+serialize_pattern+serialize_select_expression+serialize_variant+serialize_variants.Lts-serialize_element as lts
-use Rattle.serializer.proofs.serializer.Serializer.+serialize_argument+serialize_call_arguments+serialize_element+serialize_elements+serialize_expression+serialize_inline_expression+serialize_pattern+serialize_select_expression+serialize_variant+serialize_variants.Proof.Measures.{serialize-element-at, serialize-expression-below}
+use Rattle.serializer.proofs.serializer.Serializer.+serialize_call_arguments+serialize_element+serialize_expression+serialize_inline_expression+serialize_pattern+serialize_select_expression+serialize_variant.Lts-serialize_element as lts
+use Rattle.serializer.proofs.serializer.Serializer.+serialize_call_arguments+serialize_element+serialize_expression+serialize_inline_expression+serialize_pattern+serialize_select_expression+serialize_variant.Proof.Measures.{serialize-element-at, serialize-expression-below}
 
 abbrev pub env : ℕ → lts.Claims
 env t = (kind-at-reads.Asked, kind-at-reads.Learnt, serialize-text-reads.Asked, serialize-text-reads.Learnt, begin-placeable-reads.Asked, begin-placeable-reads.Learnt, serialize-expression-below t, serialize-expression.Post, end-placeable-reads.Asked, end-placeable-reads.Learnt)

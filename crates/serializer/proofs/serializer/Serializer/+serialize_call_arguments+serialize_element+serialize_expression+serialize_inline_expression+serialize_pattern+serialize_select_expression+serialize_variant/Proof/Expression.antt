@@ -10,8 +10,8 @@ use Rattle.serializer.proofs.serializer.kind_at.Reads as kind-at-reads
 use Rattle.serializer.proofs.serializer.Serializer.serialize_inline_expression.Reads as serialize-inline-expression
 use Rattle.serializer.proofs.serializer.Serializer.serialize_select_expression.Reads as serialize-select-expression
 use Rattle.serializer.proofs.serializer.Serializer.serialize_expression.Reads as own
-use Rattle.serializer.proofs.serializer.Serializer.+serialize_argument+serialize_call_arguments+serialize_element+serialize_elements+serialize_expression+serialize_inline_expression+serialize_pattern+serialize_select_expression+serialize_variant+serialize_variants.Lts-serialize_expression as lts
-use Rattle.serializer.proofs.serializer.Serializer.+serialize_argument+serialize_call_arguments+serialize_element+serialize_elements+serialize_expression+serialize_inline_expression+serialize_pattern+serialize_select_expression+serialize_variant+serialize_variants.Proof.Measures.{serialize-expression-at, serialize-inline-expression-below, serialize-select-expression-below}
+use Rattle.serializer.proofs.serializer.Serializer.+serialize_call_arguments+serialize_element+serialize_expression+serialize_inline_expression+serialize_pattern+serialize_select_expression+serialize_variant.Lts-serialize_expression as lts
+use Rattle.serializer.proofs.serializer.Serializer.+serialize_call_arguments+serialize_element+serialize_expression+serialize_inline_expression+serialize_pattern+serialize_select_expression+serialize_variant.Proof.Measures.{serialize-expression-at, serialize-inline-expression-below, serialize-select-expression-below}
 
 abbrev pub env : ℕ → lts.Claims
 env t = (kind-at-reads.Asked, kind-at-reads.Learnt, serialize-select-expression-below t, serialize-select-expression.Post, serialize-inline-expression-below t, serialize-inline-expression.Post)

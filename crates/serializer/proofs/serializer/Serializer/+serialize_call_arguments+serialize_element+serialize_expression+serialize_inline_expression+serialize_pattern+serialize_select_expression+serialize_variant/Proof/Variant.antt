@@ -11,8 +11,8 @@ use Rattle.serializer.proofs.serializer.Serializer.next.Reads as next-r
 use Rattle.serializer.proofs.serializer.Serializer.serialize_pattern.Reads as serialize-pattern
 use Rattle.serializer.proofs.serializer.Serializer.serialize_variant_key.Reads as serialize-variant-key-reads
 use Rattle.serializer.proofs.serializer.Serializer.serialize_variant.Reads as own
-use Rattle.serializer.proofs.serializer.Serializer.+serialize_argument+serialize_call_arguments+serialize_element+serialize_elements+serialize_expression+serialize_inline_expression+serialize_pattern+serialize_select_expression+serialize_variant+serialize_variants.Lts-serialize_variant as lts
-use Rattle.serializer.proofs.serializer.Serializer.+serialize_argument+serialize_call_arguments+serialize_element+serialize_elements+serialize_expression+serialize_inline_expression+serialize_pattern+serialize_select_expression+serialize_variant+serialize_variants.Proof.Measures.{serialize-pattern-below, serialize-variant-at}
+use Rattle.serializer.proofs.serializer.Serializer.+serialize_call_arguments+serialize_element+serialize_expression+serialize_inline_expression+serialize_pattern+serialize_select_expression+serialize_variant.Lts-serialize_variant as lts
+use Rattle.serializer.proofs.serializer.Serializer.+serialize_call_arguments+serialize_element+serialize_expression+serialize_inline_expression+serialize_pattern+serialize_select_expression+serialize_variant.Proof.Measures.{serialize-pattern-below, serialize-variant-at}
 
 abbrev pub env : ℕ → lts.Claims
 env t = (serialize-variant-key-reads.Asked, serialize-variant-key-reads.Learnt, serialize-pattern-below t, serialize-pattern.Post, next-reads.Asked, next-reads.Learnt)

@@ -16,8 +16,8 @@ use Rattle.serializer.proofs.serializer.Serializer.serialize_string_lit
 use Rattle.serializer.proofs.serializer.Serializer.serialize_text.Reads as serialize-text-reads
 use Rattle.serializer.proofs.writer.TextWriter.write_literal.Reads as write-literal-reads
 use Rattle.serializer.proofs.serializer.Serializer.serialize_inline_expression.Reads as own
-use Rattle.serializer.proofs.serializer.Serializer.+serialize_argument+serialize_call_arguments+serialize_element+serialize_elements+serialize_expression+serialize_inline_expression+serialize_pattern+serialize_select_expression+serialize_variant+serialize_variants.Lts-serialize_inline_expression as lts
-use Rattle.serializer.proofs.serializer.Serializer.+serialize_argument+serialize_call_arguments+serialize_element+serialize_elements+serialize_expression+serialize_inline_expression+serialize_pattern+serialize_select_expression+serialize_variant+serialize_variants.Proof.Measures.{serialize-call-arguments-below, serialize-expression-below, serialize-inline-expression-at}
+use Rattle.serializer.proofs.serializer.Serializer.+serialize_call_arguments+serialize_element+serialize_expression+serialize_inline_expression+serialize_pattern+serialize_select_expression+serialize_variant.Lts-serialize_inline_expression as lts
+use Rattle.serializer.proofs.serializer.Serializer.+serialize_call_arguments+serialize_element+serialize_expression+serialize_inline_expression+serialize_pattern+serialize_select_expression+serialize_variant.Proof.Measures.{serialize-call-arguments-below, serialize-expression-below, serialize-inline-expression-at}
 
 abbrev pub env : ℕ → lts.Claims
 env t = (kind-at-reads.Asked, kind-at-reads.Learnt, serialize-string-literal-reads.Asked, serialize-string-literal-reads.Learnt, serialize-text-reads.Asked, serialize-text-reads.Learnt, write-literal-reads.Asked, write-literal-reads.Learnt, serialize-expression-below t, serialize-expression.Post, serialize-reference-reads.Asked, serialize-reference-reads.Learnt, next-reads.Asked, next-reads.Learnt, serialize-call-arguments-below t, serialize-call-arguments.Post)
