@@ -1,0 +1,20 @@
+-- `kind_at` meets its contract.
+use native.Mathlib.Omega.{arith}
+use Rattle.index.proofs.Marks.{sizes, kind-word}
+use Rattle.index.proofs.tree.kind_at.Statement.{statement}
+use Rattle.index.proofs.tree.kind_at.Tie as tie
+
+add-result : tie.Need-add-result
+add-result c = omega (arith, sizes (c .args .tree .now) (c .pre .0), c .pre .1)
+
+mul-result : tie.Need-mul-result
+mul-result c = omega (arith, sizes (c .args .tree .now) (c .pre .0), c .pre .1)
+
+shared-slice-read-result : tie.Need-shared-slice-read-result
+shared-slice-read-result c = omega (arith, sizes (c .before .args .tree .now) (c .before .pre .0), c .before .pre .1)
+
+returns : tie.Need-returns
+returns c = kind-word (c .before .args .tree .now) (sizes (c .before .args .tree .now) (c .before .pre .0)) (c .before .args .mark) (c .before .pre .1)
+
+pub kind-at-spec : {M : Type 1} → statement M
+kind-at-spec = tie.close (tie.spec add-result mul-result shared-slice-read-result returns)
