@@ -1,0 +1,3 @@
+mod call;
+mod escape;
+mod unescape;
