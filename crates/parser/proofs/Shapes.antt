@@ -19,7 +19,7 @@ use Rattle.parser.specs.declared.expression.Expression.{Expression}
 use Rattle.parser.specs.declared.expression.ReadExpression.{ReadExpression}
 use Rattle.parser.specs.declared.expression.ReadExpression.the-variants as expressions
 use Rattle.parser.proofs.Steps.{step-none, step-cut}
-use Rattle.parser.proofs.Dids.{Found, Clear, did-found, did-then, found, found-wrap, quiet, step-failed, words-none}
+use Rattle.parser.proofs.Dids.{Found, did-found, did-then, found, found-wrap, quiet, step-failed, words-none}
 
 -- ---- where results lie
 module _ {A : Type 0} {cap at n : ℕ} {t t₁ : List ℕ} where
@@ -92,15 +92,6 @@ did-ended {A} {B} {cap} {at} {n} {t} {t₁} r {x} s p q quiet d e = go (p (drop 
         rw h (record { answers = y; wrote = g .wrote })
 
 -- ---- expressions
-pub clear-expressing : (b : ℕ) → Clear (expressing b)
-clear-expressing b = record {
-  yes-no = λ x p m f j e. let z : _≡_ {A = ℕ} 0 1 = cc in omega arith;
-  yes-far = λ x p m j e. let z : _≡_ {A = ℕ} 0 1 = cc in omega arith;
-  no-far = λ f i j e. let z : _≡_ {A = ℕ} 0 1 = cc in omega arith;
-  no-same = λ f g i j e. (cc, cc);
-  far-same = λ i j e. cc;
-}
-
 pub plain-did : {b cap at n : ℕ} {t t₁ : List ℕ} {r : ReadExpression} (o : Out Inline) → Did (expressing b) cap at n t t₁ r o → Did reading cap at n t t₁ (plainly r) o
 plain-did (ok i ms k) d = record { answers = ap plainly (d .answers); wrote = d .wrote }
 plain-did (bad f k) d = record { answers = ap plainly (d .answers); wrote = d .wrote }

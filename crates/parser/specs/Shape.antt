@@ -1,5 +1,5 @@
 -- What was read as an expression, in the code's terms.
-use Prim.Native.Nat.{ℕ, _+_, _-_, _*_, _≤_}
+use Prim.Native.Nat.{ℕ, _+_, _-_, _≤_}
 use mathlib.Core.Path.{_≡_}
 use mathlib.Core.Bool.{Bool, true, false, _&&_, not}
 use mathlib.Core.List.{List, [], _∷_}
@@ -11,11 +11,11 @@ use Rattle.syntax.specs.Bytes.{startsWith, starts, second, isLetter, isDigit}
 use Rattle.syntax.specs.Errors.{upFault, faultAt}
 use Rattle.syntax.specs.declared.errors.ParserError.{ParserError}
 use Rattle.syntax.specs.declared.errors.ErrorKind.the-variants.{TermAttributeAsPlaceable, MessageAttributeAsSelector, MessageReferenceAsSelector, TermReferenceAsSelector, ExpectedSimpleExpressionAsSelector}
-use Rattle.syntax.specs.Reader.{Out, ok, bad, deep, Reader, after, _>>=_, _>>_, pure, Turn, again, done, turnOf}
+use Rattle.syntax.specs.Reader.{ok, bad, Reader, after, _>>=_, _>>_, pure, Turn, done, turnOf}
 use Rattle.syntax.specs.Helper.{skipBlank, skipBlankInline, expectByte}
 use Rattle.syntax.specs.Pattern.{Inside}
 use Rattle.syntax.specs.Expression.{Inline, string, number, variable, function, inner, message, term, getVariants, afterInline, variantTurn, variantWith, turnAfter}
-use Rattle.parser.specs.Did.{Says, Did, answer, reading}
+use Rattle.parser.specs.Did.{Says, answer, reading}
 use Rattle.parser.specs.declared.helper.Place.{Place}
 use Rattle.parser.specs.declared.helper.Place.the-variants as places
 use Rattle.parser.specs.declared.marks.Read.{Read}

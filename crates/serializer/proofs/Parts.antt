@@ -17,7 +17,7 @@ use Rattle.laws.specs.Text.{elementOf, inBracesOf, expressionOf, inlineOf}
 use Rattle.laws.specs.Text as Text
 use Rattle.serializer.specs.Walk.{kindAt, nodeAt, after, innerAt, At, OneAt, elements}
 use Rattle.serializer.specs.Serialize.{expressions, patternIn, selectIn, patternStart, openingBraces, closingBraces, bracesOf}
-use Rattle.serializer.proofs.Pieces.{Row, one, two, three, row-same, within}
+use Rattle.serializer.proofs.Pieces.{Row, two, three, row-same, within}
 use Rattle.serializer.proofs.Walk.{at-kind, node-kind, enter, Entered}
 use Rattle.serializer.proofs.Children.{must, none, only, at-as, others}
 use Rattle.serializer.proofs.Patterns.{element-placeable}

@@ -1,17 +1,17 @@
 -- ASCII, by the bits of many bytes at a time.
-use Prim.Native.Nat.{ℕ, zero, suc, _+_, _≤_, _<_, _^_}
+use Prim.Native.Nat.{ℕ, zero, suc, _+_, _≤_, _<_}
 use native.Mathlib.Nat.{add-zero}
 use native.Mathlib.Numerals.{add-one}
 use native.Mathlib.Omega.{arith}
-use mathlib.Core.Path.{_≡_, refl, sym, ap, _∙_}
-use mathlib.Core.Bool.{Bool, true, false}
-use mathlib.Core.List.{List, [], _∷_}
+use mathlib.Core.Path.{_≡_, sym, ap, _∙_}
+use mathlib.Core.Bool.{true, false}
+use mathlib.Core.List.{List}
 use lib.Dec.{ltb}
-use lib.Bits.{bitOr, bitAnd, or-lt, or-add-and, and-le-l, and-le-r}
+use lib.Bits.{bitOr, or-lt, or-add-and, and-le-l, and-le-r}
 use lib.ListN.{length, getD, drop, replicate}
 use lib.Seq.{drop-cons}
 use borrow.Author.Tests.{ltb-true, ltb-false, lt-ltb, le-ltb}
-use Rattle.utf8.specs.Utf8.{Range, _‥_, within, fits, firstIllFormed, moved, FoundFrom}
+use Rattle.utf8.specs.Utf8.{Range, _‥_, within, fits, FoundFrom}
 use Rattle.utf8.specs.Sequence.{cases, clash, within-true, within-above}
 use Rattle.utf8.proofs.Steps.{fits-one, width-ascii, past}
 

@@ -336,9 +336,6 @@ module _ (sub : Inside) (law : InsideLaw sub) (y : List ℕ) (f : Fresh y) (m : 
       none-left : drop (t .k) (b ∷ bs) ≡ []
       none-left = drop-of-length-le (b ∷ bs) {i = t .k} (omega arith)
 
-      no-gap : (0 ≡ t .c) × ([] ≡ t .gs) × (0 ≡ t .u)
-      no-gap = triple (skipBlankBlock (drop (t .k) (b ∷ bs))) 0 (t .c) [] (t .gs) 0 (t .u) (ap skipBlankBlock none-left ∙ block-fresh [] tt) (t .gap)
-
       no-rest : drop (t .k + t .u) (b ∷ bs) ≡ []
       no-rest = drop-of-length-le (b ∷ bs) {i = t .k + t .u} (omega arith)
 

@@ -1,4 +1,4 @@
--- Every entry of a file starts where a line starts.
+-- After the first entry of a rest, and the blank lines behind it, a line starts.
 use Prim.Native.Nat.{ℕ, zero, suc, _+_, _-_, _<_}
 use native.Mathlib.Nat.{not-suc-le-zero, le-of-suc-le-suc, add-zero}
 use native.Mathlib.Omega.{arith}
@@ -16,7 +16,6 @@ use Rattle.syntax.specs.Reader.{Out, ok, bad, deep, after, fail, Turn, loop, re
 use Rattle.syntax.specs.Helper.{skipBlankBlock, blockTurn}
 use Rattle.syntax.specs.Comment.{lineLength, levelOf, lineEndUsed, lineRead, lineTurn, commentTurn, getComment}
 use Rattle.syntax.specs.Pattern.{Inside, usedBy}
-use Rattle.syntax.specs.Expression.{level}
 use Rattle.syntax.specs.Core.{Entry, asComment, getEntry, toNextEntry, lineStartsAt, junkEnd, Error}
 use Rattle.laws.specs.Bytes.{byCase, clash, pick}
 use Rattle.laws.specs.Answers.{Holds, TurnHolds, loop-holds}
@@ -24,10 +23,9 @@ use Rattle.laws.specs.Lines.{starts-later, starts-add, eol-starts}
 use Rattle.laws.specs.Bounds.{used}
 use Rattle.laws.specs.Bounds.Comment.{isOver}
 use Rattle.laws.specs.Bounds.Pattern.{InsideBounds}
-use Rattle.laws.specs.Bounds.Expression.{level-bounds}
 use Rattle.laws.specs.Lines.Lands.{Lands, Stays, stays-stay, block-starts, entry-lands}
 use Rattle.laws.specs.Entries.{block-ten}
-use Rattle.laws.specs.File.{First, entry, junk, Passed, none, more, leading}
+use Rattle.laws.specs.File.{First, entry, junk}
 
 -- ---- junk
 
@@ -169,13 +167,3 @@ module _ {n : ℕ} {sub : Inside} (law : InsideBounds n sub) where
       by (inl a) = starts-later k u s (block-some (drop k s) a) (block-starts (drop k s))
       by (inr a) = starts-add k u s a (block-starts (drop k s))
   first-stays {b} {bs} (junk {k = k} h) = let j = junkEnd k (b ∷ bs) in stays-stay j (usedBy (skipBlankBlock (drop j (b ∷ bs)))) (b ∷ bs) (junk-stays k (b ∷ bs)) (λ _. block-starts (drop j (b ∷ bs)))
-
-  pub passed-stays : {s : List ℕ} {ms : List Mark} {es : List Error} {k : ℕ} → Passed sub s ms es k → Stays s k
-  unfolding lineStartsAt
-  passed-stays none = λ l. refl
-  passed-stays (more {b} {bs} {k = k} {j} f p) = stays-stay k j (b ∷ bs) (first-stays f) (passed-stays p)
-
--- every entry that is reached starts where a line starts
-pub entry-starts : (n : ℕ) (s : List ℕ) {ms : List Mark} {es : List Error} {k : ℕ} → Passed (level n) (drop (leading s) s) ms es k → leading s + k < length s
-    → lineStartsAt (leading s + k) s ≡ true
-entry-starts n s {k = k} p = stays-stay (leading s) k s (λ _. block-starts s) (passed-stays (level-bounds n) p)

@@ -1,7 +1,7 @@
 -- `utf8::check` meets its contract. The loop's invariant: what the definition finds in the source it finds from `at` on. Assumes nothing.
-use Prim.Native.Nat.{_≤_, _<_, _-_}
+use Prim.Native.Nat.{_-_}
 use native.Mathlib.Omega.{arith}
-use mathlib.Core.Path.{_≡_, sym, ap, _∙_}
+use mathlib.Core.Path.{sym, ap, _∙_}
 use lib.ListN.{length}
 use Rattle.utf8.specs.Utf8.{FoundFrom, checkedOf}
 use Rattle.utf8.specs.Law.{moved-zero}
