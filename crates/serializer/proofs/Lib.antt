@@ -1,8 +1,4 @@
 -- What the proofs of the functions share.
-pub mod Table
-pub mod Marks
-pub mod Stack
-pub mod Check
 pub mod Pieces
 pub mod Stores
 pub mod Texts

@@ -1,16 +1,15 @@
 -- What the writing call leaves in its output: the text and what was there after it, or all that was there.
 use Prim.Native.Nat.{ℕ, _+_, _≤_, _<_}
 use native.Mathlib.Omega.{arith}
-use mathlib.Core.Path.{_≡_, refl, ap, _∙_}
+use mathlib.Core.Path.{_≡_, ap, _∙_}
 use mathlib.Core.Bool.{Bool, true, false}
 use mathlib.Core.List.{List, [], _++_}
-use mathlib.Core.Option.{Option, some, none}
+use mathlib.Core.Option.{some, none}
 use lib.Dec.{ltb}
 use lib.ListN.{length, length-drop}
 use lib.Seq.{sets}
 use borrow.Author.Tests.{lt-ltb, le-ltb}
-use Rattle.utf8.specs.Utf8.{firstIllFormed, isBoundary, checkedOf}
-use Rattle.utf8.specs.declared.Checked.the-variants as Checked
+use Rattle.utf8.specs.Utf8.{firstIllFormed, isBoundary}
 use Rattle.syntax.specs.declared.answer.Answer.{Answer}
 use Rattle.syntax.specs.declared.answer.Answer.the-variants.{Accepted, TooLong, NotUtf8, IllFormed, OutputTooShort}
 use Rattle.syntax.specs.Limits.{maxOpen}
@@ -21,12 +20,14 @@ use Rattle.syntax.specs.Writing.{noMark, sizesFit, writeAnswer, textOver, outpu
 use Rattle.laws.specs.Call.{written}
 use Rattle.laws.specs.Sets.{sets-nothing, sets-first}
 use Rattle.laws.specs.Text.Length.{text-short}
-use Rattle.serializer.specs.declared.shape.Shape.the-variants as Shape
+use Rattle.shape.specs.declared.test.Tested.the-variants.{Refused, Passed}
+use Rattle.shape.specs.Test.{tested}
+use Rattle.shape.proofs.Sizes.{sizes, no-mark}
+use Rattle.shape.proofs.Tests.{byTest, clash, passes}
+use Rattle.shape.proofs.Tests as Tests
 use Rattle.serializer.specs.declared.writer.TextWriter.{TextWriter}
-use Rattle.serializer.specs.Shape.{shapeOf}
 use Rattle.serializer.specs.Writer.{begun, Room, Wrote}
 use Rattle.serializer.specs.Call.{Writable, DidWriteInto, DidWrite}
-use Rattle.serializer.proofs.Check.{sizes, no-mark}
 
 -- the writing of a tree that is well formed
 module _ (s t : List ℕ) (junk : Bool) where
@@ -66,30 +67,9 @@ module _ (s t : List ℕ) (junk : Bool) where
         let q = le-ltb (length o) (length text) l in
         record { answers = rw (q, written) (ap Accepted all-counted); output = rw (q, written) (f .stored ∙ ap (λ m. sets m 0 text) none-stored ∙ sets-first o text l) }
 
--- what the two checks found
-pub well-formed : (o : Option ℕ) → Checked.WellFormed ≡ checkedOf o → o ≡ none
-unfolding checkedOf
-well-formed none e = refl
-well-formed (some k) e = let z : _≡_ {A = ℕ} 0 1 = cc in absurd (omega arith)
-
-pub ill-formed : (o : Option ℕ) (k : ℕ) → Checked.IllFormed k ≡ checkedOf o → o ≡ some k
-unfolding checkedOf
-ill-formed none k e = let z : _≡_ {A = ℕ} 0 1 = cc in absurd (omega arith)
-ill-formed (some j) k e = let same : j ≡ k = cc in ap some same
-
-pub well-shaped : (o : Option ℕ) → Shape.WellFormed ≡ shapeOf o → o ≡ none
-unfolding shapeOf
-well-shaped none e = refl
-well-shaped (some k) e = let z : _≡_ {A = ℕ} 0 1 = cc in absurd (omega arith)
-
-pub ill-shaped : (o : Option ℕ) (k : ℕ) → Shape.IllFormed k ≡ shapeOf o → o ≡ some k
-unfolding shapeOf
-ill-shaped none k e = let z : _≡_ {A = ℕ} 0 1 = cc in absurd (omega arith)
-ill-shaped (some j) k e = let same : j ≡ k = cc in ap some same
-
 -- the tests before the writing, in their order
 module _ (s t o : List ℕ) (junk : Bool) where
-  pub too-long : 1000000 < length s → DidWrite s t o o junk (TooLong (length s))
+  too-long : 1000000 < length s → DidWrite s t o o junk (TooLong (length s))
   unfolding writeAnswer outputAfter textOver
   too-long h = let q = lt-ltb 1000000 (length s) h in record { answers = rw (q, writeAnswer); output = rw (q, writeAnswer) }
 
@@ -97,20 +77,39 @@ module _ (s t o : List ℕ) (junk : Bool) where
     short : ltb 1000000 (length s) ≡ false
     short = le-ltb 1000000 (length s) h
 
-    pub not-utf8 : (k : ℕ) → firstIllFormed s ≡ some k → DidWrite s t o o junk (NotUtf8 k)
+    not-utf8 : (k : ℕ) → firstIllFormed s ≡ some k → DidWrite s t o o junk (NotUtf8 k)
     unfolding writeAnswer outputAfter textOver
     not-utf8 k q = record { answers = rw (short, writeAnswer, q); output = rw (short, writeAnswer, q) }
 
     module _ (f : firstIllFormed s ≡ none) where
-      pub sizes-off : sizesFit t ≡ false → DidWrite s t o o junk (IllFormed noMark)
+      sizes-off : sizesFit t ≡ false → DidWrite s t o o junk (IllFormed noMark)
       unfolding writeAnswer outputAfter textOver
       sizes-off q = record { answers = rw (short, writeAnswer, f, q); output = rw (short, writeAnswer, f, q) }
 
       module _ (z : sizesFit t ≡ true) where
-        pub shape-off : (v : ℕ) → verdict (isBoundary s) maxOpen (marksIn t) ≡ some v → DidWrite s t o o junk (IllFormed v)
+        shape-off : (v : ℕ) → verdict (isBoundary s) maxOpen (marksIn t) ≡ some v → DidWrite s t o o junk (IllFormed v)
         unfolding writeAnswer outputAfter textOver
         shape-off v q = record { answers = rw (short, writeAnswer, f, z, q); output = rw (short, writeAnswer, f, z, q) }
 
-        pub all-well : verdict (isBoundary s) maxOpen (marksIn t) ≡ none → (o′ : List ℕ) (r : Answer) → DidWriteInto (serialize s junk (marksIn t)) o o′ r → DidWrite s t o o′ junk r
+        all-well : verdict (isBoundary s) maxOpen (marksIn t) ≡ none → (o′ : List ℕ) (r : Answer) → DidWriteInto (serialize s junk (marksIn t)) o o′ r → DidWrite s t o o′ junk r
         unfolding writeAnswer outputAfter
         all-well q o′ r d = record { answers = rw (short, writeAnswer, f, z, q) (d .answers); output = rw (short, writeAnswer, f, z, q) (d .output) }
+
+  -- the tests have given the refusal r: it is the one that the call answers
+  by : (a r : Answer) → Refused a ≡ tested s t → Refused r ≡ tested s t → DidWrite s t o o junk a → DidWrite s t o o junk r
+  by a r i e d = let same : a ≡ r = cc in rw same at d
+
+  pub refused : (r : Answer) → Refused r ≡ tested s t → DidWrite s t o o junk r
+  refused r e =
+      byTest s t
+      (λ h. by _ r (Tests.too-long s t h) e (too-long h))
+      (λ h k q. by _ r (Tests.not-utf8 s t h k q) e (not-utf8 h k q))
+      (λ h f q. by _ r (Tests.sizes-off s t h f q) e (sizes-off h f q))
+      (λ h f z v q. by _ r (Tests.shape-off s t h f z v q) e (shape-off h f z v q))
+      (λ p. clash (Tests.all-well s t (p .short) (p .formed) (p .sizes) (p .shape)) e)
+
+  pub passed : Passed ≡ tested s t → (o′ : List ℕ) (r : Answer) → DidWriteInto (serialize s junk (marksIn t)) o o′ r → DidWrite s t o o′ junk r
+  passed e o′ r d = let p = passes s t e in all-well (p .short) (p .formed) (p .sizes) (p .shape) o′ r d
+
+pub writable : (s t : List ℕ) → Passed ≡ tested s t → Writable s t
+writable s t e = let p = passes s t e in record { short = p .short; sizes = p .sizes; shape = p .shape }

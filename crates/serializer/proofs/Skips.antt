@@ -14,7 +14,7 @@ use Rattle.syntax.specs.Layout.{count, marksIn}
 use Rattle.laws.specs.Bytes.{clash}
 use Rattle.laws.specs.Balanced.{Levels}
 use Rattle.serializer.specs.Walk.{firstKind, kindAt, after, Child, text, nest, At}
-use Rattle.serializer.proofs.Check.{Sizes}
+use Rattle.shape.proofs.Sizes.{Sizes}
 use Rattle.serializer.proofs.Walk.{mark-inside, text-after, enter, inner-at, run-levels}
 
 module _ (ms : List Mark) (i : ℕ) where

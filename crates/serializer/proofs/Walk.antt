@@ -24,7 +24,7 @@ use Rattle.laws.specs.Balanced.Nodes.{nodeOf, nodes-node, nodes-text}
 use Rattle.laws.specs.Shape.Run.{otherwise, rule, known-child}
 use Rattle.serializer.specs.Walk.{firstKind, kindAt, firstNode, nodeAt, after, inside, innerAt, Child, At, NodeAt, TextAt, Inside, isComment}
 use Rattle.serializer.specs.Walk as Spec
-use Rattle.serializer.proofs.Check.{Sizes, next-mark, no-mark}
+use Rattle.shape.proofs.Sizes.{Sizes, next-mark, no-mark}
 
 mark-kind : (k p : ℕ) → kindOf (markOf k p) ≡ k
 unfolding markOf

@@ -1,6 +1,4 @@
--- What the contracts of the shape check and of the writer cite.
-pub mod Models
-pub mod Shape
+-- What the contracts of the writer cite.
 pub mod Writer
 pub mod Walk
 pub mod Serialize

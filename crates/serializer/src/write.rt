@@ -3,33 +3,17 @@ ghost use Rattle.syntax.specs.Layout.{marksIn};
 ghost use Rattle.syntax.specs.Serializer.{serialize};
 ghost use Rattle.serializer.specs.Call.{Writable, DidWrite, DidWriteInto};
 use crate::resource::serialize_resource;
-use crate::shape::Shape;
-use crate::shape::check_shape;
-use crate::shape::sizes_fit;
+use shape::test::Tested;
+use shape::test::test_tree;
 use syntax::answer::Answer;
-use utf8::Checked;
-use utf8::check;
-
-// The value of refusal 6 where the sizes don't fit.
-const NO_MARK: u64 = 4_294_967_295;
 
 // Writes the normal text of a tree into an output that is lent, with its junk if so asked. The tests come in the order of the
 // refusals 1, 2, 6 and 7.
 pub fn write(source: &[u8], tree: &[u32], output: &mut [u8], with_junk: bool) -> Answer
     ensures { λ r. ⌜ DidWrite (now (source .entry)) (now (tree .entry)) (now (output .entry)) (now (output .exit)) «with_junk» r ⌝ }
 {
-    let length = source.len();
-    if 1_000_000 < length {
-        return Answer::TooLong(length as u64);
-    }
-    if let Checked::IllFormed(at) = check(source) {
-        return Answer::NotUtf8(at as u64);
-    }
-    if !sizes_fit(tree) {
-        return Answer::IllFormed(NO_MARK);
-    }
-    if let Shape::IllFormed(mark) = check_shape(source, tree) {
-        return Answer::IllFormed(mark as u64);
+    if let Tested::Refused(answer) = test_tree(source, tree) {
+        return answer;
     }
     write_into(source, tree, output, with_junk)
 }

@@ -1,90 +1,41 @@
--- `write::write` meets its contract: each test refuses, or hands on.
+-- `write::write` meets its contract: the tests refuse, or hand on.
 use borrow.Author.Needs.{needs}
-use borrow.Author.Tests.{not-true, not-false}
 use mathlib.Core.Path.{sym, _∙_}
-use Rattle.serializer.proofs.Outcome.{well-formed, ill-formed, well-shaped, ill-shaped, too-long, not-utf8, sizes-off, shape-off, all-well}
+use Rattle.serializer.proofs.Outcome.{refused, passed, writable}
 use Rattle.serializer.proofs.write.write.Statement.{statement}
 use Rattle.serializer.proofs.write.write.Tie as tie
 
+test-tree-requires : tie.Need-test-tree-requires
+test-tree-requires c κs = search needs
+
+enum-known-answer : tie.Need-enum-known-answer
+enum-known-answer c = search needs
+
 returns : tie.Need-returns
-returns c = too-long _ _ _ _ (c .if1 .taken)
-
-check-requires : tie.Need-check-requires
-check-requires c κs = search needs
-
-enum-known-at : tie.Need-enum-known-at
-enum-known-at c = search needs
-
-returns-2 : tie.Need-returns-2
-returns-2 c = not-utf8 _ _ _ _ (c .before .before .before .before .if1 .left) _ (ill-formed _ _ (sym (c .before .at .given .1) ∙ c .before .before .before .check .ensures))
+returns c = refused _ _ _ _ _ (sym (c .before .answer .given .1) ∙ c .before .before .before .test-tree .ensures)
 
 enum-told : tie.Need-enum-told
 enum-told c = search needs
 
-sizes-fit-requires : tie.Need-sizes-fit-requires
-sizes-fit-requires c κs = search needs
-
-returns-3 : tie.Need-returns-3
-returns-3 c =
-    let formed = c .before .before in
-    sizes-off _ _ _ _ (formed .before .before .before .if1 .left) (well-formed _ (sym (formed .enum-told .given .1) ∙ formed .before .before .check .ensures))
-    (sym (c .before .sizes-fit .ensures) ∙ not-true _ (c .if2 .taken))
-
-check-shape-requires : tie.Need-check-shape-requires
-check-shape-requires c κs = sym (c .before .sizes-fit .ensures) ∙ not-false _ (c .if2 .left)
-
-enum-known-mark : tie.Need-enum-known-mark
-enum-known-mark c = search needs
-
-returns-4 : tie.Need-returns-4
-returns-4 c =
-    let fits = c .before .before .before .before in
-    let formed = fits .before .before in
-    shape-off _ _ _ _ (formed .before .before .before .if1 .left) (well-formed _ (sym (formed .enum-told .given .1) ∙ formed .before .before .check .ensures))
-    (sym (fits .before .sizes-fit .ensures) ∙ not-false _ (fits .if2 .left))
-    _ (ill-shaped _ _ (sym (c .before .mark .given .1) ∙ c .before .before .before .check-shape .ensures))
-
-enum-told-2 : tie.Need-enum-told-2
-enum-told-2 c = search needs
-
 write-into-requires : tie.Need-write-into-requires
-write-into-requires c κs =
-    let shaped = c .before in
-    let fits = shaped .before .before .before in
-    record {
-      short = fits .before .before .before .before .before .if1 .left;
-      sizes = sym (fits .before .sizes-fit .ensures) ∙ not-false _ (fits .if2 .left);
-      shape = well-shaped _ (sym (shaped .enum-told2 .given .1) ∙ shaped .before .before .check-shape .ensures);
-    }
+write-into-requires c κs = writable _ _ (sym (c .before .enum-told .given .1) ∙ c .before .before .before .test-tree .ensures)
 
 same-length : tie.Need-same-length
 same-length c = search needs
 
-returns-5 : tie.Need-returns-5
-returns-5 c =
-    let shaped = c .before .before .before .before in
-    let fits = shaped .before .before .before in
-    let formed = fits .before .before in
-    all-well _ _ _ _ (formed .before .before .before .if1 .left) (well-formed _ (sym (formed .enum-told .given .1) ∙ formed .before .before .check .ensures))
-    (sym (fits .before .sizes-fit .ensures) ∙ not-false _ (fits .if2 .left))
-    (well-shaped _ (sym (shaped .enum-told2 .given .1) ∙ shaped .before .before .check-shape .ensures))
-    _ _ (c .before .before .write-into .ensures)
+returns-2 : tie.Need-returns-2
+returns-2 c =
+    let told = c .before .before .before .before in
+    passed _ _ _ _ (sym (told .enum-told .given .1) ∙ told .before .before .test-tree .ensures) _ _ (c .before .before .write-into .ensures)
 
 pub write-spec : {M : Type 1} → statement M
 write-spec =
     tie.close
     (tie.spec
+    test-tree-requires
+    enum-known-answer
     returns
-    check-requires
-    enum-known-at
-    returns-2
     enum-told
-    sizes-fit-requires
-    returns-3
-    check-shape-requires
-    enum-known-mark
-    returns-4
-    enum-told-2
     write-into-requires
     same-length
-    returns-5)
+    returns-2)

@@ -4,7 +4,7 @@ use native.Mathlib.Omega.{arith}
 use mathlib.Core.Path.{_≡_}
 use mathlib.Core.List.{List}
 use lib.Dec.{eqb}
-use borrow.Author.Needs.{needs}
+use borrow.Author.Needs.{needs, fits-under}
 use Rattle.vectors.specs.Stored.{longAt}
 use Rattle.vectors.specs.Written.{writtenIn}
 use Rattle.vectors.specs.declared.written.Written.{Written}
@@ -20,31 +20,31 @@ long-requires : tie.Need-long-requires
 long-requires c κs = search needs
 
 cast-t5 : tie.Need-cast-t5
-cast-t5 c = search needs
+cast-t5 c = fits-under _ _ _ (c .long .ok) tt
 
 long-requires-2 : tie.Need-long-requires-2
 long-requires-2 c κs = search needs
 
 cast-t9 : tie.Need-cast-t9
-cast-t9 c = search needs
+cast-t9 c = fits-under _ _ _ (c .long2 .ok) tt
 
 long-requires-3 : tie.Need-long-requires-3
 long-requires-3 c κs = search needs
 
 cast-t13 : tie.Need-cast-t13
-cast-t13 c = search needs
+cast-t13 c = fits-under _ _ _ (c .long3 .ok) tt
 
 long-requires-4 : tie.Need-long-requires-4
 long-requires-4 c κs = search needs
 
 cast-t17 : tie.Need-cast-t17
-cast-t17 c = search needs
+cast-t17 c = fits-under _ _ _ (c .long4 .ok) tt
 
 long-requires-5 : tie.Need-long-requires-5
 long-requires-5 c κs = search needs
 
 cast-t21 : tie.Need-cast-t21
-cast-t21 c = search needs
+cast-t21 c = fits-under _ _ _ (c .long5 .ok) tt
 
 long-requires-6 : tie.Need-long-requires-6
 long-requires-6 c κs = search needs
@@ -56,25 +56,25 @@ long-requires-8 : tie.Need-long-requires-8
 long-requires-8 c κs = search needs
 
 cast-t32 : tie.Need-cast-t32
-cast-t32 c = search needs
+cast-t32 c = fits-under _ _ _ (c .long8 .ok) tt
 
 long-requires-9 : tie.Need-long-requires-9
 long-requires-9 c κs = search needs
 
 cast-t36 : tie.Need-cast-t36
-cast-t36 c = search needs
+cast-t36 c = fits-under _ _ _ (c .long9 .ok) tt
 
 long-requires-10 : tie.Need-long-requires-10
 long-requires-10 c κs = search needs
 
 cast-t40 : tie.Need-cast-t40
-cast-t40 c = search needs
+cast-t40 c = fits-under _ _ _ (c .long10 .ok) tt
 
 long-requires-11 : tie.Need-long-requires-11
 long-requires-11 c κs = omega arith
 
 cast-t44 : tie.Need-cast-t44
-cast-t44 c = search needs
+cast-t44 c = fits-under _ _ _ (c .long11 .ok) tt
 
 returns : tie.Need-returns
 returns c = written-is (c .before .before .before .before .before .before .before .before .before .before .before .before .before .before .before .before .before .before .before .before .before .before .args .head .now) (c .before .before .before .before .before .before .before .before .before .before .before .before .before .before .before .before .before .before .before .before .long .ensures) (c .before .before .before .before .before .before .before .before .before .before .before .before .before .before .before .before .before .before .long2 .ensures) (c .before .before .before .before .before .before .before .before .before .before .before .before .before .before .before .before .long3 .ensures) (c .before .before .before .before .before .before .before .before .before .before .before .before .before .before .long4 .ensures) (c .before .before .before .before .before .before .before .before .before .before .before .before .long5 .ensures) (c .before .before .before .before .before .before .before .before .before .before .long6 .ensures) (c .before .before .before .before .before .before .before .before .long7 .ensures) (c .before .before .before .before .before .before .long8 .ensures) (c .before .before .before .before .long9 .ensures) (c .before .before .long10 .ensures) (c .long11 .ensures)
