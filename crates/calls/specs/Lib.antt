@@ -1,3 +1,3 @@
 -- A file cut in two, by what the reading call leaves and what the writing call makes of it.
-pub mod Claim
+pub mod Calls
 pub mod Theorem

@@ -1,4 +1,4 @@
--- Demand 3 holds over the calls: by their contracts the words and texts are those of the definitions, for which it is proved.
+-- Demand 3 holds over the calls: by their contracts the words and texts are those of the definitions.
 use Prim.Native.Nat.{ℕ}
 use mathlib.Core.Path.{_≡_, sym, ap, _∙_}
 use mathlib.Core.Bool.{Bool}
@@ -6,22 +6,20 @@ use mathlib.Core.List.{List, _++_}
 use lib.ListN.{length, take, drop}
 use lib.Seq.{take-append-seam}
 use borrow.Author.Tests.{le-ltb}
+use Rattle.utf8.specs.Utf8 as Utf8
 use Rattle.syntax.specs.declared.answer.Answer.the-variants.{Accepted}
+use Rattle.syntax.specs.Limits.{maxOpen}
 use Rattle.syntax.specs.Layout.{marksIn}
 use Rattle.syntax.specs.Reading.{readAnswer, treeAfter}
 use Rattle.syntax.specs.Writing.{writeAnswer, outputAfter}
 use Rattle.syntax.specs.Serializer.{serialize}
-use Rattle.laws.specs.Call.{written, writes, written-size, written-output, marks-left}
-use Rattle.cut.specs.Claim as Cut
-use Rattle.cut.specs.Theorem.{demand-3}
-use Rattle.calls.specs.Claim.{Reading, Writing, textOf, Fit, Demand3, Writable}
-
--- ---- a reading
-abbrev lent : {s : List ℕ} → Reading s → Cut.Slices
-lent r = record { tree = r .lentTree; errors = r .lentErrors }
-
-accepted : {s : List ℕ} (r : Reading s) → readAnswer s (length (r .lentTree)) (length (r .lentErrors)) ≡ Accepted 0
-accepted r = sym (r .did .answers)
+use Rattle.laws.specs.Call.{written, writes, written-size, written-output, output-utf8, marks-left}
+use Rattle.cut.specs.Claim.{Demand3}
+use Rattle.cut.specs.Definition.{Slices, treeIn, errorsIn}
+use Rattle.cut.specs.Theorem.{Faithful, reading-shows, holds}
+use Rattle.parser.specs.Call.{DidRead}
+use Rattle.serializer.specs.Call.{DidWrite}
+use Rattle.calls.specs.Calls.{Reading, Writing, calls, Writable}
 
 -- ---- a text
 module _ (s t e : List ℕ) (h : readAnswer s (length t) (length e) ≡ Accepted 0) (junk : Bool) where
@@ -40,34 +38,42 @@ module _ (s t e : List ℕ) (h : readAnswer s (length t) (length e) ≡ Accepted
       let p : o′ ≡ text ++ drop (length text) o = w ∙ written-output s (treeAfter s t e) o junk (sym a) in
       rw (n, p) (take-append-seam text (drop (length text) o))
 
-written-text : (s : List ℕ) (r : Reading s) (junk : Bool) (w : Writing s (r .tree) junk) → textOf w ≡ Cut.textOf junk s (lent r)
-unfolding Cut.textOf text
-written-text s r junk w =
-    let t = r .did .tree in
-    left s (r .lentTree) (r .lentErrors) (accepted r) junk (w .lent) (w .output) (w .size) (w .did .answers ∙ ap (λ z. writeAnswer s z (length (w .lent)) junk) t) (w .did .output ∙ ap (λ z. outputAfter s z (w .lent) junk) t)
+-- ---- a reading, and what is written of it
+
+module _ (s : List ℕ) (r : Reading DidRead s) (h : calls .Accepted s r) where
+  written-text : (junk : Bool) (x : List ℕ) → Writing s (r .tree) junk x → x ≡ serialize s junk (marksIn (treeAfter s (r .lentTree) (r .lentErrors)))
+  unfolding text
+  written-text junk x w =
+      let t = r .did .tree in
+      w .wrote
+      ∙ left s (r .lentTree) (r .lentErrors) h junk (w .lent) (w .output) (w .size) (w .did .answers ∙ ap (λ z. writeAnswer s z (length (w .lent)) junk) t)
+      (w .did .output ∙ ap (λ z. outputAfter s z (w .lent) junk) t)
+
+calls-show : Faithful maxOpen calls
+calls-show s r h =
+    let lent : Slices = record { tree = r .lentTree; errors = r .lentErrors } in
+    let d = reading-shows s lent h in
+    record {
+      marks = d .marks;
+      list = d .list;
+      reads = d .reads;
+      kinds = d .kinds;
+      tree = ap treeIn (r .did .tree) ∙ d .tree;
+      errors = ap errorsIn (r .did .errors) ∙ d .errors;
+      text = λ junk x w. d .text junk x (written-text s r h junk x w);
+    }
 
 -- ---- the theorem
-pub demand-3-calls : Demand3
-unfolding Cut.treeOf Cut.errorsOf
-demand-3-calls s k r a b f =
-    let tr : Cut.treeIn (r .tree) ≡ Cut.treeOf s (lent r) = ap Cut.treeIn (r .did .tree) in
-    let ta : Cut.treeIn (a .tree) ≡ Cut.treeOf (take k s) (lent a) = ap Cut.treeIn (a .did .tree) in
-    let tb : Cut.treeIn (b .tree) ≡ Cut.treeOf (drop k s) (lent b) = ap Cut.treeIn (b .did .tree) in
-    let er : Cut.errorsIn (r .errors) ≡ Cut.errorsOf s (lent r) = ap Cut.errorsIn (r .did .errors) in
-    let ea : Cut.errorsIn (a .errors) ≡ Cut.errorsOf (take k s) (lent a) = ap Cut.errorsIn (a .did .errors) in
-    let eb : Cut.errorsIn (b .errors) ≡ Cut.errorsOf (drop k s) (lent b) = ap Cut.errorsIn (b .did .errors) in
-    let fit : Cut.Fit s k (lent r) (lent a) (lent b) = record { within = f .within; ends = f .ends; starts = f .starts; whole = accepted r; first = accepted a; second = accepted b; clean = rw ta at (f .clean) } in
-    let c = demand-3 s k (lent r) (lent a) (lent b) fit in
-    record {
-      errors = rw (er, ea, eb) (c .errors);
-      tree = λ n. rw (tr, ta, tb) (c .tree n);
-      differs = λ j m. c .differs j (rw (tr, ta, tb) at m);
-      text = λ m junk w x y. rw (written-text s r junk w, written-text (take k s) a junk x, written-text (drop k s) b junk y, ta, tb) (c .text (rw (tr, ta, tb) at m) junk);
-    }
+pub demand-3-calls : Demand3 calls
+demand-3-calls = holds maxOpen calls calls-show
 
 -- a tree that was read can be written
 pub writable : Writable
-writable s r junk = record {
-  size = length (text s (r .lentTree) (r .lentErrors) (accepted r) junk);
-  did = λ o o′ answer d l. d .answers ∙ ap (λ z. writeAnswer s z (length o) junk) (r .did .tree) ∙ answer-is s (r .lentTree) (r .lentErrors) (accepted r) junk (length o) ∙ (rw (le-ltb (length o) _ l, written));
+writable s r h junk = record {
+  size = length (text s (r .lentTree) (r .lentErrors) h junk);
+  did = λ o o′ answer d l. d .answers ∙ ap (λ z. writeAnswer s z (length o) junk) (r .did .tree) ∙ answer-is s (r .lentTree) (r .lentErrors) h junk (length o) ∙ (rw (le-ltb (length o) _ l, written));
 }
+
+-- what an accepted call of `write` wrote is UTF-8
+pub output-is-utf8 : (s tree o o′ : List ℕ) (junk : Bool) (size : ℕ) → DidWrite s tree o o′ junk (Accepted size) → Utf8.WellFormed (take size o′)
+output-is-utf8 s tree o o′ junk size d = rw (d .output) (output-utf8 s tree o junk (sym (d .answers)))

@@ -14,7 +14,7 @@ use Rattle.syntax.specs.Core.{lineStartsAt}
 use Rattle.laws.specs.Bytes.{Stop, byCase, clash}
 use Rattle.laws.specs.Lines.{lineRun-here, lineRun-on, starts-add}
 use Rattle.laws.specs.Stable.Comment.{OneLine}
-use Rattle.cut.specs.Parts.{oneLine, lastLine}
+use Rattle.cut.specs.Claim.{oneLine, lastLine}
 
 newline-before : (i : ℕ) (s : List ℕ) → lineStartsAt (suc i) s ≡ true → lineRun s ≤ i
 unfolding lineStartsAt

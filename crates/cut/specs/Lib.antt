@@ -1,6 +1,6 @@
--- A file cut in two: the theorem on the definitions.
-pub mod Parts
+-- A file cut in two: the claim, and its proof for the definitions.
 pub mod Claim
+pub mod Definition
 pub mod LastLine
 pub mod Words
 pub mod Clean

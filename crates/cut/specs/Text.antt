@@ -8,15 +8,15 @@ use native.Mathlib.Omega.{arith}
 use mathlib.Core.Path.{_≡_, refl, sym, ap, ap₂, _∙_, subst}
 use mathlib.Core.Bool.{Bool, true, false}
 use mathlib.Core.List.{List, [], _∷_, _++_, map}
-use lib.ListN.{drop, length, take, take-append-drop}
+use lib.ListN.{drop, length, take}
 use lib.Seq.{drop-append-add}
 use lib.Dec.{ltb}
 use borrow.Author.Tests.{ltb-true, ltb-false}
-use Rattle.syntax.specs.Marks.{Mark, plain, placed, moveUp}
+use Rattle.syntax.specs.Marks.{Mark, plain, placed, kindOf, moveUp}
 use Rattle.syntax.specs.Expression.{level}
-use Rattle.syntax.specs.Core.{Error, read, parse, entries}
+use Rattle.syntax.specs.Core.{Error, entries}
 use Rattle.syntax.specs.Serializer.{Node, nodes, nodesFrom, lastOf, resource, serialize, empty}
-use Rattle.laws.specs.Bytes.{Whole, whole-drop, Fresh, byCase}
+use Rattle.laws.specs.Bytes.{whole-drop, byCase}
 use Rattle.laws.specs.Stable.Pattern.{span-same}
 use Rattle.laws.specs.Moving.{moveUp-zero}
 use Rattle.laws.specs.Formed.{places, balanced}
@@ -24,9 +24,9 @@ use Rattle.laws.specs.Formed.Expression.{level-formed}
 use Rattle.laws.specs.Balanced.Nodes.{upNode, nodes-up, nodes-append, OkMarks, ok-nodes}
 use Rattle.cut.specs.Text.Source.{resource-same}
 use Rattle.cut.specs.Text.Piece.{Ends, resource-ends, wroteAll, wrote-ends, resource-append, Opening, opensNodes, opened-text}
-use Rattle.cut.specs.Text.Listing.{none-read, entries-ends, ends-up, entries-opening}
-use Rattle.cut.specs.Tree.{cut-tree, start, from-start, first-part, second-part}
-use Rattle.cut.specs.Parts.{opensFree, between, Readings, Parts}
+use Rattle.cut.specs.Text.Listing.{opensFree, none-read, entries-ends, ends-up, entries-opening}
+use Rattle.cut.specs.Tree.{Readings, start, from-start, first-part, second-part}
+use Rattle.cut.specs.Claim.{between}
 
 any-ok : (ms : List Mark) → OkMarks (λ p. Unit {0}) ms
 any-ok [] = tt
@@ -78,12 +78,12 @@ module _ (n : ℕ) (A B : List ℕ) (ma mb mab : List Mark) (eb eab : List Error
           something (upNode k x) (map (upNode k) xs) (ap nodes (sym (first-part n A B ma mb mab eb eab r .2)) ∙ nodes-up k ma′ ∙ ap (map (upNode k)) q)
           (ends-up (level n) (level-formed n) A k (x ∷ xs) (subst (Ends A) q e))
 
-  some-between : (x : Node) (xs : List Node) → nodes ma ≡ x ∷ xs → (ms : List Mark) → ma ≡ ms → between ma mb ≡ (elim (opensFree mb) [ true ↦ 10 ∷ [] | false ↦ [] ])
+  some-between : (x : Node) (xs : List Node) → nodes ma ≡ x ∷ xs → (ms : List Mark) → ma ≡ ms → between (map kindOf ma) (map kindOf mb) ≡ (elim (opensFree mb) [ true ↦ 10 ∷ [] | false ↦ [] ])
   unfolding between nodes nodesFrom
   some-between x xs e [] q = let f : _≡_ {A = List Node} [] (x ∷ xs) = sym (ap nodes q) ∙ e in let z : _≡_ {A = ℕ} 0 1 = cc in absurd (omega arith)
-  some-between x xs e (m ∷ ms) q = ap (λ z. between z mb) q
+  some-between x xs e (m ∷ ms) q = ap (λ z. between (map kindOf z) (map kindOf mb)) q
 
-  pub cut-text : mab ≡ ma ++ moveUp (length A) mb → (junk : Bool) → serialize (A ++ B) junk mab ≡ serialize A junk ma ++ (between ma mb ++ serialize B junk mb)
+  pub cut-text : mab ≡ ma ++ moveUp (length A) mb → (junk : Bool) → serialize (A ++ B) junk mab ≡ serialize A junk ma ++ (between (map kindOf ma) (map kindOf mb) ++ serialize B junk mb)
   unfolding serialize between nodes nodesFrom resource empty lastOf
   cut-text same junk = by first-is
     where
@@ -96,10 +96,10 @@ module _ (n : ℕ) (A B : List ℕ) (ma mb mab : List Mark) (eb eab : List Error
       text : List ℕ
       text = resource (A ++ B) junk false (nodes ma) 0 0
 
-      by : First → serialize (A ++ B) junk mab ≡ serialize A junk ma ++ (between ma mb ++ serialize B junk mb)
+      by : First → serialize (A ++ B) junk mab ≡ serialize A junk ma ++ (between (map kindOf ma) (map kindOf mb) ++ serialize B junk mb)
       by (nothing e) =
           whole ∙ ap (λ z. resource (A ++ B) junk false (nodes z ++ nodes (moveUp (length A) mb)) 0 0) e ∙ ap (λ p. p 0 0) (second-same A B junk false mb)
-          ∙ sym (ap (λ z. serialize A junk z ++ (between z mb ++ serialize B junk mb)) e)
+          ∙ sym (ap (λ z. serialize A junk z ++ (between (map kindOf z) (map kindOf mb) ++ serialize B junk mb)) e)
       by (something x xs e ends) =
           whole ∙ resource-append (A ++ B) junk false (nodes ma) (nodes (moveUp (length A) mb)) 0 0
           ∙ ap₂ (λ a b. a ++ b) (ap (λ p. p 0 0) (first-same A B junk false ma (places n A ma [] (r .first))))
@@ -113,14 +113,3 @@ module _ (n : ℕ) (A B : List ℕ) (ma mb mab : List Mark) (eb eab : List Error
 
           last : lastOf 0 (resource (A ++ B) junk false (nodes ma) 0 0) ≡ 10
           last = ap (λ z. lastOf 0 (resource (A ++ B) junk false z 0 0)) e ∙ resource-ends (A ++ B) junk false x xs (ends-any x xs ends) 0 0
-
--- a file cut in two
-pub cut-parts : (n : ℕ) (A B : List ℕ) (ma mb mab : List Mark) (eb eab : List Error) → Readings n A B ma mb mab eb eab → Parts n A B ma mb mab eb eab
-cut-parts n A B ma mb mab eb eab r =
-    let t = cut-tree n A B ma mb mab eb eab r in
-    record { errors = t .errors; differs = t .differs; equal = t .equal; texts = cut-text n A B ma mb mab eb eab r }
-
--- a source s, cut at the byte k
-pub cut : (n : ℕ) (s : List ℕ) (k : ℕ) (ma mb mab : List Mark) (eb eab : List Error) → Whole (take k s) → Fresh (drop k s) → parse n (take k s) ≡ read ma [] → parse n (drop k s) ≡ read mb eb → parse n s ≡ read mab eab
-    → Parts n (take k s) (drop k s) ma mb mab eb eab
-cut n s k ma mb mab eb eab w f a b c = cut-parts n (take k s) (drop k s) ma mb mab eb eab (record { whole = w; fresh = f; first = a; second = b; uncut = ap (parse n) (take-append-drop k s) ∙ c })

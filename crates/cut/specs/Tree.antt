@@ -1,5 +1,6 @@
 -- A file cut in two: its tree and its errors.
 pub mod Join
+pub mod First
 use Prim.Native.Nat.{ℕ, suc, _+_, _≤_, _<_}
 use native.Mathlib.Omega.{arith}
 use mathlib.Core.Path.{_≡_, sym, ap, ap₂, _∙_, subst}
@@ -9,8 +10,8 @@ use mathlib.Core.List.{List, [], _++_, map, append-nil}
 use lib.ListN.{drop, length, length-drop, length-append, drop-of-length-le}
 use lib.Dec.{ltb}
 use borrow.Author.Tests.{ltb-true, ltb-false}
-use Rattle.syntax.specs.Bytes.{startsWith}
-use Rattle.syntax.specs.Marks.{Mark, moveUp}
+use Rattle.syntax.specs.Bytes.{startsWith, Whole, Fresh}
+use Rattle.syntax.specs.Marks.{Mark, kindOf, moveUp}
 use Rattle.syntax.specs.Helper.{skipBlankBlock}
 use Rattle.syntax.specs.Pattern.{usedBy}
 use Rattle.syntax.specs.Expression.{level}
@@ -26,14 +27,23 @@ use Rattle.laws.specs.Lines.Lands.{block-lands}
 use Rattle.laws.specs.File.{entries-more}
 use Rattle.laws.specs.Entries.{following-read, read-read, map-nil, weight, weight-append, weight-up, block-fresh}
 use Rattle.cut.specs.LastLine.{lastLine-drop, Tail, tail-of}
-use Rattle.cut.specs.Tree.Join.{Joint, join, no-exc}
-use Rattle.cut.specs.Parts.{lastLine, hashes, Joins, Exception, Readings}
+use Rattle.cut.specs.Tree.Join.{Joins, Joint, join, no-exc}
+use Rattle.cut.specs.Tree.First.{joins-entry, entry-joins}
+use Rattle.cut.specs.Claim.{lastLine, hashes, Exception}
+
+-- the readings of A, of B and of both in a row, A without an error
+pub record Readings (n : ℕ) (A B : List ℕ) (ma mb mab : List Mark) (eb eab : List Error) : Type 0 where
+  pub whole : Whole A
+  pub fresh : Fresh B
+  pub first : parse n A ≡ read ma []
+  pub second : parse n B ≡ read mb eb
+  pub uncut : parse n (A ++ B) ≡ read mab eab
 
 -- the uncut file's tree is that of the parts joined, but for the exception; its errors are the second part's, moved up
 pub record CutTree (n : ℕ) (A B : List ℕ) (ma mb mab : List Mark) (eb eab : List Error) : Type 0 where
   pub errors : eab ≡ map (upError (length A)) eb
-  pub differs : Exception n A B → mab ≡ ma ++ moveUp (length A) mb → ⊥
-  pub equal : (Exception n A B → ⊥) → mab ≡ ma ++ moveUp (length A) mb
+  pub differs : Exception A B (map kindOf mb) → mab ≡ ma ++ moveUp (length A) mb → ⊥
+  pub equal : (Exception A B (map kindOf mb) → ⊥) → mab ≡ ma ++ moveUp (length A) mb
 
 module _ (n : ℕ) (A B : List ℕ) (ma mb mab : List Mark) (eb eab : List Error) (r : Readings n A B ma mb mab eb eab) where
   unfoldable pub start : ℕ
@@ -84,19 +94,19 @@ module _ (n : ℕ) (A B : List ℕ) (ma mb mab : List Mark) (eb eab : List Error
       lands = let (c, gs, u, g) = sure-ok (skipBlankBlock A) (block-sure A) in
           subst (λ k. lineStartsAt k A ≡ true) (sym (ap usedBy g)) (subst (Holds (λ a ms k. lineStartsAt k A ≡ true)) g (block-lands A))
 
-  to : Exception n A B → (startsWith 35 (lastLine from-start) ≡ true) × Joins (hashes (lastLine from-start)) (getEntry (level n) B)
+  to : Exception A B (map kindOf mb) → (startsWith 35 (lastLine from-start) ≡ true) × Joins (hashes (lastLine from-start)) (getEntry (level n) B)
   unfolding start
   to x = byCase (ltb 0 (length from-start))
-      (λ q. let e = same-line (ltb-true 0 (length from-start) q) in (subst (λ z. startsWith 35 z ≡ true) e (x .isComment), subst (λ z. Joins (hashes z) (getEntry (level n) B)) e (x .joins)))
-      (λ q. absurd (apart (tail-of A (r .whole) (x .isComment)) (ltb-false 0 (length from-start) q)))
+      (λ q. let e = same-line (ltb-true 0 (length from-start) q) in (subst (λ z. startsWith 35 z ≡ true) e (x .line), subst (λ z. Joins (hashes z) (getEntry (level n) B)) e (joins-entry n B mb eb second-part (hashes (lastLine A)) (x .joins))))
+      (λ q. absurd (apart (tail-of A (r .whole) (x .line)) (ltb-false 0 (length from-start) q)))
     where
       apart : Tail A → length from-start ≤ 0 → ⊥
       apart t h = omega (arith, from-length, subst (λ z. usedBy (skipBlankBlock z) ≤ length (t .front)) (sym (t .split)) (block-within (t .front) (t .back) (t .whole) (t .stop)), ap length (t .split), length-append (t .front) (t .back), t .some)
 
-  from : (startsWith 35 (lastLine from-start) ≡ true) × Joins (hashes (lastLine from-start)) (getEntry (level n) B) → Exception n A B
+  from : (startsWith 35 (lastLine from-start) ≡ true) × Joins (hashes (lastLine from-start)) (getEntry (level n) B) → Exception A B (map kindOf mb)
   unfolding from-start
   from x = byCase (ltb 0 (length from-start))
-      (λ q. let e = sym (same-line (ltb-true 0 (length from-start) q)) in record { isComment = subst (λ z. startsWith 35 z ≡ true) e (x .0); joins = subst (λ z. Joins (hashes z) (getEntry (level n) B)) e (x .1) })
+      (λ q. let e = sym (same-line (ltb-true 0 (length from-start) q)) in record { line = subst (λ z. startsWith 35 z ≡ true) e (x .0); joins = entry-joins n B mb eb second-part (hashes (lastLine A)) (subst (λ z. Joins (hashes z) (getEntry (level n) B)) e (x .1)) })
       (λ q. absurd (no-exc (level n) (level-law n) B (r .fresh) (suc (length B)) mb eb second-part (subst (λ z. (startsWith 35 (lastLine z) ≡ true) × Joins (hashes (lastLine z)) (getEntry (level n) B)) (drop-of-length-le A {i = start} (omega (arith, length-drop start A, ltb-false 0 (length from-start) q))) x)))
 
   both : (uncut-part .0 ≡ joint .mab) × (uncut-part .1 ≡ map (upError (length from-start)) eb)
@@ -119,11 +129,11 @@ module _ (n : ℕ) (A B : List ℕ) (ma mb mab : List Mark) (eb eab : List Error
   }
     where
       differ : (((startsWith 35 (lastLine from-start) ≡ true) × Joins (hashes (lastLine from-start)) (getEntry (level n) B) → ⊥) × (joint .mab ≡ first-part .0 ++ moveUp (length from-start) mb)) ⊎ (((startsWith 35 (lastLine from-start) ≡ true) × Joins (hashes (lastLine from-start)) (getEntry (level n) B)) × (weight (joint .mab) ≡ weight (first-part .0) + weight mb → ⊥))
-          → Exception n A B → mab ≡ ma ++ moveUp (length A) mb → ⊥
+          → Exception A B (map kindOf mb) → mab ≡ ma ++ moveUp (length A) mb → ⊥
       differ (inl (not-exc, e)) x = absurd (not-exc (to x))
       differ (inr (exc, d)) x = apart d
 
       same : (((startsWith 35 (lastLine from-start) ≡ true) × Joins (hashes (lastLine from-start)) (getEntry (level n) B) → ⊥) × (joint .mab ≡ first-part .0 ++ moveUp (length from-start) mb)) ⊎ (((startsWith 35 (lastLine from-start) ≡ true) × Joins (hashes (lastLine from-start)) (getEntry (level n) B)) × (weight (joint .mab) ≡ weight (first-part .0) + weight mb → ⊥))
-          → (Exception n A B → ⊥) → mab ≡ ma ++ moveUp (length A) mb
+          → (Exception A B (map kindOf mb) → ⊥) → mab ≡ ma ++ moveUp (length A) mb
       same (inl (not-exc, e)) x = joined e
       same (inr (exc, d)) x = absurd (x (from exc))

@@ -1,7 +1,7 @@
 -- Trees and error lists as document 01 compares them, from marks and errors: reading them back, moving up and joining.
 use Prim.Native.Nat.{ℕ, _+_, _≤_}
 use mathlib.Core.Path.{_≡_, refl, sym, ap, ap₂, _∙_}
-use mathlib.Core.List.{List, [], _∷_, _++_, map, append-assoc}
+use mathlib.Core.List.{List, [], _∷_, _++_, map}
 use lib.ListN.{length, length-append, length-map}
 use lib.Seq.{take-at, drop-at}
 use Rattle.syntax.specs.declared.errors.ErrorKind.{ErrorKind}
@@ -12,7 +12,8 @@ use Rattle.syntax.specs.Core.{Error, upError}
 use Rattle.syntax.specs.Layout.{treeWords, groupSize, group, groups, errorNumber, errorWords, marksBy}
 use Rattle.laws.specs.Moving.{map-append}
 use Rattle.laws.specs.Layout.{tree-kinds, tree-places, error-kinds, error-groups, AllProper, proper-marks}
-use Rattle.cut.specs.Claim.{Tree, Errors, treeIn, errorsIn, movePlaces, hasSpan, moveGroup, moveGroups, joinTrees, joinErrors}
+use Rattle.cut.specs.Claim.{Tree, Errors, movePlaces, moveTree, hasSpan, moveGroup, moveGroups, moveErrors, join}
+use Rattle.cut.specs.Definition.{treeIn, errorsIn}
 
 unfoldable pub ofMarks : List Mark → Tree
 ofMarks ms = record { count = length ms; kinds = map kindOf ms; places = map placeOf ms }
@@ -41,8 +42,8 @@ places-up n [] h = refl
 places-up n (plain k ∷ ms) h = rw (h .0, movePlaces) (ap (λ (r : List ℕ). 0 ∷ r) (places-up n ms (h .1)))
 places-up n (placed k p ∷ ms) h = rw (h .0, movePlaces) (ap (λ (r : List ℕ). (n + p) ∷ r) (places-up n ms (h .1)))
 
-pub join-marks : (n : ℕ) (ma mb : List Mark) → AllProper mb → joinTrees n (ofMarks ma) (ofMarks mb) ≡ ofMarks (ma ++ moveUp n mb)
-unfolding joinTrees ofMarks moveUp
+pub join-marks : (n : ℕ) (ma mb : List Mark) → AllProper mb → join (ofMarks ma) (moveTree n (ofMarks mb)) ≡ ofMarks (ma ++ moveUp n mb)
+unfolding join moveTree ofMarks moveUp
 join-marks n ma mb h i = record {
   count = (sym (length-append ma (moveUp n mb) ∙ ap (λ k. length ma + k) (length-map mb (up n)))) i;
   kinds = (sym (map-append kindOf ma (moveUp n mb) ∙ ap (λ r. map kindOf ma ++ r) (kinds-up n mb))) i;
@@ -54,7 +55,7 @@ pub marks-same : (ms ns : List Mark) → AllProper ms → AllProper ns → ofMar
 unfolding ofMarks
 marks-same ms ns p q e = sym (proper-marks ms p) ∙ ap (λ (t : Tree). marksBy (t .kinds) (t .places)) e ∙ proper-marks ns q
 
--- errors moved up and joined
+-- errors moved up
 -- moving up keeps an error's number, and moves its group
 kind-up : (n : ℕ) (k : ErrorKind) (a b c d : ℕ) → (wordsOf (upKind n k) .number ≡ wordsOf k .number)
     × (moveGroup n (wordsOf k .number) (a ∷ b ∷ c ∷ d ∷ wordsOf k .first ∷ wordsOf k .second ∷ [])
@@ -105,15 +106,6 @@ groups-up n (e ∷ es) =
     ap₂ (λ (a b : List ℕ). a ++ b) (ap (moveGroup n (errorNumber e)) (take-at (group e) (groups es) groupSize (group-length e)) ∙ group-up n e)
     (ap (moveGroups n (map errorNumber es)) (drop-at (group e) (groups es) groupSize (group-length e)) ∙ groups-up n es)
 
-groups-append : (es fs : List Error) → groups (es ++ fs) ≡ groups es ++ groups fs
-unfolding groups
-groups-append [] fs = refl
-groups-append (e ∷ es) fs = ap (λ r. group e ++ r) (groups-append es fs) ∙ sym (append-assoc (group e) (groups es) (groups fs))
-
-pub join-errors : (n : ℕ) (ea eb : List Error) → joinErrors n (ofErrors ea) (ofErrors eb) ≡ ofErrors (ea ++ map (upError n) eb)
-unfolding joinErrors ofErrors
-join-errors n ea eb i = record {
-  count = (sym (length-append ea (map (upError n) eb) ∙ ap (λ k. length ea + k) (length-map eb (upError n)))) i;
-  kinds = (sym (map-append errorNumber ea (map (upError n) eb) ∙ ap (λ r. map errorNumber ea ++ r) (numbers-up n eb))) i;
-  groups = (ap (λ r. groups ea ++ r) (groups-up n eb) ∙ sym (groups-append ea (map (upError n) eb))) i;
-}
+pub move-errors : (n : ℕ) (es : List Error) → moveErrors n (ofErrors es) ≡ ofErrors (map (upError n) es)
+unfolding moveErrors ofErrors
+move-errors n es i = record { count = (sym (length-map es (upError n))) i; kinds = (sym (numbers-up n es)) i; groups = groups-up n es i }

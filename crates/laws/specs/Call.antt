@@ -5,7 +5,8 @@ use mathlib.Core.Path.{_≡_, refl, ap, _∙_}
 use mathlib.Core.Bool.{Bool, true, false}
 use mathlib.Core.List.{List, _++_}
 use mathlib.Core.Option.{Option, some, none}
-use lib.ListN.{length, drop}
+use lib.ListN.{length, take, drop}
+use lib.Seq.{take-append-seam}
 use lib.Dec.{ltb}
 use borrow.Author.Tests.{ltb-false}
 use Rattle.utf8.specs.Utf8.{firstIllFormed, isBoundary}
@@ -23,36 +24,58 @@ use Rattle.laws.specs.Bytes.{byCase}
 use Rattle.laws.specs.File.{parse-read}
 use Rattle.laws.specs.Layout.{tree-marks, tree-fits}
 use Rattle.laws.specs.Formed.{proper, verdict-none}
+use Rattle.laws.specs.Shape.Verdict.{accepts}
+use Rattle.laws.specs.Text.Utf8.{text-utf8}
 
 -- the writing call's answer for a text of n bytes and an output of o
 abbrev pub written : (o n : ℕ) → Answer
 written o n = elim (ltb o n) [ true ↦ OutputTooShort n | false ↦ Accepted n ]
 
--- an accepted writing: the answer is the text's length, and the output starts with the text
+-- an accepted writing: no test refuses, the answer is the text's length, the output starts with the text, and the text is UTF-8
 module _ (s t o : List ℕ) (junk : Bool) {v : ℕ} (h : writeAnswer s t (length o) junk ≡ Accepted v) where
-  of-shape : ltb maxLength (length s) ≡ false → firstIllFormed s ≡ none → sizesFit t ≡ true → (x : Option ℕ) → verdict (isBoundary s) maxOpen (marksIn t) ≡ x
-      → v ≡ length (serialize s junk (marksIn t))
+  not-long : ltb maxLength (length s) ≡ false
   unfolding writeAnswer
-  of-shape q e f (some k) w = let g = rw (q, writeAnswer, e, f, w) at h in let z : _≡_ {A = ℕ} 0 1 = cc in absurd (omega arith)
-  of-shape q e f none w =
-      byCase (ltb (length o) (length (serialize s junk (marksIn t))))
-      (λ l. let g = rw (q, writeAnswer, e, f, w, l) at h in let z : _≡_ {A = ℕ} 0 1 = cc in absurd (omega arith))
-      (λ l. let g = rw (q, writeAnswer, e, f, w, l) at h in cc)
+  not-long = byCase (ltb maxLength (length s)) (λ q. let g = rw (q, writeAnswer) at h in let z : _≡_ {A = ℕ} 0 1 = cc in absurd (omega arith)) (λ q. q)
 
-  of-source : ltb maxLength (length s) ≡ false → (x : Option ℕ) → firstIllFormed s ≡ x → v ≡ length (serialize s junk (marksIn t))
+  source-formed : firstIllFormed s ≡ none
   unfolding writeAnswer
-  of-source q (some k) e = let g = rw (q, writeAnswer, e) at h in let z : _≡_ {A = ℕ} 0 1 = cc in absurd (omega arith)
-  of-source q none e =
-      byCase (sizesFit t) (λ f. of-shape q e f _ refl) (λ f. let g = rw (q, writeAnswer, e, f) at h in let z : _≡_ {A = ℕ} 0 1 = cc in absurd (omega arith))
+  source-formed = go (firstIllFormed s) refl
+    where
+      go : (x : Option ℕ) → firstIllFormed s ≡ x → firstIllFormed s ≡ none
+      go none e = e
+      go (some k) e = let g = rw (not-long, writeAnswer, e) at h in let z : _≡_ {A = ℕ} 0 1 = cc in absurd (omega arith)
+
+  sizes-fit : sizesFit t ≡ true
+  unfolding writeAnswer
+  sizes-fit = byCase (sizesFit t) (λ f. f) (λ f. let g = rw (not-long, writeAnswer, source-formed, f) at h in let z : _≡_ {A = ℕ} 0 1 = cc in absurd (omega arith))
+
+  shape-formed : verdict (isBoundary s) maxOpen (marksIn t) ≡ none
+  unfolding writeAnswer
+  shape-formed = go (verdict (isBoundary s) maxOpen (marksIn t)) refl
+    where
+      go : (x : Option ℕ) → verdict (isBoundary s) maxOpen (marksIn t) ≡ x → verdict (isBoundary s) maxOpen (marksIn t) ≡ none
+      go none e = e
+      go (some k) e = let g = rw (not-long, writeAnswer, source-formed, sizes-fit, e) at h in let z : _≡_ {A = ℕ} 0 1 = cc in absurd (omega arith)
 
   pub written-size : v ≡ length (serialize s junk (marksIn t))
   unfolding writeAnswer
   written-size =
-      byCase (ltb maxLength (length s)) (λ q. let g = rw (q, writeAnswer) at h in let z : _≡_ {A = ℕ} 0 1 = cc in absurd (omega arith)) (λ q. of-source q _ refl)
+      byCase (ltb (length o) (length (serialize s junk (marksIn t))))
+      (λ l. let g = rw (not-long, writeAnswer, source-formed, sizes-fit, shape-formed, l) at h in let z : _≡_ {A = ℕ} 0 1 = cc in absurd (omega arith))
+      (λ l. let g = rw (not-long, writeAnswer, source-formed, sizes-fit, shape-formed, l) at h in cc)
 
   pub written-output : outputAfter s t o junk ≡ serialize s junk (marksIn t) ++ drop (length (serialize s junk (marksIn t))) o
   unfolding outputAfter textOver
   written-output = ap (λ z. textOver z (serialize s junk (marksIn t)) o) h
+
+  pub written-utf8 : firstIllFormed (serialize s junk (marksIn t)) ≡ none
+  written-utf8 = text-utf8 s junk maxOpen (marksIn t) source-formed (accepts (isBoundary s) maxOpen (marksIn t) .0 shape-formed)
+
+  -- so the bytes that were written are
+  pub output-utf8 : firstIllFormed (take v (outputAfter s t o junk)) ≡ none
+  output-utf8 =
+      let text = serialize s junk (marksIn t) in
+      rw (written-size, written-output, take-append-seam text (drop (length text) o)) written-utf8
 
 pub record Read (s t e : List ℕ) : Type 0 where
   pub marks : List Mark

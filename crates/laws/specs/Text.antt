@@ -1,6 +1,7 @@
 -- The writer's pieces without their fuel. Any fuel that is enough for the marks inside writes the same, and each piece is the row of its parts.
 pub mod Fuel
 pub mod Length
+pub mod Utf8
 use Prim.Native.Nat.{ℕ, suc, _+_, _≤_, _<_}
 use native.Mathlib.Omega.{arith}
 use mathlib.Core.Path.{_≡_, refl, ap}

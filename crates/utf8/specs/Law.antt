@@ -1,18 +1,18 @@
 -- Laws of well-formed UTF-8 that other crates cite.
-use Prim.Native.Nat.{ℕ, zero, suc, _+_, _≤_, _<_}
+use Prim.Native.Nat.{ℕ, zero, suc, _+_, _-_, _≤_, _<_}
 use native.Mathlib.Nat.{le-of-suc-le-suc, not-suc-le-zero, zero-add, suc-add}
 use native.Mathlib.Omega.{arith}
 use mathlib.Core.Logic.{_⊎_, inl, inr}
 use mathlib.Core.Path.{_≡_, refl, sym, ap, _∙_, subst}
 use mathlib.Core.Bool.{true, false}
 use mathlib.Core.Option.{Option, none, some, Option·map, map-eq-none-iff}
-use mathlib.Core.List.{List, [], _∷_}
+use mathlib.Core.List.{List, [], _∷_, _++_}
 use lib.Dec.{leb, ltb, eqb}
 use lib.ListN.{length, getD, take, drop}
 use lib.Seq.{drop-cons}
-use borrow.Author.Tests.{leb-true, leb-false, lt-ltb, le-ltb, ltb-true, eq-eqb, ne-eqb, eqb-true}
-use Rattle.utf8.specs.Utf8.{width, widthOfFirst, scan, firstIllFormed, moved, WellFormed, isContinuation, isBoundary}
-use Rattle.utf8.specs.Sequence.{cases, clash, first-below, read-within, read-take, read-first, read-rest}
+use borrow.Author.Tests.{leb-true, leb-false, lt-ltb, le-ltb, ltb-true, ltb-false, eq-eqb, ne-eqb, eqb-true}
+use Rattle.utf8.specs.Utf8.{_‥_, table, fits, whole, widthBy, width, widthOfFirst, scan, firstIllFormed, moved, WellFormed, isContinuation, isBoundary}
+use Rattle.utf8.specs.Sequence.{cases, clash, within-true, first-below, read-within, read-append, read-take, read-first, read-rest}
 
 -- a scan from the start of a sequence, and past it
 
@@ -159,3 +159,40 @@ ascii-boundary s k e h l =
     let g = edge-boundary s k (inr (h, f .1)) in
     let q = boundary-next s k e g h in
     (g, rw (q .1, f .0) at (q .0))
+
+scan-append : (s t : List ℕ) (m : ℕ) → m ≤ length s → scan m s ≡ none → scan 0 t ≡ none → scan m (s ++ t) ≡ none
+scan-append [] t zero h e f = f
+scan-append [] t (suc m) h e f = absurd (not-suc-le-zero h)
+scan-append (x ∷ s) t zero h e f =
+    let p = scan-none x s e in
+    let w = p .0 in
+    scan-start x (s ++ t) w (read-append x s t w (p .1)) (scan-append s t w (read-within x s w (p .1)) (p .2) f)
+scan-append (x ∷ s) t (suc m) h e f = scan-more x (s ++ t) m (scan-append s t m (le-of-suc-le-suc h) (scan-skip x s m e) f)
+
+-- well-formed sources in a row
+pub append-formed : (s t : List ℕ) → WellFormed s → WellFormed t → WellFormed (s ++ t)
+unfolding firstIllFormed
+append-formed s t e f = scan-append s t 0 (omega arith) e f
+
+edge-dropped : (s : List ℕ) (k j : ℕ) → Edge s (k + j) → Edge (drop k s) j
+edge-dropped s zero j g = rw zero-add at g
+edge-dropped [] (suc k) j (inl e) = absurd (omega arith)
+edge-dropped [] (suc k) j (inr h) = absurd (omega (arith, h .0))
+edge-dropped (x ∷ s) (suc k) j g = edge-dropped s k j (edge-tail x s (k + j) (rw suc-add at g))
+
+-- what stands between two boundaries
+pub span-formed : (s : List ℕ) (a e : ℕ) → WellFormed s → isBoundary s a ≡ true → isBoundary s e ≡ true → WellFormed (take (e - a) (drop a s))
+unfolding firstIllFormed scan
+span-formed s a e w p q = cases (ltb a e) (λ t. after (ltb-true a e t)) (λ t. let z : e - a ≡ 0 = omega (arith, ltb-false a e t) in rw z refl)
+  where
+    after : a < e → WellFormed (take (e - a) (drop a s))
+    after l =
+        let n : e ≡ suc (e - 1) = omega arith in
+        let m : e ≡ a + (e - a) = omega arith in
+        let g : Edge s (a + (e - a)) = subst (Edge s) (sym n ∙ m) (boundary-edge s (e - 1) (subst (λ k. isBoundary s k ≡ true) n q)) in
+        boundary-parts (drop a s) (e - a) (boundary-parts s a w p .1) (edge-boundary (drop a s) (e - a) (edge-dropped s a (e - a) g)) .0
+
+-- an ASCII byte before a well-formed source
+pub ascii-cons : (b : ℕ) (s : List ℕ) → b ≤ 127 → WellFormed s → WellFormed (b ∷ s)
+unfolding firstIllFormed width widthBy table whole fits
+ascii-cons b s h e = scan-start b s 0 (rw (within-true (0x00 ‥ 0x7F) b (omega arith) h, widthBy)) e

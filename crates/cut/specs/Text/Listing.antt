@@ -1,5 +1,5 @@
 -- The nodes of a reading.
-use Prim.Native.Nat.{ℕ, zero, suc, _+_, _-_, _≤_, _<_}
+use Prim.Native.Nat.{ℕ, zero, suc, _+_, _≤_, _<_}
 use native.Mathlib.Nat.{not-suc-le-zero}
 use native.Mathlib.Omega.{arith}
 use mathlib.Core.Path.{_≡_, refl, sym, ap, _∙_, subst}
@@ -8,7 +8,7 @@ use mathlib.Core.List.{List, [], _∷_, _++_, map}
 use lib.ListN.{drop, length}
 use lib.Dec.{eqb, ltb}
 use borrow.Author.Tests.{ltb-true, ltb-false, ne-eqb, lt-ltb}
-use Rattle.syntax.specs.Marks.{Mark, placed, moveUp, node, textNode}
+use Rattle.syntax.specs.Marks.{Mark, placed, kindOf, moveUp, node, textNode}
 use Rattle.syntax.specs.declared.errors.ParserError.{ParserError}
 use Rattle.syntax.specs.Reader.{Out, ok, bad, deep}
 use Rattle.syntax.specs.Helper.{skipBlankBlock}
@@ -25,8 +25,12 @@ use Rattle.laws.specs.Formed.Pattern.{InsideFormed}
 use Rattle.laws.specs.Formed.Entry.{entry-levels}
 use Rattle.laws.specs.File.{Small, small-of, kind-le}
 use Rattle.laws.specs.Balanced.Nodes.{nodeOf, nodes-node, nodes-text, upNode, nodes-up}
-use Rattle.cut.specs.Text.Piece.{Ends, Opening, opensNodes, isFree}
-use Rattle.cut.specs.Parts.{opensFree}
+use Rattle.cut.specs.Text.Piece.{Ends, Opening, opensNodes}
+use Rattle.cut.specs.Claim.{firstEntry, isFree}
+
+-- whether a tree opens with a free comment
+abbrev pub opensFree : List Mark → Bool
+opensFree ms = isFree (firstEntry (map kindOf ms))
 
 kind-low : (e : Entry) (v : Bool) → Small e → v ≡ false → kindOfEntry e v ≤ 5
 unfolding kindOfEntry
@@ -123,7 +127,7 @@ module _ (sub : Inside) where
           (g, k + u, drop (k + u) (c ∷ cs), mr, er, r, m)
 
       abbrev Named : List Node → Type 0
-      Named ns = (n : Node) × (ms : List Node) × (ns ≡ n ∷ ms) × (isFree S (n .kind) ≡ false) × (eqb (n .kind) 6 ≡ false)
+      Named ns = (n : Node) × (ms : List Node) × (ns ≡ n ∷ ms) × (isFree (n .kind) ≡ false) × (eqb (n .kind) 6 ≡ false)
 
       named-first : (n : ℕ) (r : List ℕ) (mr : List Mark) (er : List Error) → entries n sub r ≡ read mr er → isNamed (getEntry sub r) ≡ true → Named (nodes mr)
       unfolding entries
@@ -131,7 +135,7 @@ module _ (sub : Inside) where
       named-first (suc n) [] mr er e h = clash h (nil-named sub)
       named-first (suc n) (c ∷ cs) mr er e h = go (getEntry sub (c ∷ cs)) refl (ap isNamed refl ∙ h)
         where
-          by : (d : Entry) (ms : List Mark) (k : ℕ) → getEntry sub (c ∷ cs) ≡ ok d ms k → (kd : ℕ) → ((v : Bool) → kindOfEntry d v ≡ kd) → kd ≤ 6 → isFree S kd ≡ false → eqb kd 6 ≡ false → Named (nodes mr)
+          by : (d : Entry) (ms : List Mark) (k : ℕ) → getEntry sub (c ∷ cs) ≡ ok d ms k → (kd : ℕ) → ((v : Bool) → kindOfEntry d v ≡ kd) → kd ≤ 6 → isFree kd ≡ false → eqb kd 6 ≡ false → Named (nodes mr)
           by d ms k p kd f le a b =
               let (g, j, r, ns, es, rd, m) = entries-ok n c cs mr er d ms k e p in
               (nodeOf kd ms, map (upNode j) (nodes ns), ap nodes (sym m) ∙ ap (λ i. nodes (node i ms ++ moveUp j ns)) (f (ltb g 2 && isNamed (getEntry sub r))) ∙ nodes-of kd ms ns j le (entry-levels mk (c ∷ cs) p), a, b)
@@ -150,14 +154,14 @@ module _ (sub : Inside) where
           none t = let e = t .2 in let z : _≡_ {A = ℕ} 0 1 = cc in omega arith
       opening-cons n (m ∷ ns) h = λ q. same (h q)
         where
-          same : Named (m ∷ ns) → (isFree S (m .kind) ≡ false) × (eqb (m .kind) 6 ≡ false)
-          same t = let e = t .2 in let z : t .0 ≡ m = cc in (subst (λ x. isFree S (x .kind) ≡ false) z (t .3), subst (λ x. eqb (x .kind) 6 ≡ false) z (t .4))
+          same : Named (m ∷ ns) → (isFree (m .kind) ≡ false) × (eqb (m .kind) 6 ≡ false)
+          same t = let e = t .2 in let z : t .0 ≡ m = cc in (subst (λ x. isFree (x .kind) ≡ false) z (t .3), subst (λ x. eqb (x .kind) 6 ≡ false) z (t .4))
 
       named-up : (j : ℕ) (ns : List Node) → Named ns → Named (map (upNode j) ns)
       named-up j ns (n, ms, e, a, b) = (upNode j n, map (upNode j) ms, ap (map (upNode j)) e, a, b)
 
       pub entries-opening : (n : ℕ) (y : List ℕ) (mb : List Mark) (eb : List Error) → entries n sub y ≡ read mb eb → Opening S (nodes mb) × (opensNodes S (nodes mb) ≡ opensFree mb)
-      unfolding entries nodes nodesFrom opensFree node textNode
+      unfolding entries nodes nodesFrom firstEntry node textNode
       entries-opening zero y mb eb e = let z : _≡_ {A = ℕ} 0 1 = cc in absurd (omega arith)
       entries-opening (suc n) [] mb eb e = let z = none-read (suc n) mb eb e in (subst (λ r. Opening S (nodes r)) (sym z) tt, subst (λ r. opensNodes S (nodes r) ≡ opensFree r) (sym z) refl)
       entries-opening (suc n) (c ∷ cs) mb eb e = go (getEntry sub (c ∷ cs)) refl

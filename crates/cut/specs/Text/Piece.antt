@@ -1,7 +1,7 @@
 -- The normal texts of entries in a row.
-use Prim.Native.Nat.{ℕ, _+_, _-_}
+use Prim.Native.Nat.{ℕ}
 use mathlib.Core.Path.{_≡_, refl, sym, ap, ap₂, _∙_}
-use mathlib.Core.Bool.{Bool, true, false, _||_, not}
+use mathlib.Core.Bool.{Bool, true, false}
 use mathlib.Core.List.{List, [], _∷_, _++_, append-nil, append-assoc}
 use lib.Dec.{eqb}
 use borrow.Author.Tests.{eqb-true}
@@ -9,6 +9,7 @@ use Rattle.syntax.specs.Marks.{Mark}
 use Rattle.syntax.specs.Serializer as Ser
 use Rattle.syntax.specs.Serializer.{Node, nodes, Piece, lastOf, _⊕_, literal, newline, empty}
 use Rattle.laws.specs.Bytes.{byCase, clash}
+use Rattle.cut.specs.Claim.{isFree}
 
 lastOf-append : (b : ℕ) (s t : List ℕ) → lastOf b (s ++ t) ≡ lastOf (lastOf b s) t
 unfolding lastOf
@@ -165,9 +166,6 @@ module _ (S : List ℕ) where
       ∙ ap (λ z. (t ++ r) ++ Ser.resource S junk (wroteAll (Ser.wroteBy S w (x .kind)) xs) ys level z) (sym (lastOf-append last t r))
 
   -- whether the first node is a free comment
-  abbrev pub isFree : ℕ → Bool
-  isFree k = eqb k 3 || (eqb k 4 || eqb k 5)
-
   abbrev pub opensNodes : List Node → Bool
   opensNodes [] = false
   opensNodes (n ∷ ns) = isFree (n .kind)

@@ -31,7 +31,15 @@ use Rattle.laws.specs.Lines.Lands.{Lands, whole-lands, block-lands, entry-lands
 use Rattle.laws.specs.File.{entries-more}
 use Rattle.laws.specs.Entries.{following-read, weight, weight-append, weight-up, weight-node, entries-with, not-deep, Step, step-of, block-fresh, block-ten, block-two, block-one, entry-comment, hash-named, nil-named, nil-entry, not-dotted}
 use Rattle.cut.specs.LastLine.{lastLine-at, lastLine-drop, Tail, tail-of}
-use Rattle.cut.specs.Parts.{lastLine, hashes, Joins}
+use Rattle.cut.specs.Claim.{lastLine, hashes}
+
+-- whether a first entry, as it is read, joins a comment line of the level l that stands right before it
+unfoldable pub Joins : ℕ → Out Entry → Type 0
+Joins l (ok (comment k) ms j) = k ≡ l
+Joins l (ok message ms j) = l ≡ 1
+Joins l (ok term ms j) = l ≡ 1
+Joins l (bad f j) = ⊥
+Joins l (deep j) = ⊥
 
 pub asComment-ok : (o : Out ℕ) (e : Entry) (ms : List Mark) (k : ℕ) → asComment o ≡ ok e ms k → (l : ℕ) × (e ≡ comment l) × (o ≡ ok l ms k)
 unfolding asComment

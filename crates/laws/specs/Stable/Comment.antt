@@ -134,7 +134,7 @@ unfolding eol
 eol-not-hash c cs h = byCase (eqb c 35) (λ q. absurd (not-suc-le-zero (rw (eqb-true c 35 q) at h))) (λ q. q)
 
 -- the level is what the line starts with, where something else follows
-level-run : (x : List ℕ) (c : ℕ) (cs : List ℕ) → drop (levelOf x) x ≡ c ∷ cs → eqb c 35 ≡ false → run (λ b. eqb b 35) x ≡ levelOf x
+pub level-run : (x : List ℕ) (c : ℕ) (cs : List ℕ) → drop (levelOf x) x ≡ c ∷ cs → eqb c 35 ≡ false → run (λ b. eqb b 35) x ≡ levelOf x
 unfolding levelOf run
 level-run x c cs e q =
     let n = run (λ b. eqb b 35) x in
