@@ -2,6 +2,13 @@
 ghost use mathlib.Core.Path.{_≡_};
 ghost use Rattle.syntax.specs.Errors.{wordsOf};
 
+// The codes of the ranges of characters: "a-zA-Z", a line end, "0-9".
+pub const LETTERS: u8 = 1;
+
+pub const LINE_END: u8 = 2;
+
+pub const DIGITS: u8 = 3;
+
 // A byte that was wanted, the code of a range of characters, or the span of a name or an escape in the source.
 pub enum ErrorKind {
     ExpectedToken(u8),
