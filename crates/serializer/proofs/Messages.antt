@@ -15,7 +15,7 @@ use Rattle.syntax.specs.Bytes.{ascii}
 use Rattle.syntax.specs.Layout.{count, marksIn}
 use Rattle.syntax.specs.Marks.{Mark, plain, node}
 use Rattle.syntax.specs.Shape.{named, among, models, stepIn, stepBy, step, finalBy, final, Run, stay, text, nest, Content}
-use Rattle.syntax.specs.Writing.{sizesFit}
+use Rattle.syntax.specs.Tests.{sizesFit}
 use Rattle.syntax.specs.Serializer.{Node, nodesFrom, nodes, _⊕_, empty, literal, newline, indented, each, first, isEmpty, ofKind, name, attribute, attributes}
 use Rattle.laws.specs.Bytes.{byCase, clash}
 use Rattle.laws.specs.Balanced.Nodes.{nodeOf, nodes-node}

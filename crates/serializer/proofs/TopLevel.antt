@@ -15,7 +15,7 @@ use Rattle.syntax.specs.Layout.{count, marksIn}
 use Rattle.syntax.specs.Limits.{maxOpen}
 use Rattle.syntax.specs.Marks.{Mark, node}
 use Rattle.syntax.specs.Shape.{top, start, named, among, models, step, final, Run, stay, text, nest, Content, verdict}
-use Rattle.syntax.specs.Writing.{sizesFit}
+use Rattle.syntax.specs.Tests.{sizesFit}
 use Rattle.syntax.specs.Serializer.{Node, nodesFrom, nodes, Piece, _⊕_, if, name, comment, freeComment, message, entry, wroteBy, resource}
 use Rattle.laws.specs.Bytes.{byCase, clash}
 use Rattle.laws.specs.Balanced.Nodes.{nodes-node, nodes-text}

@@ -9,7 +9,7 @@ use lib.ListN.{length, getD, drop, length-take, length-drop, drop-of-length-le}
 use lib.Seq.{drop-cons, getD-take, getD-drop}
 use borrow.Author.Tests.{leb-true}
 use Rattle.syntax.specs.Layout.{count, capacity, kinds, places, markOf, marksBy, marksIn}
-use Rattle.syntax.specs.Writing.{sizesFit}
+use Rattle.syntax.specs.Tests.{sizesFit}
 
 -- the sizes of a tree, as facts
 pub record Sizes (ws : List ℕ) : Type 0 where

@@ -7,7 +7,7 @@ ghost use mathlib.Core.Option.{some};
 ghost use Rattle.utf8.specs.Utf8.{isBoundary};
 ghost use Rattle.syntax.specs.Kind.{namedArgument, isText};
 ghost use Rattle.syntax.specs.Layout.{markOf, marksIn};
-ghost use Rattle.syntax.specs.Writing.{sizesFit};
+ghost use Rattle.syntax.specs.Tests.{sizesFit};
 ghost use Rattle.syntax.specs.Limits.{maxOpen};
 ghost use Rattle.syntax.specs.Shape.{step, enter, stepMark, mayEnd, verdict};
 ghost use Rattle.shape.specs.Models.{Right};
