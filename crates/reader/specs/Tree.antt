@@ -12,6 +12,7 @@ use lib.ListN.{drop, length, length-drop}
 use lib.Dec.{ltb}
 use Rattle.utf8.specs.Utf8.{firstIllFormed}
 use Rattle.syntax.specs.declared.answer.Answer.{Answer}
+use Rattle.syntax.specs.declared.answer.Answer.the-variants.{TreeTooShort, ErrorsTooShort}
 use Rattle.syntax.specs.Answer.{numberOf, valueOf, effectOf, written, zeroed, untouched}
 use Rattle.syntax.specs.Limits.{maxLength, maxOpen}
 use Rattle.syntax.specs.Kind as Kind
@@ -144,5 +145,5 @@ agrees s t e = byCase (ltb maxLength (length s)) (λ q. rw (q, readAnswer) (λ _
 
     formed : ltb maxLength (length s) ≡ false → (o : Option ℕ) → firstIllFormed s ≡ o → Agrees s (readAnswer s t e)
     formed q (some k) h = rw (q, readAnswer) (rw h (λ _. rw (q, entriesOf) (rw h)))
-    formed q none h = rw (q, readAnswer) (rw h (pick (Agrees s) (ltb t (treeLayout (length s))) _ _ (λ _ n. absurd (omega arith))
-        (λ _. pick (Agrees s) (ltb e (errorLayout (length s))) _ _ (λ _ n. absurd (omega arith)) (λ _. by q h (parse maxOpen s) refl (parse-shown maxOpen s)))))
+    formed q none h = rw (q, readAnswer) (rw h (pick (Agrees s) (ltb t (treeLayout (length s))) (TreeTooShort _) _ (λ _ n. absurd (omega arith))
+        (λ _. pick (Agrees s) (ltb e (errorLayout (length s))) (ErrorsTooShort _) _ (λ _ n. absurd (omega arith)) (λ _. by q h (parse maxOpen s) refl (parse-shown maxOpen s)))))
