@@ -19,6 +19,7 @@ pub mod Next
 pub mod Shape
 pub mod ShapeTable
 pub mod Writing
+pub mod Decimal
 pub mod Listing
 pub mod Table
 pub mod NextTable
