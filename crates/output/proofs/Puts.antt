@@ -1,5 +1,5 @@
 -- Texts put one after another.
-use Prim.Native.Nat.{ℕ, _+_, _^_, _≤_, _<_}
+use Prim.Native.Nat.{ℕ, _+_, _^_, _<_}
 use native.Mathlib.Omega.{arith}
 use mathlib.Core.Path.{_≡_, refl, sym, ap, _∙_}
 use mathlib.Core.Bool.{true, false}
@@ -10,7 +10,7 @@ use lib.Seq.{sets, length-sets}
 use borrow.Author.Tests.{ltb-true, ltb-false}
 use Rattle.laws.specs.Bytes.{byCase}
 use Rattle.laws.specs.Sets.{sets-append}
-use Rattle.output.specs.Put.{Put, counted}
+use Rattle.output.specs.Put.{Put}
 use Rattle.output.proofs.Stores.{sets-past}
 
 module _ {o o′ : List ℕ} {a a′ : ℕ} {t : List ℕ} (h : Put o o′ a a′ t) where

@@ -4,10 +4,10 @@ use native.Mathlib.Nat.{add-zero, add-suc, suc-add, zero-add}
 use native.Mathlib.Omega.{arith}
 use mathlib.Core.Path.{_≡_, refl, sym, ap, ap₂, _∙_}
 use mathlib.Core.List.{List, [], _∷_, _++_, append-nil}
-use lib.ListN.{length, take, drop, set, getD, replicate, length-set, length-replicate, replicate-append-replicate, length-drop}
-use lib.Seq.{sets, sets-eq, set-set, set-comm, set-out, length-take-le, take-nil, take-add, drop-cons, length-sets, getD-drop}
+use lib.ListN.{length, take, drop, set, getD, replicate, length-set, length-drop}
+use lib.Seq.{sets, sets-eq, set-set, set-comm, set-out, length-take-le, take-nil, take-add, drop-cons, getD-drop}
 use Rattle.laws.specs.Sets.{sets-append}
-use Rattle.syntax.specs.Serializer.{lastOf}
+use Rattle.output.specs.Put.{block}
 
 -- past the end
 pub sets-past : (l : List ℕ) (i : ℕ) (xs : List ℕ) → length l ≤ i → sets l i xs ≡ l
@@ -49,16 +49,16 @@ sets-over l i (suc k) (suc n) [] h = refl
 sets-over l i (suc k) (suc n) (x ∷ xs) h =
     ap (λ j. sets (sets (set l i x) (suc i) (take n xs)) j (drop k xs)) (add-suc i k ∙ sym (suc-add i k)) ∙ sets-over (set l i x) (suc i) k n xs (omega arith)
 
--- a block filled with 16 bytes of t: one more, and all
-pub block-more : (t : List ℕ) (at i : ℕ) → at + i < length t → set (sets (replicate 16 0) 0 (take i (drop at t))) i (getD t (at + i) 0) ≡ sets (replicate 16 0) 0 (take (i + 1) (drop at t))
+-- a block filled with the bytes of t: one more, and all
+pub block-more : (t : List ℕ) (at i : ℕ) → at + i < length t → set (sets (replicate block 0) 0 (take i (drop at t))) i (getD t (at + i) 0) ≡ sets (replicate block 0) 0 (take (i + 1) (drop at t))
 block-more t at i h =
-    ap₂ (λ k b. set (sets (replicate 16 0) 0 (take i (drop at t))) k b) (sym (zero-add i)) (sym (getD-drop at t i 0))
-    ∙ sets-one (replicate 16 0) 0 (drop at t) i (omega (arith, length-drop at t))
+    ap₂ (λ k b. set (sets (replicate block 0) 0 (take i (drop at t))) k b) (sym (zero-add i)) (sym (getD-drop at t i 0))
+    ∙ sets-one (replicate block 0) 0 (drop at t) i (omega (arith, length-drop at t))
 
-pub block-all : (t : List ℕ) → 16 ≤ length t → sets (replicate 16 0) 0 (take 16 t) ≡ take 16 t
+pub block-all : (t : List ℕ) → block ≤ length t → sets (replicate block 0) 0 (take block t) ≡ take block t
 block-all t h =
-    let n : length (take 16 t) ≡ 16 = length-take-le 16 t h in
-    sets-eq (take 16 t) (replicate 16 0) 0 (omega (arith, n)) ∙ ap (λ k. take 16 t ++ drop (0 + k) (replicate 16 0)) n ∙ append-nil (take 16 t)
+    let n : length (take block t) ≡ block = length-take-le block t h in
+    sets-eq (take block t) (replicate block 0) 0 (omega (arith, n)) ∙ ap (λ k. take block t ++ drop (0 + k) (replicate block 0)) n ∙ append-nil (take block t)
 
-pub block-length : (t : List ℕ) (at : ℕ) → at + 16 ≤ length t → length (take 16 (drop at t)) ≡ 16
-block-length t at h = length-take-le 16 (drop at t) (omega (arith, length-drop at t))
+pub block-length : (t : List ℕ) (at : ℕ) → at + block ≤ length t → length (take block (drop at t)) ≡ block
+block-length t at h = length-take-le block (drop at t) (omega (arith, length-drop at t))

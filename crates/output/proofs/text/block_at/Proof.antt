@@ -4,15 +4,16 @@ use native.Mathlib.Omega.{arith}
 use mathlib.Core.Path.{_≡_, refl, ap, _∙_}
 use lib.ListN.{set, getD, take, drop, replicate, length-drop}
 use lib.Seq.{sets}
+use Rattle.output.specs.Put.{block}
 use Rattle.output.proofs.Stores.{block-more, block-all}
 use Rattle.output.proofs.text.block_at.Statement.{statement}
 use Rattle.output.proofs.text.block_at.Tie as tie
 
 abbrev Inv-loop : tie.InvT-loop
-Inv-loop item at block₀ i₀ block i = (i ≤ 16) × (block ≡ sets (replicate 16 0) 0 (take i (drop at item)))
+Inv-loop item at filled₀ i₀ filled i = (i ≤ block) × (filled ≡ sets (replicate block 0) 0 (take i (drop at item)))
 
 abbrev μ-loop : tie.MeasureT-loop
-μ-loop item at block₀ i₀ block i = 16 - i
+μ-loop item at filled₀ i₀ filled i = block - i
 
 loop-holds : tie.Need-loop-holds Inv-loop μ-loop
 loop-holds c = (omega arith, refl)
@@ -43,8 +44,8 @@ returns c =
     let loop = c .before .loop in
     let start = c .before .before .args in
     let t = drop (start .at) (start .item .now) in
-    let e : loop .i ≡ 16 = omega arith in
-    loop .inv .1 ∙ ap (λ n. sets (replicate 16 0) 0 (take n t)) e ∙ block-all t (omega (arith, length-drop (start .at) (start .item .now)))
+    let e : loop .i ≡ block = omega arith in
+    loop .inv .1 ∙ ap (λ n. sets (replicate block 0) 0 (take n t)) e ∙ block-all t (omega (arith, length-drop (start .at) (start .item .now)))
 
 pub block-at-spec : {M : Type 1} → statement M
 block-at-spec =

@@ -4,12 +4,13 @@ use native.Mathlib.Omega.{arith}
 use mathlib.Core.Path.{_≡_, refl, sym, ap, ap₂, _∙_}
 use lib.ListN.{length, take, drop, length-drop}
 use lib.Seq.{sets, length-sets, take-all}
+use Rattle.output.specs.Put.{block}
 use Rattle.output.proofs.Stores.{sets-more, sets-over, block-length}
 use Rattle.output.proofs.text.store_blocks.Statement.{statement}
 use Rattle.output.proofs.text.store_blocks.Tie as tie
 
 abbrev Inv-loop : tie.InvT-loop
-Inv-loop output₀ at item last i₀ output i = (i ≤ length item) × ((length item ≡ last + 16) × (output ≡ sets output₀ at (take i item)))
+Inv-loop output₀ at item last i₀ output i = (i ≤ length item) × ((length item ≡ last + block) × (output ≡ sets output₀ at (take i item)))
 
 abbrev μ-loop : tie.MeasureT-loop
 μ-loop output₀ at item last i₀ output i = length item - i
@@ -50,7 +51,7 @@ loop-again c =
         omega arith,
         c .before .before .store .ensures
             ∙ ap₂ (λ o b. sets o (start .at + loop .i) b) (loop .inv .1 .1) (c .before .before .before .before .before .block-at .ensures)
-            ∙ sets-more (start .output .now) (start .at) (start .item .now) (loop .i) 16 (omega arith),
+            ∙ sets-more (start .output .now) (start .at) (start .item .now) (loop .i) block (omega arith),
       ),
     )
 
@@ -61,22 +62,22 @@ add-store-2 : tie.Need-add-store-2 Inv-loop μ-loop
 add-store-2 c = omega arith
 
 slice-aggregate-store-2 : tie.Need-slice-aggregate-store-2 Inv-loop μ-loop
-slice-aggregate-store-2 c = sym (ap length (c .before .before .block-at2 .ensures) ∙ block-length (c .before .before .before .before .before .before .before .args .item .now) (length (c .before .before .before .before .before .before .before .args .item .now) - 16) (omega arith))
+slice-aggregate-store-2 c = sym (ap length (c .before .before .block-at2 .ensures) ∙ block-length (c .before .before .before .before .before .before .before .args .item .now) (length (c .before .before .before .before .before .before .before .args .item .now) - block) (omega arith))
 
 store-requires-2 : tie.Need-store-requires-2 Inv-loop μ-loop
 store-requires-2 c κs =
     let start = c .before .before .before .before .before .before .before .args in
     let loop = c .before .before .before .before .loop in
-    omega (arith, ap length (c .before .before .block-at2 .ensures), block-length (start .item .now) (length (start .item .now) - 16) (omega arith), ap length (loop .inv .1 .1), length-sets (start .output .now) (start .at) (take (loop .i) (start .item .now)))
+    omega (arith, ap length (c .before .before .block-at2 .ensures), block-length (start .item .now) (length (start .item .now) - block) (omega arith), ap length (loop .inv .1 .1), length-sets (start .output .now) (start .at) (take (loop .i) (start .item .now)))
 
 returns : tie.Need-returns Inv-loop μ-loop
 returns c =
     let start = c .before .before .before .before .before .before .before .before .before .before .args in
     let loop = c .before .before .before .before .before .before .before .loop in
     let t = start .item .now in
-    let last = length t - 16 in
+    let last = length t - block in
     c .before .before .store2 .ensures
-    ∙ ap₂ (λ o b. sets o (start .at + last) b) (loop .inv .1 .1) (c .before .before .before .before .before .block-at2 .ensures ∙ take-all 16 (drop last t) (omega (arith, length-drop last t)))
+    ∙ ap₂ (λ o b. sets o (start .at + last) b) (loop .inv .1 .1) (c .before .before .before .before .before .block-at2 .ensures ∙ take-all block (drop last t) (omega (arith, length-drop last t)))
     ∙ sets-over (start .output .now) (start .at) last (loop .i) t (omega arith)
 
 same-length : tie.Need-same-length Inv-loop μ-loop
