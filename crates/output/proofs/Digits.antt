@@ -15,13 +15,16 @@ use Rattle.syntax.specs.Decimal.{digits, maxDigits, decimal}
 digits-then : (n x : ℕ) (ds es : List ℕ) → digits n x (ds ++ es) ≡ digits n x ds ++ es
 unfolding digits
 digits-then zero x ds es = refl
-digits-then (suc n) x ds es = byCase (ltb x 10) (λ q. rw (q, digits)) (λ q. rw (q, digits) (digits-then n (x / 10) ((Byte.digit0 + (x % 10)) ∷ ds) es))
+digits-then (suc n) x ds es =
+    let one = (Byte.digit0 + (x % 10)) ∷ ds in
+    byCase (ltb x 10) (λ q. rw (q, digits)) (λ q. rw (q, digits) (digits-then n (x / 10) one es))
 
 digits-few : (n x : ℕ) (ds : List ℕ) → length (digits n x ds) ≤ n + length ds
 unfolding digits
 digits-few zero x ds = omega arith
 digits-few (suc n) x ds =
-    byCase (ltb x 10) (λ q. rw (q, digits) (omega arith)) (λ q. rw (q, digits) (omega (arith, digits-few n (x / 10) ((Byte.digit0 + (x % 10)) ∷ ds))))
+    let one = (Byte.digit0 + (x % 10)) ∷ ds in
+    byCase (ltb x 10) (λ q. rw (q, digits) (omega arith)) (λ q. rw (q, digits) (omega (arith, digits-few n (x / 10) one)))
 
 tenth : (n x : ℕ) → x < 10 ^ suc n → x / 10 < 10 ^ n
 tenth n x h = div-lt-iff-lt-mul {k = 10} {x = x} {y = 10 ^ n} (omega arith) .1 (omega (arith, pow-suc 10 n))
@@ -31,7 +34,8 @@ digits-more : (n x : ℕ) (ds : List ℕ) → x < 10 ^ suc n → digits (suc (su
 unfolding digits
 digits-more zero x ds h = rw (lt-ltb x 10 (omega arith), digits)
 digits-more (suc n) x ds h =
-    byCase (ltb x 10) (λ q. rw (q, digits)) (λ q. rw (q, digits) (digits-more n (x / 10) ((Byte.digit0 + (x % 10)) ∷ ds) (tenth (suc n) x h)))
+    let one = (Byte.digit0 + (x % 10)) ∷ ds in
+    byCase (ltb x 10) (λ q. rw (q, digits)) (λ q. rw (q, digits) (digits-more n (x / 10) one (tenth (suc n) x h)))
 
 module _ (x : ℕ) where
   pub decimal-few : length (decimal x) ≤ maxDigits
@@ -48,4 +52,5 @@ module _ (x : ℕ) where
   unfolding decimal digits
   decimal-last l s =
       let last = (Byte.digit0 + (x % 10)) ∷ [] in
-      rw (le-ltb x 10 l, digits) (sym (digits-more 18 (x / 10) last (tenth 19 x (omega arith))) ∙ digits-then maxDigits (x / 10) [] last)
+      let fewer = digits-more 18 (x / 10) last (tenth 19 x (omega arith)) in
+      rw (le-ltb x 10 l, digits) (sym fewer ∙ digits-then maxDigits (x / 10) [] last)

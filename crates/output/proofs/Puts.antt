@@ -30,14 +30,22 @@ pub put-none : {o : List ℕ} {a : ℕ} → a < 2 ^ 64 → Put o o a a []
 put-none l = record { stored = refl; next = omega arith }
 
 -- a text, and then another: where the count stays, there is no room
-pub put-then : {o o₁ o₂ : List ℕ} {a a₁ a₂ : ℕ} {t u : List ℕ} → length o < 2 ^ 64 → Put o o₁ a a₁ t → Put o₁ o₂ a₁ a₂ u → Put o o₂ a a₂ (t ++ u)
+pub put-then : {o o₁ o₂ : List ℕ} {a a₁ a₂ : ℕ} {t u : List ℕ} → length o < 2 ^ 64 → Put o o₁ a a₁ t → Put o₁ o₂ a₁ a₂ u
+    → Put o o₂ a a₂ (t ++ u)
 put-then {o} {o₁} {a = a} {a₁} {t = t} {u} l h k =
-    record { stored = k .stored ∙ byCase (ltb (a + length t) (2 ^ 64)) within past ∙ sets-append o a t u; next = omega (arith, length-append t u, h .next, k .next) }
+    record {
+      stored = k .stored ∙ byCase (ltb end (2 ^ 64)) within past ∙ sets-append o a t u;
+      next = omega (arith, length-append t u, h .next, k .next);
+    }
   where
-    within : ltb (a + length t) (2 ^ 64) ≡ true → sets o₁ a₁ u ≡ sets (sets o a t) (a + length t) u
-    within q = cc (h .stored, put-exact h (ltb-true (a + length t) (2 ^ 64) q))
+    end : ℕ
+    end = a + length t
 
-    past : ltb (a + length t) (2 ^ 64) ≡ false → sets o₁ a₁ u ≡ sets (sets o a t) (a + length t) u
+    within : ltb end (2 ^ 64) ≡ true → sets o₁ a₁ u ≡ sets (sets o a t) end u
+    within q = cc (h .stored, put-exact h (ltb-true end (2 ^ 64) q))
+
+    past : ltb end (2 ^ 64) ≡ false → sets o₁ a₁ u ≡ sets (sets o a t) end u
     past q =
+        let far = ltb-false end (2 ^ 64) q in
         let room : length (sets o a t) ≡ length o = length-sets o a t in
-        sets-past o₁ a₁ u (omega (arith, h .next, put-length h, ltb-false (a + length t) (2 ^ 64) q)) ∙ h .stored ∙ sym (sets-past (sets o a t) (a + length t) u (omega (arith, ltb-false (a + length t) (2 ^ 64) q)))
+        sets-past o₁ a₁ u (omega (arith, h .next, put-length h)) ∙ h .stored ∙ sym (sets-past (sets o a t) end u (omega arith))

@@ -40,10 +40,15 @@ same-length : (t : ℕ) → lts.Need-same-length (env t) (at t) own.Post
 same-length t c = search needs
 
 returns : (t : ℕ) → lts.Need-returns (env t) (at t) own.Post
-returns t c = put-as (c .before .before .put .ensures) (sym (decimal-one (c .before .before .before .before .before .before .args .x) (c .before .before .before .before .if1 .taken)))
+returns t c =
+    let x = c .before .before .before .before .before .before .args .x in
+    put-as (c .before .before .put .ensures) (sym (decimal-one x (c .before .before .before .before .if1 .taken)))
 
 put-number-requires : (t : ℕ) → lts.Need-put-number-requires (env t) (at t) own.Post
-put-number-requires t c κs = (omega (arith, c .before .before .before .pre .0, div-lt-self {n = c .before .before .before .args .x} {k = 10} (omega (arith, c .before .if1 .left)) (omega arith)), search needs)
+put-number-requires t c κs =
+    let x = c .before .before .before .args .x in
+    let less = div-lt-self {n = x} {k = 10} (omega (arith, c .before .if1 .left)) (omega arith) in
+    (omega (arith, c .before .before .before .pre .0), search needs)
 
 cast-put-2 : (t : ℕ) → lts.Need-cast-put-2 (env t) (at t) own.Post
 cast-put-2 t c = omega (arith, mod-lt (c .before .before .before .before .before .before .before .args .x) {m = 10} (omega arith))
@@ -58,9 +63,15 @@ same-length-2 : (t : ℕ) → lts.Need-same-length-2 (env t) (at t) own.Post
 same-length-2 t c = search needs
 
 returns-2 : (t : ℕ) → lts.Need-returns-2 (env t) (at t) own.Post
-returns-2 t c = put-as (put-then (omega arith) (c .before .before .before .before .before .before .put-number .ensures) (c .before .before .put2 .ensures)) (sym (decimal-last (c .before .before .before .before .before .before .before .before .before .before .args .x) (c .before .before .before .before .before .before .before .before .if1 .left) (c .before .before .before .before .before .before .before .before .before .before .fits .x .fits)))
+returns-2 t c =
+    let start = c .before .before .before .before .before .before .before .before .before .before in
+    let several = c .before .before .before .before .before .before .before .before .if1 .left in
+    let before = c .before .before .before .before .before .before .put-number .ensures in
+    put-as (put-then (omega arith) before (c .before .before .put2 .ensures))
+    (sym (decimal-last (start .args .x) several (start .fits .x .fits)))
 
 pub +put-number-spec : {M : Type 1} → statement M
 +put-number-spec =
     close μ-put-number
-    (λ t. lts.spec (env t) (at t) own.Post (cast-put t) (add-put t) (put-requires t) (same-length t) (returns t) (put-number-requires t) (cast-put-2 t) (add-put-2 t) (put-requires-2 t) (same-length-2 t) (returns-2 t))
+    (λ t. lts.spec (env t) (at t) own.Post (cast-put t) (add-put t) (put-requires t) (same-length t) (returns t)
+    (put-number-requires t) (cast-put-2 t) (add-put-2 t) (put-requires-2 t) (same-length-2 t) (returns-2 t))

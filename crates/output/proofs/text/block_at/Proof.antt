@@ -37,7 +37,9 @@ loop-again : tie.Need-loop-again Inv-loop μ-loop
 loop-again c =
     let turn = c .before .before in
     let start = turn .before .args in
-    (omega arith, ap (λ r. set r (turn .loop .i) (getD (start .item .now) (start .at + turn .loop .i) 0)) (turn .loop .inv .1) ∙ block-more (start .item .now) (start .at) (turn .loop .i) (omega arith))
+    let i = turn .loop .i in
+    let before = ap (λ r. set r i (getD (start .item .now) (start .at + i) 0)) (turn .loop .inv .1) in
+    (omega arith, before ∙ block-more (start .item .now) (start .at) i (omega arith))
 
 returns : tie.Need-returns Inv-loop μ-loop
 returns c =
@@ -45,7 +47,9 @@ returns c =
     let start = c .before .before .args in
     let t = drop (start .at) (start .item .now) in
     let e : loop .i ≡ block = omega arith in
-    loop .inv .1 ∙ ap (λ n. sets (replicate block 0) 0 (take n t)) e ∙ block-all t (omega (arith, length-drop (start .at) (start .item .now)))
+    loop .inv .1
+    ∙ ap (λ n. sets (replicate block 0) 0 (take n t)) e
+    ∙ block-all t (omega (arith, length-drop (start .at) (start .item .now)))
 
 pub block-at-spec : {M : Type 1} → statement M
 block-at-spec =

@@ -13,7 +13,8 @@ slice-write-output c = search needs
 count-on-requires : tie.Need-count-on-requires
 count-on-requires c κs = search needs
 
-stored : (c : tie.Joined1) → c .if1 .output ≡ set (c .before .before .args .output .now) (c .before .before .args .at) (c .before .before .args .byte)
+stored : (c : tie.Joined1) → let start = c .before .before .args in
+    c .if1 .output ≡ set (start .output .now) (start .at) (start .byte)
 stored c = ⊎-elim (λ z. z .1) (λ z. z .1 ∙ sym (set-out _ _ _ (z .0 .left))) (c .if1 .came)
 
 same-length : tie.Need-same-length

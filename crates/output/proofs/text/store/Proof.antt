@@ -26,7 +26,9 @@ add-output c = omega arith
 slice-write-output : tie.Need-slice-write-output Inv-loop μ-loop
 slice-write-output c =
     let turn = c .before .before in
-    omega (arith, ap length (turn .loop .inv .1), length-sets (turn .before .args .output .now) (turn .before .args .at) (take (turn .loop .i) (turn .before .args .item .now)))
+    let start = turn .before .args in
+    let stored = ap length (turn .loop .inv .1) in
+    omega (arith, length-sets (start .output .now) (start .at) (take (turn .loop .i) (start .item .now)))
 
 add-i : tie.Need-add-i Inv-loop μ-loop
 add-i c = omega arith
@@ -39,15 +41,21 @@ loop-again c =
     let turn = c .before .before in
     let start = turn .before .args in
     let t = start .item .now in
-    (omega arith, ap (λ r. set r (start .at + turn .loop .i) (getD t (turn .loop .i) 0)) (turn .loop .inv .1) ∙ sets-one (start .output .now) (start .at) t (turn .loop .i) (omega arith))
+    let i = turn .loop .i in
+    let before = ap (λ r. set r (start .at + i) (getD t i 0)) (turn .loop .inv .1) in
+    (omega arith, before ∙ sets-one (start .output .now) (start .at) t i (omega arith))
 
 same-length : tie.Need-same-length Inv-loop μ-loop
-same-length c = ap length (c .before .loop .inv .1) ∙ length-sets (c .before .before .args .output .now) (c .before .before .args .at) (take (c .before .loop .i) (c .before .before .args .item .now))
+same-length c =
+    let start = c .before .before .args in
+    let loop = c .before .loop in
+    ap length (loop .inv .1) ∙ length-sets (start .output .now) (start .at) (take (loop .i) (start .item .now))
 
 returns : tie.Need-returns Inv-loop μ-loop
 returns c =
     let start = c .before .before .args in
-    c .before .loop .inv .1 ∙ ap (λ t. sets (start .output .now) (start .at) t) (take-all (c .before .loop .i) (start .item .now) (omega arith))
+    let loop = c .before .loop in
+    loop .inv .1 ∙ ap (λ t. sets (start .output .now) (start .at) t) (take-all (loop .i) (start .item .now) (omega arith))
 
 pub store-spec : {M : Type 1} → statement M
 store-spec =

@@ -10,7 +10,8 @@ use Rattle.output.proofs.text.store_blocks.Statement.{statement}
 use Rattle.output.proofs.text.store_blocks.Tie as tie
 
 abbrev Inv-loop : tie.InvT-loop
-Inv-loop output₀ at item last i₀ output i = (i ≤ length item) × ((length item ≡ last + block) × (output ≡ sets output₀ at (take i item)))
+Inv-loop output₀ at item last i₀ output i =
+    (i ≤ length item) × ((length item ≡ last + block) × (output ≡ sets output₀ at (take i item)))
 
 abbrev μ-loop : tie.MeasureT-loop
 μ-loop output₀ at item last i₀ output i = length item - i
@@ -28,13 +29,18 @@ add-store : tie.Need-add-store Inv-loop μ-loop
 add-store c = omega arith
 
 slice-aggregate-store : tie.Need-slice-aggregate-store Inv-loop μ-loop
-slice-aggregate-store c = sym (ap length (c .before .before .block-at .ensures) ∙ block-length (c .before .before .before .before .before .before .before .args .item .now) (c .before .before .before .before .loop .i) (omega arith))
+slice-aggregate-store c =
+    let start = c .before .before .before .before .before .before .before .args in
+    let loop = c .before .before .before .before .loop in
+    sym (ap length (c .before .before .block-at .ensures) ∙ block-length (start .item .now) (loop .i) (omega arith))
 
 store-requires : tie.Need-store-requires Inv-loop μ-loop
 store-requires c κs =
     let start = c .before .before .before .before .before .before .before .args in
     let loop = c .before .before .before .before .loop in
-    omega (arith, ap length (c .before .before .block-at .ensures), block-length (start .item .now) (loop .i) (omega arith), ap length (loop .inv .1 .1), length-sets (start .output .now) (start .at) (take (loop .i) (start .item .now)))
+    let t = start .item .now in
+    let stored = ap length (loop .inv .1 .1) ∙ length-sets (start .output .now) (start .at) (take (loop .i) t) in
+    omega (arith, ap length (c .before .before .block-at .ensures), block-length t (loop .i) (omega arith))
 
 add-i : tie.Need-add-i Inv-loop μ-loop
 add-i c = omega arith
@@ -45,12 +51,13 @@ loop-less c = omega arith
 loop-again : tie.Need-loop-again Inv-loop μ-loop
 loop-again c =
     let start = c .before .before .before .before .before .before .before .before .before .before .args in
-    let loop = c .before .before .before .before .before .before .before .loop in (
+    let loop = c .before .before .before .before .before .before .before .loop in
+    let filled = c .before .before .before .before .before in (
       omega arith,
       (
         omega arith,
         c .before .before .store .ensures
-            ∙ ap₂ (λ o b. sets o (start .at + loop .i) b) (loop .inv .1 .1) (c .before .before .before .before .before .block-at .ensures)
+            ∙ ap₂ (λ o b. sets o (start .at + loop .i) b) (loop .inv .1 .1) (filled .block-at .ensures)
             ∙ sets-more (start .output .now) (start .at) (start .item .now) (loop .i) block (omega arith),
       ),
     )
@@ -62,13 +69,17 @@ add-store-2 : tie.Need-add-store-2 Inv-loop μ-loop
 add-store-2 c = omega arith
 
 slice-aggregate-store-2 : tie.Need-slice-aggregate-store-2 Inv-loop μ-loop
-slice-aggregate-store-2 c = sym (ap length (c .before .before .block-at2 .ensures) ∙ block-length (c .before .before .before .before .before .before .before .args .item .now) (length (c .before .before .before .before .before .before .before .args .item .now) - block) (omega arith))
+slice-aggregate-store-2 c =
+    let t = c .before .before .before .before .before .before .before .args .item .now in
+    sym (ap length (c .before .before .block-at2 .ensures) ∙ block-length t (length t - block) (omega arith))
 
 store-requires-2 : tie.Need-store-requires-2 Inv-loop μ-loop
 store-requires-2 c κs =
     let start = c .before .before .before .before .before .before .before .args in
     let loop = c .before .before .before .before .loop in
-    omega (arith, ap length (c .before .before .block-at2 .ensures), block-length (start .item .now) (length (start .item .now) - block) (omega arith), ap length (loop .inv .1 .1), length-sets (start .output .now) (start .at) (take (loop .i) (start .item .now)))
+    let t = start .item .now in
+    let stored = ap length (loop .inv .1 .1) ∙ length-sets (start .output .now) (start .at) (take (loop .i) t) in
+    omega (arith, ap length (c .before .before .block-at2 .ensures), block-length t (length t - block) (omega arith))
 
 returns : tie.Need-returns Inv-loop μ-loop
 returns c =
@@ -76,12 +87,16 @@ returns c =
     let loop = c .before .before .before .before .before .before .before .loop in
     let t = start .item .now in
     let last = length t - block in
+    let filled = c .before .before .before .before .before .block-at2 .ensures in
+    let all = take-all block (drop last t) (omega (arith, length-drop last t)) in
     c .before .before .store2 .ensures
-    ∙ ap₂ (λ o b. sets o (start .at + last) b) (loop .inv .1 .1) (c .before .before .before .before .before .block-at2 .ensures ∙ take-all block (drop last t) (omega (arith, length-drop last t)))
+    ∙ ap₂ (λ o b. sets o (start .at + last) b) (loop .inv .1 .1) (filled ∙ all)
     ∙ sets-over (start .output .now) (start .at) last (loop .i) t (omega arith)
 
 same-length : tie.Need-same-length Inv-loop μ-loop
-same-length c = ap length (returns c) ∙ length-sets (c .before .before .before .before .before .before .before .before .before .before .args .output .now) (c .before .before .before .before .before .before .before .before .before .before .args .at) (c .before .before .before .before .before .before .before .before .before .before .args .item .now)
+same-length c =
+    let start = c .before .before .before .before .before .before .before .before .before .before .args in
+    ap length (returns c) ∙ length-sets (start .output .now) (start .at) (start .item .now)
 
 pub store-blocks-spec : {M : Type 1} → statement M
 store-blocks-spec =

@@ -28,7 +28,9 @@ same-length c = search needs
 returns : tie.Need-returns
 returns c =
     let start = c .before .before .before .before .before .before .before .before .before .args in
-    c .before .before .store .ensures ∙ sets-room (start .output .now) (start .at) (c .before .before .before .before .before .before .room-at .result - 0) (start .item .now) (omega (arith, c .before .before .before .before .before .before .room-at .ensures))
+    let room = c .before .before .before .before .before .before .room-at in
+    c .before .before .store .ensures
+    ∙ sets-room (start .output .now) (start .at) (room .result - 0) (start .item .now) (omega (arith, room .ensures))
 
 store-requires-2 : tie.Need-store-requires-2
 store-requires-2 c κs = search needs

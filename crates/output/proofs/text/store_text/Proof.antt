@@ -19,7 +19,10 @@ returns : tie.Need-returns
 returns c = search needs
 
 store-blocks-requires : tie.Need-store-blocks-requires
-store-blocks-requires c κs = omega (arith, c .before .before .room-at .ensures, c .before .before .before .if1 .left, ltb-false (c .before .before .room-at .result) (length (c .before .before .before .before .before .before .args .text .now)) (c .before .if2 .left))
+store-blocks-requires c κs =
+    let room = c .before .before .room-at in
+    let t = c .before .before .before .before .before .before .args .text .now in
+    omega (arith, room .ensures, c .before .before .before .if1 .left, ltb-false (room .result) (length t) (c .before .if2 .left))
 
 same-length-2 : tie.Need-same-length-2
 same-length-2 c = search needs
