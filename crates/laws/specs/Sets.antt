@@ -1,5 +1,5 @@
 -- Elements stored one after another from a place on.
-use Prim.Native.Nat.{ℕ, zero, suc, _+_, _≤_}
+use Prim.Native.Nat.{ℕ, suc, _+_, _≤_}
 use native.Mathlib.Nat.{add-zero, add-suc, suc-add}
 use native.Mathlib.Omega.{arith}
 use mathlib.Core.Path.{_≡_, refl, sym, ap, _∙_}
@@ -16,12 +16,6 @@ sets-append l i (x ∷ xs) ys = ap (λ k. sets (sets (set l i x) (suc i) xs) k y
 pub sets-last : (l : List ℕ) (i : ℕ) (xs : List ℕ) (a b : ℕ) → set (sets l i (xs ++ (a ∷ []))) (i + length xs) b ≡ sets l i (xs ++ (b ∷ []))
 sets-last l i xs a b =
     ap (λ r. set r (i + length xs) b) (sym (sets-append l i xs (a ∷ []))) ∙ set-set (sets l i xs) (i + length xs) a b ∙ sets-append l i xs (b ∷ [])
-
--- past the end
-pub set-past : (l : List ℕ) (i a : ℕ) → length l ≤ i → set l i a ≡ l
-set-past [] i a h = refl
-set-past (x ∷ xs) zero a h = absurd (omega arith)
-set-past (x ∷ xs) (suc i) a h = ap (λ r. x ∷ r) (set-past xs i a (omega arith))
 
 -- into a list with no room, and from the start of one with enough
 pub sets-nothing : (i : ℕ) (xs : List ℕ) → sets [] i xs ≡ []

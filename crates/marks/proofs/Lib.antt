@@ -1,6 +1,4 @@
 -- What the proofs of the functions share.
-pub mod Digits
-pub mod Puts
 pub mod Lines
 pub mod Words
 pub mod Outcome

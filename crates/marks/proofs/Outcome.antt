@@ -1,5 +1,5 @@
 -- What the program prints, by the answer of the reading call and the words that it leaves.
-use Prim.Native.Nat.{ℕ, _+_, _*_, _≤_}
+use Prim.Native.Nat.{ℕ, _*_, _^_, _≤_, _<_}
 use native.Mathlib.Omega.{arith}
 use mathlib.Core.Path.{_≡_, refl, sym, ap, ap₂, _∙_}
 use mathlib.Core.Bool.{false}
@@ -21,23 +21,29 @@ use Rattle.laws.specs.Sets.{sets-first}
 use Rattle.laws.specs.File.{parse-room}
 use Rattle.laws.specs.Call.{Read, read-of}
 use Rattle.parser.specs.Call.{DidRead}
-use Rattle.marks.specs.Put.{Put}
-use Rattle.marks.specs.Rows.{readRows, Held, Room}
+use Rattle.output.specs.Put.{Put}
+use Rattle.output.proofs.Puts.{put-length, put-exact}
+use Rattle.marks.specs.Rows.{readRows, Held}
 use Rattle.marks.specs.Report.{printed, maxSource, outputRoom, Lent, Reported}
-use Rattle.marks.proofs.Puts.{put-length}
+use Rattle.marks.proofs.Lines.{reading-few}
 use Rattle.marks.proofs.Words.{tree-count, tree-capacity, errors-count, errors-capacity, read-rows}
 
 pub record Ready (s t e out : List ℕ) : Type 0 where
   pub marks : Held 1 t
   pub errors : Held 6 e
-  pub room : Room t e out
   pub text : lines (readRows t e) ≡ printed s
+  pub room : length (printed s) ≤ length out
 
-pub reported : {s out out′ : List ℕ} {r : ℕ} → Put out out′ 0 r (printed s) → Reported s out out′ r
-reported {s} {out} h =
-    let z : 0 + length (printed s) ≡ length (printed s) = omega arith in
-    let n = h .next ∙ z in
-    record { text = h .stored ∙ sets-first out (printed s) (omega (arith, h .within)) ∙ ap (λ k. printed s ++ drop k out) (sym n); size = n; within = omega (arith, h .within, put-length h) }
+-- a text that is printed, and for which there is room
+pub reported : {s out out′ : List ℕ} {r : ℕ} → length (printed s) ≤ length out → length out < 2 ^ 64 → Put out out′ 0 r (printed s)
+    → Reported s out out′ r
+reported {s} {out} {r = r} fits l h =
+    let n : r ≡ length (printed s) = omega (arith, put-exact h (omega arith)) in
+    record {
+      text = h .stored ∙ sets-first out (printed s) fits ∙ ap (λ k. printed s ++ drop k out) (sym n);
+      size = n;
+      within = omega (arith, put-length h);
+    }
 
 module _ {s t e out : List ℕ} (l : Lent s t e out) where
   abbrev answer : Answer
@@ -97,11 +103,12 @@ module _ {s t e out : List ℕ} (l : Lent s t e out) where
       let g = ap capacity p ∙ tree-capacity (8 * length s) (d .marks) x m in
       let f = ap count q ∙ errors-count (length s) (d .errors) y k in
       let i = ap capacity q ∙ errors-capacity (length s) (d .errors) y k in
+      let r = ap lines (ap₂ readRows p q ∙ read-rows (8 * length s) (length s) (d .marks) (d .errors) x y m k) ∙ sym (accepted-text d) in
       record {
         marks = record { counted = omega arith; words = omega (arith, l .source, l .tree) };
         errors = record { counted = omega arith; words = omega (arith, l .source, l .errors) };
-        room = omega (arith, l .source, l .output);
-        text = ap lines (ap₂ readRows p q ∙ read-rows (8 * length s) (length s) (d .marks) (d .errors) x y m k) ∙ sym (accepted-text d);
+        text = r;
+        room = omega (arith, l .source, l .output, reading-few t′ e′, ap length r);
       }
     where
       accepted-text : (d : Read s t e) → printed s ≡ lines (linesOf (read (d .marks) (d .errors)))

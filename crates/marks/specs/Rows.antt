@@ -3,7 +3,12 @@ use Prim.Native.Nat.{ℕ, zero, suc, _+_, _*_, _≤_}
 use mathlib.Core.List.{List, [], _∷_, _++_}
 use lib.ListN.{length, getD}
 use Rattle.syntax.specs.Layout.{sizes, groupSize, count, capacity}
-use Rattle.marks.specs.Put.{pairRoom, countsRoom, errorRoom}
+use Rattle.syntax.specs.Byte as Byte
+use Rattle.syntax.specs.Decimal.{decimal}
+
+-- two numbers, a space after each
+unfoldable pub span : ℕ → ℕ → List ℕ
+span x y = (decimal x ++ (Byte.space ∷ [])) ++ (decimal y ++ (Byte.space ∷ []))
 
 -- the rows 0, 1 and so on below n
 unfoldable pub rows : (ℕ → List ℕ) → ℕ → List (List ℕ)
@@ -28,7 +33,3 @@ readRows t e = (0 ∷ count t ∷ count e ∷ []) ∷ (rows (markRow t) (count t
 pub record Held (size : ℕ) (ws : List ℕ) : Type 0 where
   pub counted : count ws ≤ capacity ws
   pub words : sizes + (1 + size) * capacity ws ≤ length ws
-
--- the output has room for every line
-abbrev pub Room : (t e out : List ℕ) → Type 0
-Room t e out = countsRoom + pairRoom * count t + errorRoom * count e ≤ length out

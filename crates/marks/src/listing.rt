@@ -1,46 +1,23 @@
-// The listing of a reading, put into a lent buffer. Each function answers the place after what it put.
-ghost use Prim.Native.Nat.{_+_, _*_, _≤_, _<_};
+// The listing of a reading, put into a lent output. Each function answers the count after what it put.
+ghost use Prim.Native.Nat.{_+_, _<_};
 ghost use mathlib.Core.Path.{_≡_};
 ghost use mathlib.Core.List.{[], _∷_};
 ghost use lib.ListN.{length, getD};
 ghost use Rattle.syntax.specs.Layout.{groupSize, count};
-ghost use Rattle.syntax.specs.Listing.{digits, line, lines};
-ghost use Rattle.marks.specs.Put.{Put, span, numberRoom, fieldRoom, pairRoom, errorRoom};
-ghost use Rattle.marks.specs.Rows.{rows, markRow, errorRow, readRows, Held, Room};
+ghost use Rattle.syntax.specs.Listing.{line, lines};
+ghost use Rattle.output.specs.Put.{Put};
+ghost use Rattle.marks.specs.Rows.{span, rows, markRow, errorRow, readRows, Held};
+use output::number::put_field;
+use syntax::layout::GROUP_SIZE;
+use syntax::layout::SIZES;
 
-// One byte.
-fn put(output: &mut [u8], at: usize, byte: u8) -> usize
-    requires { ⌜ at < length (now output) ⌝ }
-    ensures { λ r. ⌜ Put (now (output .entry)) (now (output .exit)) at r (byte ∷ []) ⌝ }
-{
-    output[at] = byte;
-    at + 1
-}
+// Where the count and the capacity of a tree or of a list of errors stand.
+const COUNT: usize = 0;
 
-// A number's digits: those before the last one, and the last one.
-fn put_number(output: &mut [u8], at: usize, x: u64) -> usize
-    requires { ⌜ at + numberRoom ≤ length (now output) ⌝ }
-    ensures { λ r. ⌜ Put (now (output .entry)) (now (output .exit)) at r (digits 20 x []) ⌝ }
-{
-    if x < 10 {
-        return put(output, at, b'0' + x as u8);
-    }
-    let next = put_number(output, at, x / 10);
-    put(output, next, b'0' + (x % 10) as u8)
-}
-
-// A number, and the byte that ends it.
-fn put_field(output: &mut [u8], at: usize, x: u64, end: u8) -> usize
-    requires { ⌜ at + fieldRoom ≤ length (now output) ⌝ }
-    ensures { λ r. ⌜ Put (now (output .entry)) (now (output .exit)) at r (digits 20 x (end ∷ [])) ⌝ }
-{
-    let next = put_number(output, at, x);
-    put(output, next, end)
-}
+const CAPACITY: usize = 1;
 
 // A line of two numbers.
 pub fn put_pair(output: &mut [u8], at: usize, x: u64, y: u64) -> usize
-    requires { ⌜ at + pairRoom ≤ length (now output) ⌝ }
     ensures { λ r. ⌜ Put (now (output .entry)) (now (output .exit)) at r (line (x ∷ y ∷ [])) ⌝ }
 {
     let next = put_field(output, at, x, b' ');
@@ -59,20 +36,21 @@ fn word(words: &[u32], i: usize) -> u64
 fn put_mark(tree: &[u32], i: usize, output: &mut [u8], at: usize) -> usize
     requires { ⌜ Held 1 (now tree) ⌝ }
     requires { ⌜ i < count (now tree) ⌝ }
-    requires { ⌜ at + pairRoom ≤ length (now output) ⌝ }
     ensures { λ r. ⌜ Put (now (output .entry)) (now (output .exit)) at r (line (markRow (now (tree .entry)) i)) ⌝ }
 {
-    let places = 2 + word(tree, 1) as usize;
-    put_pair(output, at, word(tree, 2 + i), word(tree, places + i))
+    let places = SIZES + word(tree, CAPACITY) as usize;
+    put_pair(output, at, word(tree, SIZES + i), word(tree, places + i))
 }
 
 // A line for each mark.
 fn put_marks(tree: &[u32], output: &mut [u8], at: usize) -> usize
     requires { ⌜ Held 1 (now tree) ⌝ }
-    requires { ⌜ at + pairRoom * count (now tree) ≤ length (now output) ⌝ }
-    ensures { λ r. ⌜ Put (now (output .entry)) (now (output .exit)) at r (lines (rows (markRow (now (tree .entry))) (count (now (tree .entry))))) ⌝ }
+    ensures { λ r. ⌜
+        Put (now (output .entry)) (now (output .exit)) at r
+        (lines (rows (markRow (now (tree .entry))) (count (now (tree .entry)))))
+        ⌝ }
 {
-    let n = word(tree, 0) as usize;
+    let n = word(tree, COUNT) as usize;
     let mut next = at;
     let mut i = 0;
     while i < n {
@@ -85,8 +63,10 @@ fn put_marks(tree: &[u32], output: &mut [u8], at: usize) -> usize
 // Two words in a row, a space after each.
 fn put_span(words: &[u32], i: usize, output: &mut [u8], at: usize) -> usize
     requires { ⌜ i + 1 < length (now words) ⌝ }
-    requires { ⌜ at + pairRoom ≤ length (now output) ⌝ }
-    ensures { λ r. ⌜ Put (now (output .entry)) (now (output .exit)) at r (span (getD (now (words .entry)) i 0) (getD (now (words .entry)) (i + 1) 0)) ⌝ }
+    ensures { λ r. ⌜
+        Put (now (output .entry)) (now (output .exit)) at r
+        (span (getD (now (words .entry)) i 0) (getD (now (words .entry)) (i + 1) 0))
+        ⌝ }
 {
     let next = put_field(output, at, word(words, i), b' ');
     put_field(output, next, word(words, i + 1), b' ')
@@ -96,11 +76,10 @@ fn put_span(words: &[u32], i: usize, output: &mut [u8], at: usize) -> usize
 fn put_error(errors: &[u32], i: usize, output: &mut [u8], at: usize) -> usize
     requires { ⌜ Held groupSize (now errors) ⌝ }
     requires { ⌜ i < count (now errors) ⌝ }
-    requires { ⌜ at + errorRoom ≤ length (now output) ⌝ }
     ensures { λ r. ⌜ Put (now (output .entry)) (now (output .exit)) at r (line (errorRow (now (errors .entry)) i)) ⌝ }
 {
-    let group = 2 + word(errors, 1) as usize + 6 * i;
-    let kind = put_field(output, at, word(errors, 2 + i), b' ');
+    let group = SIZES + word(errors, CAPACITY) as usize + GROUP_SIZE * i;
+    let kind = put_field(output, at, word(errors, SIZES + i), b' ');
     let position = put_span(errors, group, output, kind);
     let junk = put_span(errors, group + 2, output, position);
     put_pair(
@@ -114,10 +93,12 @@ fn put_error(errors: &[u32], i: usize, output: &mut [u8], at: usize) -> usize
 // A line for each error.
 fn put_errors(errors: &[u32], output: &mut [u8], at: usize) -> usize
     requires { ⌜ Held groupSize (now errors) ⌝ }
-    requires { ⌜ at + errorRoom * count (now errors) ≤ length (now output) ⌝ }
-    ensures { λ r. ⌜ Put (now (output .entry)) (now (output .exit)) at r (lines (rows (errorRow (now (errors .entry))) (count (now (errors .entry))))) ⌝ }
+    ensures { λ r. ⌜
+        Put (now (output .entry)) (now (output .exit)) at r
+        (lines (rows (errorRow (now (errors .entry))) (count (now (errors .entry)))))
+        ⌝ }
 {
-    let n = word(errors, 0) as usize;
+    let n = word(errors, COUNT) as usize;
     let mut next = at;
     let mut i = 0;
     while i < n {
@@ -131,11 +112,13 @@ fn put_errors(errors: &[u32], output: &mut [u8], at: usize) -> usize
 pub fn put_reading(tree: &[u32], errors: &[u32], output: &mut [u8]) -> usize
     requires { ⌜ Held 1 (now tree) ⌝ }
     requires { ⌜ Held groupSize (now errors) ⌝ }
-    requires { ⌜ Room (now tree) (now errors) (now output) ⌝ }
-    ensures { λ r. ⌜ Put (now (output .entry)) (now (output .exit)) 0 r (lines (readRows (now (tree .entry)) (now (errors .entry)))) ⌝ }
+    ensures { λ r. ⌜
+        Put (now (output .entry)) (now (output .exit)) 0 r
+        (lines (readRows (now (tree .entry)) (now (errors .entry))))
+        ⌝ }
 {
     let accepted = put_field(output, 0, 0, b' ');
-    let counts = put_pair(output, accepted, word(tree, 0), word(errors, 0));
+    let counts = put_pair(output, accepted, word(tree, COUNT), word(errors, COUNT));
     let marks = put_marks(tree, output, counts);
     put_errors(errors, output, marks)
 }

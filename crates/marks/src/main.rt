@@ -15,6 +15,15 @@ use parser::read::read;
 use syntax::answer::Answer;
 use syntax::answer::number;
 use syntax::answer::value;
+use syntax::layout::ERROR_WORDS_A_BYTE;
+use syntax::layout::SIZES;
+use syntax::layout::TREE_WORDS_A_BYTE;
+
+// The most bytes of a source.
+const MAX_SOURCE: usize = 1_000;
+
+// Room for a line for each mark and each error that such a source can have, and for the first one.
+const OUTPUT_ROOM: usize = 500_000;
 
 // Reads a source, and puts what is to be printed into the output. Answers how many bytes that is.
 fn report(source: &[u8], tree: &mut [u32], errors: &mut [u32], output: &mut [u8]) -> usize
@@ -28,25 +37,25 @@ fn report(source: &[u8], tree: &mut [u32], errors: &mut [u32], output: &mut [u8]
     put_pair(output, 0, number(answer) as u64, value(answer))
 }
 
-// Prints what a source of at most 1,000 bytes gives: the tree has 2 + 16 words a byte, the list of errors 2 + 7.
+// Prints what a source gives.
 fn print(source: &[u8])
     requires { ⌜ length (now source) ≤ maxSource ⌝ }
 {
-    let mut tree = [0u32; 16_002];
-    let mut errors = [0u32; 7_002];
-    let mut output = [0u8; 500_000];
+    let mut tree = [0u32; SIZES + TREE_WORDS_A_BYTE * MAX_SOURCE];
+    let mut errors = [0u32; SIZES + ERROR_WORDS_A_BYTE * MAX_SOURCE];
+    let mut output = [0u8; OUTPUT_ROOM];
     let length = report(source, &mut tree, &mut errors, &mut output);
     io::write_all(STDOUT_FILENO, &output[..length]);
 }
 
 fn main() {
     // One byte more than a source may have, so that a longer one is not cut.
-    let mut buffer = [0u8; 1_001];
+    let mut buffer = [0u8; MAX_SOURCE + 1];
     let Input::Bytes(length) = read_input(&mut buffer) else {
         io::write_all(STDERR_FILENO, b"marks: standard input cannot be read\n");
         return;
     };
-    if 1_000 < length {
+    if MAX_SOURCE < length {
         io::write_all(STDERR_FILENO, b"marks: more than 1,000 bytes\n");
         return;
     }

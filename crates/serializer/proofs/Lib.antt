@@ -1,6 +1,5 @@
 -- What the proofs of the functions share.
 pub mod Pieces
-pub mod Stores
 pub mod Texts
 pub mod Walk
 pub mod Comments

@@ -1,5 +1,5 @@
 -- Pieces written one after another.
-use Prim.Native.Nat.{ℕ, zero, suc, _+_, _-_, _*_, _^_, _≤_, _<_}
+use Prim.Native.Nat.{ℕ, _+_, _-_, _*_, _^_, _≤_, _<_}
 use native.Mathlib.Nat.{add-zero}
 use native.Mathlib.Numerals.{add-one}
 use native.Mathlib.Omega.{arith}
@@ -14,7 +14,7 @@ use Rattle.laws.specs.Sets.{sets-append, sets-last}
 use Rattle.syntax.specs.Byte as Byte
 use Rattle.syntax.specs.Bytes.{ascii}
 use Rattle.syntax.specs.Marks.{Mark}
-use Rattle.syntax.specs.Serializer.{Piece, lastOf, _⊕_, empty, literal, newline, indented, star, if, blankLine, comment, freeComment}
+use Rattle.syntax.specs.Serializer.{Piece, lastOf, _⊕_, empty, indentWidth, literal, newline, indented, star, if, blankLine, comment, freeComment}
 use Rattle.serializer.specs.declared.writer.TextWriter.{TextWriter}
 use Rattle.serializer.specs.Writer.{textAt, bytes, Room, Wrote}
 use Rattle.serializer.specs.Walk.{lineOf}
@@ -37,10 +37,6 @@ wrote-none {w = w} = record { stored = refl; end = sym (add-zero (w .at)); endin
 -- the output stays as long as it is
 pub wrote-length : {o o′ : List ℕ} {w w′ : TextWriter} {p : Piece} → Wrote o o′ w w′ p → length o′ ≡ length o
 wrote-length {o} {w = w} {p = p} h = ap length (h .stored) ∙ length-sets o (w .at) (textAt w p)
-
--- bytes are stored as far as there is room for them
-pub wrote-stored : {o o′ : List ℕ} {w w′ : TextWriter} (t : List ℕ) → o′ ≡ sets o (w .at) t → w′ ≡ (record { at = w .at + length t; last = lastOf (w .last) t; indent = w .indent }) → Wrote o o′ w w′ (bytes t)
-wrote-stored t e f = record { stored = e; end = ap (λ z. z .at) f; ending = ap (λ z. z .last) f; level = ap (λ z. z .indent) f }
 
 -- another piece with the same bytes here
 pub wrote-as : {o o′ : List ℕ} {w w′ : TextWriter} {p : Piece} (q : Piece) → textAt w p ≡ textAt w q → Wrote o o′ w w′ p → Wrote o o′ w w′ q
@@ -72,22 +68,14 @@ pub room-before : (w : TextWriter) (p q : Piece) → Room w (p ⊕ q) → Room w
 unfolding _⊕_
 room-before w p q r = omega (arith, length-append (textAt w p) (q (w .indent) (lastOf (w .last) (textAt w p))))
 
--- the spaces of an indent
-spaces-last : (b n : ℕ) → 1 ≤ n → lastOf b (replicate n Byte.space) ≡ Byte.space
-unfolding lastOf
-spaces-last b zero h = absurd (omega arith)
-spaces-last b (suc zero) h = refl
-spaces-last b (suc (suc n)) h = spaces-last Byte.space (suc n) (omega arith)
-
-pub wrote-spaces : {o o′ : List ℕ} {w w′ : TextWriter} → 1 ≤ w .indent → o′ ≡ sets o (w .at) (replicate (4 * w .indent) Byte.space)
-    → w′ ≡ (record { at = w .at + 4 * w .indent; last = Byte.space; indent = w .indent }) → Wrote o o′ w w′ (bytes (replicate (4 * w .indent) Byte.space))
-wrote-spaces {w = w} h e f =
-    record {
-      stored = e;
-      end = ap (λ z. z .at) f ∙ ap (λ n. w .at + n) (sym (length-replicate (4 * w .indent) Byte.space));
-      ending = ap (λ z. z .last) f ∙ sym (spaces-last (w .last) (4 * w .indent) (omega arith));
-      level = ap (λ z. z .indent) f;
-    }
+-- one level more of indent
+pub wrote-level : {o o₁ o₂ : List ℕ} {w w₁ w₂ : TextWriter} (n : ℕ) → Wrote o o₁ w w₁ (bytes (replicate (indentWidth * n) Byte.space))
+    → Wrote o₁ o₂ w₁ w₂ (bytes (replicate indentWidth Byte.space)) → Wrote o o₂ w w₂ (bytes (replicate (indentWidth * (n + 1)) Byte.space))
+unfolding _⊕_
+wrote-level n h k =
+    let more : indentWidth * n + indentWidth ≡ indentWidth * (n + 1) = omega arith in
+    let spaces = replicate-append-replicate (indentWidth * n) indentWidth Byte.space ∙ ap (λ m. replicate m Byte.space) more in
+    wrote-as (bytes (replicate (indentWidth * (n + 1)) Byte.space)) spaces (wrote-then h (bytes (replicate indentWidth Byte.space)) k)
 
 -- the bytes of a line end, and of a literal, where the writer stands
 module _ (w : TextWriter) where
@@ -99,7 +87,7 @@ module _ (w : TextWriter) where
   unfolding newline
   newline-alone e = rw (ne-eqb (w .last) Byte.carriageReturn e, newline)
 
-  pub literal-indented : (t : List ℕ) → w .last ≡ Byte.lineFeed → textAt w (literal t) ≡ replicate (4 * w .indent) Byte.space ++ t
+  pub literal-indented : (t : List ℕ) → w .last ≡ Byte.lineFeed → textAt w (literal t) ≡ replicate (indentWidth * w .indent) Byte.space ++ t
   unfolding literal
   literal-indented t e = rw (eq-eqb (w .last) Byte.lineFeed e, literal)
 
@@ -112,8 +100,8 @@ module _ (w : TextWriter) where
   unfolding literal _⊕_
   literal-split t = split (eqb (w .last) Byte.lineFeed)
     where
-      split : (b : Bool) → (elim b [ true ↦ replicate (4 * w .indent) Byte.space ++ [] | false ↦ [] ] ++ t) ≡ elim b [ true ↦ replicate (4 * w .indent) Byte.space ++ t | false ↦ t ]
-      split true = ap (λ r. r ++ t) (append-nil (replicate (4 * w .indent) Byte.space))
+      split : (b : Bool) → (elim b [ true ↦ replicate (indentWidth * w .indent) Byte.space ++ [] | false ↦ [] ] ++ t) ≡ elim b [ true ↦ replicate (indentWidth * w .indent) Byte.space ++ t | false ↦ t ]
+      split true = ap (λ r. r ++ t) (append-nil (replicate (indentWidth * w .indent) Byte.space))
       split false = refl
 
   pub room-line : (t : List ℕ) → Room w (literal t) → Room w (literal [])
@@ -125,23 +113,23 @@ module _ (w : TextWriter) where
   pub wrote-literal : {o o₁ o₂ : List ℕ} {w₁ w₂ : TextWriter} (t : List ℕ) → Wrote o o₁ w w₁ (literal []) → Wrote o₁ o₂ w₁ w₂ (bytes t) → Wrote o o₂ w w₂ (literal t)
   wrote-literal t h k = wrote-as (literal t) (literal-split t) (wrote-then h (bytes t) k)
 
-  star-length : 1 ≤ w .indent → length (textAt w star) ≡ 4 * w .indent
+  star-length : 1 ≤ w .indent → length (textAt w star) ≡ indentWidth * w .indent
   unfolding star
-  star-length h = rw (length-append (replicate (4 * w .indent - 1) Byte.space) (Byte.star ∷ []), length-replicate (4 * w .indent - 1) Byte.space) (omega arith)
+  star-length h = rw (length-append (replicate (indentWidth * w .indent - 1) Byte.space) (Byte.star ∷ []), length-replicate (indentWidth * w .indent - 1) Byte.space) (omega arith)
 
-  pub room-star : 1 ≤ w .indent → Room w star → w .at + 4 * w .indent < 2 ^ 63
+  pub room-star : 1 ≤ w .indent → Room w star → w .at + indentWidth * w .indent < 2 ^ 63
   room-star h r = omega (arith, star-length h)
 
   -- the star in the place of the last space
-  pub wrote-star : {o o₁ o₂ : List ℕ} {w₁ w₂ w₃ : TextWriter} → 1 ≤ w .indent → Wrote o o₁ w w₁ (bytes (replicate (4 * w .indent) Byte.space))
+  pub wrote-star : {o o₁ o₂ : List ℕ} {w₁ w₂ w₃ : TextWriter} → 1 ≤ w .indent → Wrote o o₁ w w₁ (bytes (replicate (indentWidth * w .indent) Byte.space))
       → w₂ .at ≡ w₁ .at - 1 → w₂ .indent ≡ w₁ .indent → Wrote o₁ o₂ w₂ w₃ (bytes (Byte.star ∷ [])) → Wrote o o₂ w w₃ star
   unfolding star lastOf
   wrote-star {o} {w₂ = w₂} h a e i b =
-      let m = 4 * w .indent - 1 in
-      let n : 4 * w .indent ≡ m + 1 = omega arith in
-      let spaces : replicate (4 * w .indent) Byte.space ≡ replicate m Byte.space ++ (Byte.space ∷ []) = ap (λ k. replicate k Byte.space) n ∙ sym (replicate-append-replicate m 1 Byte.space) in
+      let m = indentWidth * w .indent - 1 in
+      let n : indentWidth * w .indent ≡ m + 1 = omega arith in
+      let spaces : replicate (indentWidth * w .indent) Byte.space ≡ replicate m Byte.space ++ (Byte.space ∷ []) = ap (λ k. replicate k Byte.space) n ∙ sym (replicate-append-replicate m 1 Byte.space) in
       let long : length (replicate m Byte.space) ≡ m = length-replicate m Byte.space in
-      let place : w₂ .at ≡ w .at + length (replicate m Byte.space) = omega (arith, a .end, length-replicate (4 * w .indent) Byte.space) in
+      let place : w₂ .at ≡ w .at + length (replicate m Byte.space) = omega (arith, a .end, length-replicate (indentWidth * w .indent) Byte.space) in
       record {
         stored = b .stored ∙ ap₂ (λ r k. set r k Byte.star) (a .stored ∙ ap (λ t. sets o (w .at) t) spaces) place ∙ sets-last o (w .at) (replicate m Byte.space) Byte.space Byte.star;
         end = omega (arith, b .end, star-length h);

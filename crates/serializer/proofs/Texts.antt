@@ -1,5 +1,5 @@
--- Tests on a text, byte by byte.
-use Prim.Native.Nat.{ℕ, _+_, _≤_, _<_}
+-- Tests on a text, byte by byte, and its last byte.
+use Prim.Native.Nat.{ℕ, suc, _+_, _-_, _≤_, _<_}
 use native.Mathlib.Numerals.{add-one}
 use native.Mathlib.Omega.{arith}
 use mathlib.Core.Path.{_≡_, refl, sym, ap, _∙_}
@@ -10,7 +10,7 @@ use lib.ListN.{length, take, drop, getD, length-drop, drop-of-length-le, take-ap
 use lib.Seq.{drop-cons, take-suc, take-add, take-all, take-take, getD-drop}
 use Rattle.syntax.specs.Byte as Byte
 use Rattle.syntax.specs.Bytes.{startsWith, all}
-use Rattle.syntax.specs.Serializer.{blankLine, hasNewline}
+use Rattle.syntax.specs.Serializer.{lastOf, blankLine, hasNewline}
 
 abbrev blank : ℕ → Bool
 blank b = eqb b Byte.space || (eqb b Byte.carriageReturn || eqb b Byte.lineFeed)
@@ -107,3 +107,17 @@ pub starts-byte : (b : ℕ) (t : List ℕ) → (length t ≡ 0 → ⊥) → star
 unfolding startsWith
 starts-byte b [] h = absurd (h refl)
 starts-byte b (x ∷ t) h = refl
+
+-- the last of some bytes
+pub last-byte : (b : ℕ) (t : List ℕ) → (length t ≡ 0 → ⊥) → getD t (length t - 1) 0 ≡ lastOf b t
+unfolding lastOf
+last-byte b [] h = absurd (h refl)
+last-byte b (x ∷ []) h = refl
+last-byte b (x ∷ (y ∷ t)) h =
+    let e : length (x ∷ (y ∷ t)) - 1 ≡ suc (length (y ∷ t) - 1) = omega arith in
+    ap (λ k. getD (x ∷ (y ∷ t)) k 0) e ∙ last-byte x (y ∷ t) (λ f. absurd (omega (arith, f)))
+
+pub last-none : (b : ℕ) (t : List ℕ) → length t ≡ 0 → b ≡ lastOf b t
+unfolding lastOf
+last-none b [] h = refl
+last-none b (x ∷ t) h = absurd (omega arith)

@@ -1,20 +1,22 @@
-// The text writer. A byte is stored where the output has room for it, and counted everywhere, so that with no output it tells how
-// long a text is.
+// The text writer, over the crate output: with no output it tells how long a text is.
 ghost use Prim.Native.Nat.{_+_, _-_, _*_, _≤_, _<_, _^_};
 ghost use mathlib.Core.Path.{_≡_};
 ghost use mathlib.Core.List.{[], _∷_};
-ghost use lib.ListN.{length, take, drop, replicate};
-ghost use lib.Seq.{sets};
+ghost use lib.ListN.{length, replicate};
 ghost use Rattle.syntax.specs.Byte as Byte;
 ghost use Rattle.syntax.specs.Serializer.{lastOf, literal, newline, star, indentWidth};
 ghost use Rattle.serializer.specs.Writer.{begun, bytes, Room, Wrote};
+use output::text::put;
+use output::text::put_bytes;
+use output::text::put_text;
 
 // The bytes that the last byte is compared with.
 const LINE_FEED: usize = 10;
 
 const CARRIAGE_RETURN: usize = 13;
 
-const SPACE: usize = 32;
+// A level of indent.
+const INDENT: [u8; 4] = *b"    ";
 
 // How many bytes have been written, the last of them (0 at the start), and the indent level. The byte is as wide as the others:
 // the writer is copied at every call, and faster without padding.
@@ -22,107 +24,6 @@ pub struct TextWriter {
     pub at: usize,
     last: usize,
     indent: usize,
-}
-
-// Stores bytes for which there is room.
-fn store(output: &mut [u8], at: usize, item: &[u8])
-    requires { ⌜ at + length (now item) ≤ length (now output) ⌝ }
-    ensures { λ _. ⌜ now (output .exit) ≡ sets (now (output .entry)) at (now (item .entry)) ⌝ }
-{
-    let mut i = 0;
-    while i < item.len() {
-        output[at + i] = item[i];
-        i += 1;
-    }
-}
-
-// Stores as many bytes as there is room for.
-fn store_part(output: &mut [u8], at: usize, item: &[u8])
-    ensures { λ _. ⌜ now (output .exit) ≡ sets (now (output .entry)) at (now (item .entry)) ⌝ }
-{
-    if output.len() <= at {
-        return;
-    }
-    let room = output.len() - at;
-    if room < item.len() {
-        store(output, at, &item[0..room]);
-        return;
-    }
-    store(output, at, item);
-}
-
-// 16 bytes, which a compiler takes as one.
-fn block_at(item: &[u8], at: usize) -> [u8; 16]
-    requires { ⌜ at + 16 ≤ length (now item) ⌝ }
-    ensures { λ r. ⌜ r ≡ take 16 (drop at (now (item .entry))) ⌝ }
-{
-    let mut block = [0; 16];
-    let mut i = 0;
-    while i < 16 {
-        block[i] = item[at + i];
-        i += 1;
-    }
-    block
-}
-
-// Like store, 16 bytes at a time. The last 16 may lie in part over those before them.
-fn store_blocks(output: &mut [u8], at: usize, item: &[u8])
-    requires { ⌜ 16 ≤ length (now item) ⌝ }
-    requires { ⌜ at + length (now item) ≤ length (now output) ⌝ }
-    ensures { λ _. ⌜ now (output .exit) ≡ sets (now (output .entry)) at (now (item .entry)) ⌝ }
-{
-    let last = item.len() - 16;
-    let mut i = 0;
-    while i < last {
-        let block = block_at(item, i);
-        store(output, at + i, &block);
-        i += 16;
-    }
-    let block = block_at(item, last);
-    store(output, at + last, &block);
-}
-
-// Like store_part, for bytes that may be many.
-fn store_text(output: &mut [u8], at: usize, text: &[u8])
-    requires { ⌜ at + length (now text) < 2 ^ 63 ⌝ }
-    ensures { λ _. ⌜ now (output .exit) ≡ sets (now (output .entry)) at (now (text .entry)) ⌝ }
-{
-    if output.len() < at + text.len() {
-        store_part(output, at, text);
-        return;
-    }
-    if text.len() < 16 {
-        store(output, at, text);
-        return;
-    }
-    store_blocks(output, at, text);
-}
-
-// Stores spaces for which there is room.
-fn store_spaces(output: &mut [u8], at: usize, count: usize)
-    requires { ⌜ at + count ≤ length (now output) ⌝ }
-    ensures { λ _. ⌜ now (output .exit) ≡ sets (now (output .entry)) at (replicate count Byte.space) ⌝ }
-{
-    let mut i = 0;
-    while i < count {
-        output[at + i] = b' ';
-        i += 1;
-    }
-}
-
-// Stores as many of them as there is room for.
-fn store_indent(output: &mut [u8], at: usize, width: usize)
-    ensures { λ _. ⌜ now (output .exit) ≡ sets (now (output .entry)) at (replicate width Byte.space) ⌝ }
-{
-    if output.len() <= at {
-        return;
-    }
-    let room = output.len() - at;
-    if room < width {
-        store_spaces(output, at, room);
-        return;
-    }
-    store_spaces(output, at, width);
 }
 
 // The last byte after an item.
@@ -184,54 +85,40 @@ impl TextWriter {
         requires { ⌜ self .at + 1 < 2 ^ 63 ⌝ }
         ensures { λ r. ⌜ Wrote (now (output .entry)) (now (output .exit)) self r (bytes (byte ∷ [])) ⌝ }
     {
-        let at = self.at;
-        if at < output.len() {
-            output[at] = byte;
-        }
         TextWriter {
-            at: at + 1,
+            at: put(output, self.at, byte),
             last: byte as usize,
-            indent: self.indent,
-        }
-    }
-
-    // Past bytes that are stored.
-    fn after(self, item: &[u8]) -> Self
-        requires { ⌜ self .at + length (now item) < 2 ^ 63 ⌝ }
-        ensures { λ r. ⌜ r ≡ (record { at = self .at + length (now (item .entry)); last = lastOf (self .last) (now (item .entry)); indent = self .indent }) ⌝ }
-    {
-        TextWriter {
-            at: self.at + item.len(),
-            last: last_of(self.last, item),
             indent: self.indent,
         }
     }
 
     fn write_bytes(self, output: &mut [u8], item: &[u8]) -> Self
         requires { ⌜ self .at + length (now item) < 2 ^ 63 ⌝ }
-        ensures { λ r. ⌜ Wrote (now (output .entry)) (now (output .exit)) self r (bytes (now (item .entry))) ⌝ }
+        ensures { λ r. ⌜
+            Wrote (now (output .entry)) (now (output .exit)) self r (bytes (now (item .entry)))
+            ⌝ }
     {
-        let at = self.at;
-        store_part(output, at, item);
-        self.after(item)
+        TextWriter {
+            at: put_bytes(output, self.at, item),
+            last: last_of(self.last, item),
+            indent: self.indent,
+        }
     }
 
     fn write_indent(self, output: &mut [u8]) -> Self
         requires { ⌜ self .at + indentWidth * self .indent < 2 ^ 63 ⌝ }
-        ensures { λ r. ⌜ Wrote (now (output .entry)) (now (output .exit)) self r (bytes (replicate (indentWidth * self .indent) Byte.space)) ⌝ }
+        ensures { λ r. ⌜
+            Wrote (now (output .entry)) (now (output .exit)) self r
+            (bytes (replicate (indentWidth * self .indent) Byte.space))
+            ⌝ }
     {
-        let indent = self.indent;
-        if indent == 0 {
-            return self;
+        let mut w = self;
+        let mut i = 0;
+        while i < self.indent {
+            w = w.write_bytes(output, &INDENT);
+            i += 1;
         }
-        let at = self.at;
-        let width = 4 * indent;
-        store_indent(output, at, width);
-        TextWriter {
-            at: at + width,
-            last: SPACE,
-            indent,
-        }
+        w
     }
 
     // The indent, where a line begins.
@@ -271,9 +158,11 @@ impl TextWriter {
         ensures { λ r. ⌜ Wrote (now (output .entry)) (now (output .exit)) self r (literal (now (text .entry))) ⌝ }
     {
         let w = self.begin_line(output);
-        let at = w.at;
-        store_text(output, at, text);
-        w.after(text)
+        TextWriter {
+            at: put_text(output, w.at, text),
+            last: last_of(w.last, text),
+            indent: w.indent,
+        }
     }
 
     // The Rust's write_char_into_indent with '*', after a line end: the last space of the indent is replaced.

@@ -20,6 +20,7 @@ pub mod Shape
 pub mod ShapeTable
 pub mod Tests
 pub mod Writing
+pub mod Decimal
 pub mod Listing
 pub mod Table
 pub mod NextTable

@@ -1,10 +1,9 @@
 -- What the program marks prints (document 01).
-use Prim.Native.Nat.{ℕ, zero, suc, _+_, _/_, _%_}
-use mathlib.Core.Bool.{true, false}
+use Prim.Native.Nat.{ℕ}
 use mathlib.Core.List.{List, [], _∷_, _++_, map}
 use lib.ListN.{length}
-use lib.Dec.{ltb}
 use Rattle.syntax.specs.Byte as Byte
+use Rattle.syntax.specs.Decimal.{decimal}
 use Rattle.syntax.specs.Answer.{numberOf, valueOf}
 use Rattle.syntax.specs.Marks.{Mark, kindOf, placeOf}
 use Rattle.syntax.specs.Core.{Error, Reading, read, refused, parse}
@@ -12,15 +11,10 @@ use Rattle.syntax.specs.Layout.{group, errorNumber}
 use Rattle.syntax.specs.Limits.{maxOpen}
 use Rattle.syntax.specs.Reading.{answerOf}
 
--- a number's decimal digits, at most n of them, before others
-unfoldable pub digits : ℕ → ℕ → List ℕ → List ℕ
-digits zero x ds = ds
-digits (suc n) x ds = elim (ltb x 10) [ true ↦ (Byte.digit0 + x) ∷ ds | false ↦ digits n (x / 10) ((Byte.digit0 + (x % 10)) ∷ ds) ]
-
 -- a line of numbers, one space apart
 unfoldable pub line : List ℕ → List ℕ
 line [] = Byte.lineFeed ∷ []
-line (x ∷ xs) = digits 20 x (elim xs [ [] ↦ line xs | y ∷ ys ↦ Byte.space ∷ line xs ])
+line (x ∷ xs) = decimal x ++ elim xs [ [] ↦ line xs | y ∷ ys ↦ Byte.space ∷ line xs ]
 
 unfoldable pub lines : List (List ℕ) → List ℕ
 lines [] = []

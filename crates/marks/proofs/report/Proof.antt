@@ -1,11 +1,19 @@
 -- `report` meets its contract.
-use mathlib.Core.Path.{ap₂, _∙_}
+use native.Mathlib.Omega.{arith}
+use mathlib.Core.Path.{ap, ap₂, _∙_}
 use mathlib.Core.List.{[], _∷_}
+use lib.ListN.{length}
 use borrow.Author.Needs.{needs}
 use Rattle.syntax.specs.Listing.{line}
+<<<<<<< HEAD
 use Rattle.marks.proofs.Puts.{put-as}
 use Rattle.laws.specs.Effect.{not-accepted}
 use Rattle.marks.proofs.Outcome.{reported, refusal, acceptance}
+=======
+use Rattle.output.proofs.Puts.{put-as}
+use Rattle.output.proofs.Lines.{line-few}
+use Rattle.marks.proofs.Outcome.{reported, not-accepted, refusal, acceptance}
+>>>>>>> wc
 use Rattle.marks.proofs.report.Statement.{statement}
 use Rattle.marks.proofs.report.Tie as tie
 
@@ -16,7 +24,10 @@ enum-told : tie.Need-enum-told
 enum-told c = search needs
 
 put-reading-requires : tie.Need-put-reading-requires
-put-reading-requires c κs = let r = acceptance (c .before .before .before .before .before .before .before .before .before .before .before .before .before .before .before .before .pre) (c .before .before .before .before .before .before .before .before .before .read .ensures) (c .before .before .before .enum-told .given .1) (c .before .before .before .before .before .before .before .before .before .read .kept .1 .0) (c .before .before .before .before .before .before .before .before .before .read .kept .1 .1 .0) in (r .marks, (r .errors, r .room))
+put-reading-requires c κs =
+    let read = c .before .before .before .before .before .before .before .before .before .read in
+    let ready = acceptance (c .before .before .before .before .before .before .before .before .before .before .before .before .before .before .before .before .pre) (read .ensures) (c .before .before .before .enum-told .given .1) (read .kept .1 .0) (read .kept .1 .1 .0) in
+    (ready .marks, ready .errors)
 
 same-length : tie.Need-same-length
 same-length c = search needs
@@ -28,7 +39,10 @@ same-length-3 : tie.Need-same-length-3
 same-length-3 c = search needs
 
 returns : tie.Need-returns
-returns c = reported (put-as (acceptance (c .before .before .before .before .before .before .before .before .before .before .before .before .before .before .before .before .before .before .before .pre) (c .before .before .before .before .before .before .before .before .before .before .before .before .read .ensures) (c .before .before .before .before .before .before .enum-told .given .1) (c .before .before .before .before .before .before .before .before .before .before .before .before .read .kept .1 .0) (c .before .before .before .before .before .before .before .before .before .before .before .before .read .kept .1 .1 .0) .text) (c .before .before .put-reading .ensures))
+returns c =
+    let read = c .before .before .before .before .before .before .before .before .before .before .before .before .read in
+    let ready = acceptance (c .before .before .before .before .before .before .before .before .before .before .before .before .before .before .before .before .before .before .before .pre) (read .ensures) (c .before .before .before .before .before .before .enum-told .given .1) (read .kept .1 .0) (read .kept .1 .1 .0) in
+    reported (ready .room) (omega arith) (put-as (c .before .before .put-reading .ensures) (ready .text))
 
 number-requires : tie.Need-number-requires
 number-requires c κs = search needs
@@ -53,7 +67,9 @@ same-length-6 c = search needs
 
 returns-2 : tie.Need-returns-2
 returns-2 c =
-    reported (put-as (ap₂ (λ n v. line (n ∷ v ∷ [])) (c .before .before .before .before .number .ensures) (c .before .before .before .value .ensures) ∙ refusal (c .before .before .before .before .before .before .before .before .before .before .before .before .before .before .before .before .before .before .pre) (c .before .before .before .before .before .before .before .before .before .before .before .read .ensures) (not-accepted _ (c .before .before .before .before .before .before .match .keys2))) (c .before .before .put-pair .ensures))
+    let pair = ap₂ (λ n v. line (n ∷ v ∷ [])) (c .before .before .before .before .number .ensures) (c .before .before .before .value .ensures) in
+    let text = pair ∙ refusal (c .before .before .before .before .before .before .before .before .before .before .before .before .before .before .before .before .before .before .pre) (c .before .before .before .before .before .before .before .before .before .before .before .read .ensures) (not-accepted _ (c .before .before .before .before .before .before .match .keys2)) in
+    reported (omega (arith, c .before .before .before .before .before .before .before .before .before .before .before .before .before .before .before .before .before .before .pre .output, line-few (c .before .before .before .before .number .result) (c .before .before .before .value .result ∷ []), ap length text)) (omega arith) (put-as (c .before .before .put-pair .ensures) text)
 
 pub report-spec : {M : Type 1} → statement M
 report-spec =

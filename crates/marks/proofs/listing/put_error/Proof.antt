@@ -2,10 +2,10 @@
 use native.Mathlib.Omega.{arith}
 use mathlib.Core.Path.{refl, ap}
 use borrow.Author.Needs.{needs}
-use Rattle.syntax.specs.Byte as Byte
 use Rattle.syntax.specs.Listing.{line}
-use Rattle.marks.proofs.Puts.{put-as, put-length, put-first, put-after, field-reach, span-reach}
-use Rattle.marks.proofs.Lines.{error-row, group-held}
+use Rattle.output.proofs.Puts.{put-length, put-as}
+use Rattle.output.proofs.Lines.{put-first}
+use Rattle.marks.proofs.Lines.{error-row, group-held, put-after}
 use Rattle.marks.proofs.listing.put_error.Statement.{statement}
 use Rattle.marks.proofs.listing.put_error.Tie as tie
 
@@ -13,13 +13,19 @@ word-requires : tie.Need-word-requires
 word-requires c κs = search needs
 
 add-group : tie.Need-add-group
-add-group c = omega (arith, group-held (c .before .before .before .args .errors .now) (c .before .before .before .args .i) (c .word .result) (c .before .before .before .pre .0) (c .before .before .before .pre .1 .0) (c .word .ensures))
+add-group c =
+    let start = c .before .before .before in
+    let capacity = c .word in
+    omega (arith, group-held (start .args .errors .now) (start .args .i) (capacity .result) (start .pre .0) (start .pre .1) (capacity .ensures))
 
 mul-group : tie.Need-mul-group
 mul-group c = search needs
 
 add-group-2 : tie.Need-add-group-2
-add-group-2 c = omega (arith, group-held (c .before .before .before .args .errors .now) (c .before .before .before .args .i) (c .word .result) (c .before .before .before .pre .0) (c .before .before .before .pre .1 .0) (c .word .ensures))
+add-group-2 c =
+    let start = c .before .before .before in
+    let capacity = c .word in
+    omega (arith, group-held (start .args .errors .now) (start .args .i) (capacity .result) (start .pre .0) (start .pre .1) (capacity .ensures))
 
 add-word : tie.Need-add-word
 add-word c = search needs
@@ -31,36 +37,67 @@ put-field-requires : tie.Need-put-field-requires
 put-field-requires c κs = search needs
 
 put-span-requires : tie.Need-put-span-requires
-put-span-requires c κs = (omega (arith, group-held (c .before .before .before .before .before .before .before .before .before .args .errors .now) (c .before .before .before .before .before .before .before .before .before .args .i) (c .before .before .before .before .before .before .word .result) (c .before .before .before .before .before .before .before .before .before .pre .0) (c .before .before .before .before .before .before .before .before .before .pre .1 .0) (c .before .before .before .before .before .before .word .ensures)), omega (arith, field-reach (c .before .before .before .before .word2 .result) Byte.space (c .before .before .before .put-field .ensures), c .before .before .before .put-field .kept, c .before .before .before .before .before .before .before .before .before .pre .1 .1))
+put-span-requires c κs =
+    let start = c .before .before .before .before .before .before .before .before .before in
+    let capacity = c .before .before .before .before .before .before .word in
+    omega (arith, group-held (start .args .errors .now) (start .args .i) (capacity .result) (start .pre .0) (start .pre .1) (capacity .ensures))
 
 add-put-span : tie.Need-add-put-span
-add-put-span c = omega (arith, group-held (c .before .before .before .before .before .before .before .before .before .before .before .before .args .errors .now) (c .before .before .before .before .before .before .before .before .before .before .before .before .args .i) (c .before .before .before .before .before .before .before .before .before .word .result) (c .before .before .before .before .before .before .before .before .before .before .before .before .pre .0) (c .before .before .before .before .before .before .before .before .before .before .before .before .pre .1 .0) (c .before .before .before .before .before .before .before .before .before .word .ensures))
+add-put-span c =
+    let start = c .before .before .before .before .before .before .before .before .before .before .before .before in
+    let capacity = c .before .before .before .before .before .before .before .before .before .word in
+    omega (arith, group-held (start .args .errors .now) (start .args .i) (capacity .result) (start .pre .0) (start .pre .1) (capacity .ensures))
 
 put-span-requires-2 : tie.Need-put-span-requires-2
-put-span-requires-2 c κs = (omega (arith, group-held (c .before .before .before .before .before .before .before .before .before .before .before .before .before .args .errors .now) (c .before .before .before .before .before .before .before .before .before .before .before .before .before .args .i) (c .before .before .before .before .before .before .before .before .before .before .word .result) (c .before .before .before .before .before .before .before .before .before .before .before .before .before .pre .0) (c .before .before .before .before .before .before .before .before .before .before .before .before .before .pre .1 .0) (c .before .before .before .before .before .before .before .before .before .before .word .ensures)), omega (arith, field-reach (c .before .before .before .before .before .before .before .before .word2 .result) Byte.space (c .before .before .before .before .before .before .before .put-field .ensures), span-reach _ _ (c .before .before .before .put-span .ensures), put-length (c .before .before .before .before .before .before .before .put-field .ensures), put-length (c .before .before .before .put-span .ensures), c .before .before .before .before .before .before .before .before .before .before .before .before .before .pre .1 .1))
+put-span-requires-2 c κs =
+    let start = c .before .before .before .before .before .before .before .before .before .before .before .before .before in
+    let capacity = c .before .before .before .before .before .before .before .before .before .before .word in
+    omega (arith, group-held (start .args .errors .now) (start .args .i) (capacity .result) (start .pre .0) (start .pre .1) (capacity .ensures))
 
 add-word-2 : tie.Need-add-word-2
-add-word-2 c = omega (arith, group-held (c .before .before .before .before .before .before .before .before .before .before .before .before .before .before .before .before .before .args .errors .now) (c .before .before .before .before .before .before .before .before .before .before .before .before .before .before .before .before .before .args .i) (c .before .before .before .before .before .before .before .before .before .before .before .before .before .before .word .result) (c .before .before .before .before .before .before .before .before .before .before .before .before .before .before .before .before .before .pre .0) (c .before .before .before .before .before .before .before .before .before .before .before .before .before .before .before .before .before .pre .1 .0) (c .before .before .before .before .before .before .before .before .before .before .before .before .before .before .word .ensures))
+add-word-2 c =
+    let start = c .before .before .before .before .before .before .before .before .before .before .before .before .before .before .before .before .before in
+    let capacity = c .before .before .before .before .before .before .before .before .before .before .before .before .before .before .word in
+    omega (arith, group-held (start .args .errors .now) (start .args .i) (capacity .result) (start .pre .0) (start .pre .1) (capacity .ensures))
 
 word-requires-3 : tie.Need-word-requires-3
-word-requires-3 c κs = omega (arith, group-held (c .before .before .before .before .before .before .before .before .before .before .before .before .before .before .before .before .before .args .errors .now) (c .before .before .before .before .before .before .before .before .before .before .before .before .before .before .before .before .before .args .i) (c .before .before .before .before .before .before .before .before .before .before .before .before .before .before .word .result) (c .before .before .before .before .before .before .before .before .before .before .before .before .before .before .before .before .before .pre .0) (c .before .before .before .before .before .before .before .before .before .before .before .before .before .before .before .before .before .pre .1 .0) (c .before .before .before .before .before .before .before .before .before .before .before .before .before .before .word .ensures))
+word-requires-3 c κs =
+    let start = c .before .before .before .before .before .before .before .before .before .before .before .before .before .before .before .before .before in
+    let capacity = c .before .before .before .before .before .before .before .before .before .before .before .before .before .before .word in
+    omega (arith, group-held (start .args .errors .now) (start .args .i) (capacity .result) (start .pre .0) (start .pre .1) (capacity .ensures))
 
 add-word-3 : tie.Need-add-word-3
-add-word-3 c = omega (arith, group-held (c .before .before .before .before .before .before .before .before .before .before .before .before .before .before .before .before .before .before .args .errors .now) (c .before .before .before .before .before .before .before .before .before .before .before .before .before .before .before .before .before .before .args .i) (c .before .before .before .before .before .before .before .before .before .before .before .before .before .before .before .word .result) (c .before .before .before .before .before .before .before .before .before .before .before .before .before .before .before .before .before .before .pre .0) (c .before .before .before .before .before .before .before .before .before .before .before .before .before .before .before .before .before .before .pre .1 .0) (c .before .before .before .before .before .before .before .before .before .before .before .before .before .before .before .word .ensures))
+add-word-3 c =
+    let start = c .before .before .before .before .before .before .before .before .before .before .before .before .before .before .before .before .before .before in
+    let capacity = c .before .before .before .before .before .before .before .before .before .before .before .before .before .before .before .word in
+    omega (arith, group-held (start .args .errors .now) (start .args .i) (capacity .result) (start .pre .0) (start .pre .1) (capacity .ensures))
 
 word-requires-4 : tie.Need-word-requires-4
-word-requires-4 c κs = omega (arith, group-held (c .before .before .before .before .before .before .before .before .before .before .before .before .before .before .before .before .before .before .args .errors .now) (c .before .before .before .before .before .before .before .before .before .before .before .before .before .before .before .before .before .before .args .i) (c .before .before .before .before .before .before .before .before .before .before .before .before .before .before .before .word .result) (c .before .before .before .before .before .before .before .before .before .before .before .before .before .before .before .before .before .before .pre .0) (c .before .before .before .before .before .before .before .before .before .before .before .before .before .before .before .before .before .before .pre .1 .0) (c .before .before .before .before .before .before .before .before .before .before .before .before .before .before .before .word .ensures))
+word-requires-4 c κs =
+    let start = c .before .before .before .before .before .before .before .before .before .before .before .before .before .before .before .before .before .before in
+    let capacity = c .before .before .before .before .before .before .before .before .before .before .before .before .before .before .before .word in
+    omega (arith, group-held (start .args .errors .now) (start .args .i) (capacity .result) (start .pre .0) (start .pre .1) (capacity .ensures))
 
 put-pair-requires : tie.Need-put-pair-requires
-put-pair-requires c κs = omega (arith, field-reach (c .before .before .before .before .before .before .before .before .before .before .before .before .before .before .word2 .result) Byte.space (c .before .before .before .before .before .before .before .before .before .before .before .before .before .put-field .ensures), span-reach _ _ (c .before .before .before .before .before .before .before .before .before .put-span .ensures), span-reach _ _ (c .before .before .before .before .before .put-span2 .ensures), put-length (c .before .before .before .before .before .before .before .before .before .before .before .before .before .put-field .ensures), put-length (c .before .before .before .before .before .before .before .before .before .put-span .ensures), put-length (c .before .before .before .before .before .put-span2 .ensures), c .before .before .before .before .before .before .before .before .before .before .before .before .before .before .before .before .before .before .before .pre .1 .1)
+put-pair-requires c κs = search needs
 
 same-length : tie.Need-same-length
 same-length c = search needs
 
 returns : tie.Need-returns
 returns c =
-    put-as (ap line (error-row (c .before .before .before .before .before .before .before .before .before .before .before .before .before .before .before .before .before .before .before .before .before .before .args .errors .now) (c .before .before .before .before .before .before .before .before .before .before .before .before .before .before .before .before .before .before .before .before .before .before .args .i) (c .before .before .before .before .before .before .before .before .before .before .before .before .before .before .before .before .before .before .before .word .result) _ (c .before .before .before .before .before .before .before .before .before .before .before .before .before .before .before .before .before .before .before .word .ensures) refl (c .before .before .before .before .before .before .before .before .before .before .before .before .before .before .before .before .before .word2 .ensures) (c .before .before .before .before .word3 .ensures) (c .before .before .before .word4 .ensures)))
-    (put-first (c .before .before .before .before .before .before .before .before .before .before .before .before .before .before .before .before .before .word2 .result) _ _ (c .before .before .before .before .before .before .before .before .before .before .before .before .before .before .before .before .put-field .ensures) (put-after _ _ _ _ (c .before .before .before .before .before .before .before .before .before .before .before .before .put-span .ensures) (put-after _ _ _ _ (c .before .before .before .before .before .before .before .before .put-span2 .ensures) (c .before .before .put-pair .ensures))))
+    let start = c .before .before .before .before .before .before .before .before .before .before .before .before .before .before .before .before .before .before .before .before .before .before in
+    let capacity = c .before .before .before .before .before .before .before .before .before .before .before .before .before .before .before .before .before .before .before .word in
+    let first = c .before .before .before .before .before .before .before .before .before .before .before .before .before .before .before .before .before .word2 in
+    let kind = c .before .before .before .before .before .before .before .before .before .before .before .before .before .before .before .before .put-field .ensures in
+    let position = c .before .before .before .before .before .before .before .before .before .before .before .before .put-span .ensures in
+    let junk = c .before .before .before .before .before .before .before .before .put-span2 .ensures in
+    let last = put-after _ _ _ _ (omega (arith, put-length kind, put-length position)) junk (c .before .before .put-pair .ensures) in
+    let rest = put-after _ _ _ _ (omega (arith, put-length kind)) position last in
+    put-as (put-first (first .result) _ _ (omega arith) kind rest)
+    (ap line
+    (error-row (start .args .errors .now) (start .args .i) (capacity .result) _ (capacity .ensures) refl (first .ensures)
+    (c .before .before .before .before .word3 .ensures) (c .before .before .before .word4 .ensures)))
 
 pub put-error-spec : {M : Type 1} → statement M
 put-error-spec =

@@ -4,10 +4,10 @@ use native.Mathlib.Omega.{arith}
 use mathlib.Core.Path.{_≡_}
 use Rattle.syntax.specs.Layout.{count}
 use Rattle.syntax.specs.Listing.{lines}
-use Rattle.marks.specs.Put.{Put}
+use Rattle.output.specs.Put.{Put}
+use Rattle.output.proofs.Puts.{put-length}
 use Rattle.marks.specs.Rows.{rows, errorRow}
-use Rattle.marks.proofs.Puts.{put-length}
-use Rattle.marks.proofs.Lines.{put-no-row, put-row, errors-reach}
+use Rattle.marks.proofs.Lines.{put-no-row, put-row}
 use Rattle.marks.proofs.listing.put_errors.Statement.{statement}
 use Rattle.marks.proofs.listing.put_errors.Tie as tie
 
@@ -18,15 +18,14 @@ abbrev μ-loop : tie.MeasureT-loop
 μ-loop errors output₀ at n next₀ i₀ output next i = n - i
 
 word-requires : tie.Need-word-requires Inv-loop μ-loop
-word-requires c κs = omega (arith, c .before .before .pre .0 .words)
+word-requires c κs = omega (arith, c .before .before .pre .words)
 
 loop-holds : tie.Need-loop-holds Inv-loop μ-loop
 unfolding count
-loop-holds c = (c .word .ensures, (omega arith, put-no-row _ (omega (arith, c .before .before .before .pre .1))))
+loop-holds c = (c .word .ensures, (omega arith, put-no-row _ (omega arith)))
 
 put-error-requires : tie.Need-put-error-requires Inv-loop μ-loop
-put-error-requires c κs =
-    (c .before .before .before .before .before .before .pre .0, (omega (arith, c .before .loop-test .taken, c .before .before .loop .inv .0), omega (arith, c .before .before .before .before .before .before .pre .1, c .before .before .loop .inv .0, c .before .loop-test .taken, errors-reach _ _ (c .before .before .loop .inv .1 .1), put-length (c .before .before .loop .inv .1 .1))))
+put-error-requires c κs = (c .before .before .before .before .before .before .pre, omega (arith, c .before .loop-test .taken, c .before .before .loop .inv .0))
 
 add-i : tie.Need-add-i Inv-loop μ-loop
 add-i c = omega (arith, c .before .before .before .before .loop-test .taken)
@@ -35,13 +34,18 @@ loop-less : tie.Need-loop-less Inv-loop μ-loop
 loop-less c = omega (arith, c .before .before .before .before .loop-test .taken)
 
 loop-again : tie.Need-loop-again Inv-loop μ-loop
-loop-again c = (c .before .before .before .before .before .loop .inv .0, (omega (arith, c .before .before .before .before .loop-test .taken), put-row _ _ (c .before .before .before .before .before .loop .inv .1 .1) (c .before .before .put-error .ensures)))
+loop-again c =
+    let inv = c .before .before .before .before .before .loop .inv in
+    (inv .0, (omega (arith, c .before .before .before .before .loop-test .taken), put-row _ _ (omega arith) (inv .1 .1) (c .before .before .put-error .ensures)))
 
 same-length : tie.Need-same-length Inv-loop μ-loop
 same-length c = put-length (c .before .loop .inv .1 .1)
 
 returns : tie.Need-returns Inv-loop μ-loop
-returns c = let e : c .before .loop .i ≡ count (c .before .before .before .before .before .args .errors .now) = omega (arith, c .before .loop .inv .0, c .before .loop .inv .1 .0, c .loop-test .left) in rw e at (c .before .loop .inv .1 .1)
+returns c =
+    let inv = c .before .loop .inv in
+    let e : c .before .loop .i ≡ count (c .before .before .before .before .before .args .errors .now) = omega (arith, inv .0, inv .1 .0, c .loop-test .left) in
+    rw e at (inv .1 .1)
 
 pub put-errors-spec : {M : Type 1} → statement M
 put-errors-spec =

@@ -4,7 +4,7 @@ use mathlib.Core.Path.{ap}
 use borrow.Author.Needs.{needs}
 use Rattle.syntax.specs.Layout.{capacity}
 use Rattle.syntax.specs.Listing.{line}
-use Rattle.marks.proofs.Puts.{put-as}
+use Rattle.output.proofs.Puts.{put-as}
 use Rattle.marks.proofs.Lines.{mark-row}
 use Rattle.marks.proofs.listing.put_mark.Statement.{statement}
 use Rattle.marks.proofs.listing.put_mark.Tie as tie
@@ -24,11 +24,11 @@ word-requires-2 c κs = search needs
 
 add-word-2 : tie.Need-add-word-2
 unfolding capacity
-add-word-2 c = omega (arith, c .before .before .word .ensures, c .before .before .before .before .before .pre .0 .words, c .before .before .before .before .before .pre .0 .counted, c .before .before .before .before .before .pre .1 .0)
+add-word-2 c = omega (arith, c .before .before .word .ensures, c .before .before .before .before .before .pre .0 .words, c .before .before .before .before .before .pre .0 .counted, c .before .before .before .before .before .pre .1)
 
 word-requires-3 : tie.Need-word-requires-3
 unfolding capacity
-word-requires-3 c κs = omega (arith, c .before .before .word .ensures, c .before .before .before .before .before .pre .0 .words, c .before .before .before .before .before .pre .0 .counted, c .before .before .before .before .before .pre .1 .0)
+word-requires-3 c κs = omega (arith, c .before .before .word .ensures, c .before .before .before .before .before .pre .0 .words, c .before .before .before .before .before .pre .0 .counted, c .before .before .before .before .before .pre .1)
 
 put-pair-requires : tie.Need-put-pair-requires
 put-pair-requires c κs = search needs
@@ -38,7 +38,9 @@ same-length c = search needs
 
 returns : tie.Need-returns
 returns c =
-    put-as (ap line (mark-row (c .before .before .before .before .before .before .before .before .before .args .tree .now) (c .before .before .before .before .before .before .before .before .before .args .i) (c .before .before .before .before .before .before .word .result) (c .before .before .before .before .word2 .result) (c .before .before .before .word3 .result) (c .before .before .before .before .before .before .word .ensures) (c .before .before .before .before .word2 .ensures) (c .before .before .before .word3 .ensures))) (c .before .before .put-pair .ensures)
+    let start = c .before .before .before .before .before .before .before .before .before .args in
+    put-as (c .before .before .put-pair .ensures)
+    (ap line (mark-row (start .tree .now) (start .i) (c .before .before .before .before .before .before .word .result) (c .before .before .before .before .word2 .result) (c .before .before .before .word3 .result) (c .before .before .before .before .before .before .word .ensures) (c .before .before .before .before .word2 .ensures) (c .before .before .before .word3 .ensures)))
 
 pub put-mark-spec : {M : Type 1} → statement M
 put-mark-spec =

@@ -2,8 +2,7 @@
 use native.Mathlib.Omega.{arith}
 use mathlib.Core.List.{[]}
 use borrow.Author.Needs.{needs}
-use Rattle.syntax.specs.Byte as Byte
-use Rattle.marks.proofs.Puts.{put-first, put-last, field-reach}
+use Rattle.output.proofs.Lines.{put-first, put-last}
 use Rattle.marks.proofs.listing.put_pair.Statement.{statement}
 use Rattle.marks.proofs.listing.put_pair.Tie as tie
 
@@ -11,13 +10,15 @@ put-field-requires : tie.Need-put-field-requires
 put-field-requires c κs = search needs
 
 put-field-requires-2 : tie.Need-put-field-requires-2
-put-field-requires-2 c κs = omega (arith, field-reach (c .before .before .before .before .before .before .args .x) Byte.space (c .before .before .before .put-field .ensures), c .before .before .before .put-field .kept, c .before .before .before .before .before .before .pre)
+put-field-requires-2 c κs = search needs
 
 same-length : tie.Need-same-length
 same-length c = search needs
 
 returns : tie.Need-returns
-returns c = put-first (c .before .before .before .before .before .before .before .before .before .args .x) (c .before .before .before .before .before .before .before .before .before .args .y) [] (c .before .before .before .before .before .before .put-field .ensures) (put-last (c .before .before .before .before .before .before .before .before .before .args .y) (c .before .before .put-field2 .ensures))
+returns c =
+    let start = c .before .before .before .before .before .before .before .before .before .args in
+    put-first (start .x) (start .y) [] (omega arith) (c .before .before .before .before .before .before .put-field .ensures) (put-last (start .y) (c .before .before .put-field2 .ensures))
 
 pub put-pair-spec : {M : Type 1} → statement M
 put-pair-spec = tie.close (tie.spec put-field-requires put-field-requires-2 same-length returns)

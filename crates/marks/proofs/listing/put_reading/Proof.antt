@@ -1,9 +1,7 @@
 -- `put_reading` meets its contract.
 use native.Mathlib.Omega.{arith}
 use borrow.Author.Needs.{needs}
-use Rattle.syntax.specs.Byte as Byte
-use Rattle.marks.proofs.Puts.{put-length, field-reach}
-use Rattle.marks.proofs.Lines.{put-reading, pair-reach, marks-reach}
+use Rattle.marks.proofs.Lines.{put-reading}
 use Rattle.marks.proofs.listing.put_reading.Statement.{statement}
 use Rattle.marks.proofs.listing.put_reading.Tie as tie
 
@@ -17,19 +15,20 @@ word-requires-2 : tie.Need-word-requires-2
 word-requires-2 c κs = search needs
 
 put-pair-requires : tie.Need-put-pair-requires
-put-pair-requires c κs = omega (arith, field-reach 0 Byte.space (c .before .before .before .before .before .put-field .ensures), put-length (c .before .before .before .before .before .put-field .ensures), c .before .before .before .before .before .before .before .before .before .before .pre .1 .1)
+put-pair-requires c κs = search needs
 
 put-marks-requires : tie.Need-put-marks-requires
-put-marks-requires c κs = (c .before .before .before .before .before .before .before .before .before .before .before .before .before .before .pre .0, omega (arith, field-reach 0 Byte.space (c .before .before .before .before .before .before .before .before .before .put-field .ensures), put-length (c .before .before .before .before .before .before .before .before .before .put-field .ensures), pair-reach _ _ (c .before .before .before .put-pair .ensures), put-length (c .before .before .before .put-pair .ensures), c .before .before .before .before .before .before .before .before .before .before .before .before .before .before .pre .1 .1))
+put-marks-requires c κs = c .before .before .before .before .before .before .before .before .before .before .before .before .before .before .pre .0
 
 put-errors-requires : tie.Need-put-errors-requires
-put-errors-requires c κs = (c .before .before .before .before .before .before .before .before .before .before .before .before .before .before .before .before .before .before .pre .1 .0, omega (arith, field-reach 0 Byte.space (c .before .before .before .before .before .before .before .before .before .before .before .before .before .put-field .ensures), put-length (c .before .before .before .before .before .before .before .before .before .before .before .before .before .put-field .ensures), pair-reach _ _ (c .before .before .before .before .before .before .before .put-pair .ensures), put-length (c .before .before .before .before .before .before .before .put-pair .ensures), marks-reach _ _ (c .before .before .before .put-marks .ensures), put-length (c .before .before .before .put-marks .ensures), c .before .before .before .before .before .before .before .before .before .before .before .before .before .before .before .before .before .before .pre .1 .1))
+put-errors-requires c κs = c .before .before .before .before .before .before .before .before .before .before .before .before .before .before .before .before .before .before .pre .1
 
 same-length : tie.Need-same-length
 same-length c = search needs
 
 returns : tie.Need-returns
-returns c = put-reading _ _ (c .before .before .before .before .before .before .before .before .before .before .before .before .word .ensures) (c .before .before .before .before .before .before .before .before .before .before .before .word2 .ensures) (c .before .before .before .before .before .before .before .before .before .before .before .before .before .before .before .before .put-field .ensures) (c .before .before .before .before .before .before .before .before .before .before .put-pair .ensures) (c .before .before .before .before .before .before .put-marks .ensures) (c .before .before .put-errors .ensures)
+returns c =
+    put-reading _ _ (omega arith) (c .before .before .before .before .before .before .before .before .before .before .before .before .word .ensures) (c .before .before .before .before .before .before .before .before .before .before .before .word2 .ensures) (c .before .before .before .before .before .before .before .before .before .before .before .before .before .before .before .before .put-field .ensures) (c .before .before .before .before .before .before .before .before .before .before .put-pair .ensures) (c .before .before .before .before .before .before .put-marks .ensures) (c .before .before .put-errors .ensures)
 
 pub put-reading-spec : {M : Type 1} → statement M
 put-reading-spec =

@@ -2,9 +2,8 @@
 use native.Mathlib.Omega.{arith}
 use mathlib.Core.Path.{ap₂}
 use borrow.Author.Needs.{needs}
-use Rattle.syntax.specs.Byte as Byte
-use Rattle.marks.specs.Put.{span}
-use Rattle.marks.proofs.Puts.{put-as, put-span, field-reach}
+use Rattle.output.proofs.Puts.{put-as, put-then}
+use Rattle.marks.specs.Rows.{span}
 use Rattle.marks.proofs.listing.put_span.Statement.{statement}
 use Rattle.marks.proofs.listing.put_span.Tie as tie
 
@@ -21,13 +20,14 @@ word-requires-2 : tie.Need-word-requires-2
 word-requires-2 c κs = search needs
 
 put-field-requires-2 : tie.Need-put-field-requires-2
-put-field-requires-2 c κs = omega (arith, field-reach (c .before .before .before .before .before .word .result) Byte.space (c .before .before .before .before .put-field .ensures), c .before .before .before .before .put-field .kept, c .before .before .before .before .before .before .before .before .before .pre .1)
+put-field-requires-2 c κs = search needs
 
 same-length : tie.Need-same-length
 same-length c = search needs
 
 returns : tie.Need-returns
-returns c = put-as (ap₂ span (c .before .before .before .before .before .before .before .before .word .ensures) (c .before .before .before .word2 .ensures)) (put-span (c .before .before .before .before .before .before .before .before .word .result) (c .before .before .before .word2 .result) (c .before .before .before .before .before .before .before .put-field .ensures) (c .before .before .put-field2 .ensures))
+unfolding span
+returns c = put-as (put-then (omega arith) (c .before .before .before .before .before .before .before .put-field .ensures) (c .before .before .put-field2 .ensures)) (ap₂ span (c .before .before .before .before .before .before .before .before .word .ensures) (c .before .before .before .word2 .ensures))
 
 pub put-span-spec : {M : Type 1} → statement M
 put-span-spec =

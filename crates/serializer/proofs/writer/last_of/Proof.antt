@@ -3,7 +3,7 @@ use Prim.Native.Nat.{_-_}
 use native.Mathlib.Omega.{arith}
 use lib.ListN.{length}
 use borrow.Author.Needs.{needs}
-use Rattle.serializer.proofs.Stores.{last-byte, last-none}
+use Rattle.serializer.proofs.Texts.{last-byte, last-none}
 use Rattle.serializer.proofs.writer.last_of.Statement.{statement}
 use Rattle.serializer.proofs.writer.last_of.Tie as tie
 

@@ -6,7 +6,7 @@ use mathlib.Core.List.{[], append-nil}
 use lib.ListN.{length, replicate, length-append, length-replicate}
 use borrow.Author.Needs.{needs}
 use Rattle.syntax.specs.Byte as Byte
-use Rattle.syntax.specs.Serializer.{literal}
+use Rattle.syntax.specs.Serializer.{indentWidth, literal}
 use Rattle.serializer.proofs.Pieces.{wrote-none, wrote-as, literal-indented, literal-plain}
 use Rattle.serializer.proofs.writer.TextWriter.begin_line.Statement.{statement}
 use Rattle.serializer.proofs.writer.TextWriter.begin_line.Tie as tie
@@ -14,8 +14,8 @@ use Rattle.serializer.proofs.writer.TextWriter.begin_line.Tie as tie
 write-indent-requires : tie.Need-write-indent-requires
 write-indent-requires c κs =
     let w = c .before .before .before .before .args .self in
-    let spaces = replicate (4 * w .indent) Byte.space in
-    omega (arith, ap length (literal-indented w [] (c .before .if1 .taken)) ∙ length-append spaces [], length-replicate (4 * w .indent) Byte.space, c .before .before .before .before .pre)
+    let spaces = replicate (indentWidth * w .indent) Byte.space in
+    omega (arith, ap length (literal-indented w [] (c .before .if1 .taken)) ∙ length-append spaces [], length-replicate (indentWidth * w .indent) Byte.space, c .before .before .before .before .pre)
 
 same-length : tie.Need-same-length
 same-length c = search needs
@@ -23,7 +23,7 @@ same-length c = search needs
 returns : tie.Need-returns
 returns c =
     let w = c .before .before .before .before .before .before .before .args .self in
-    wrote-as (literal []) (sym (literal-indented w [] (c .before .before .before .before .if1 .taken) ∙ append-nil (replicate (4 * w .indent) Byte.space))) (c .before .before .write-indent .ensures)
+    wrote-as (literal []) (sym (literal-indented w [] (c .before .before .before .before .if1 .taken) ∙ append-nil (replicate (indentWidth * w .indent) Byte.space))) (c .before .before .write-indent .ensures)
 
 returns-2 : tie.Need-returns-2
 returns-2 c = wrote-as (literal []) (sym (literal-plain (c .before .before .before .args .self) [] (c .if1 .left))) wrote-none

@@ -1,29 +1,20 @@
--- `TextWriter::put` meets its contract: past the output's end a store would change nothing.
-use borrow.Author.Needs.{needs}
-use mathlib.Core.Path.{_≡_, refl, sym, ap, _∙_}
-use mathlib.Core.Logic.{⊎-elim}
-use lib.ListN.{length, set, length-set}
-use Rattle.laws.specs.Sets.{set-past}
+-- `TextWriter::put` meets its contract.
+use native.Mathlib.Omega.{arith}
+use mathlib.Core.Path.{refl}
 use Rattle.syntax.specs.Serializer.{lastOf}
-use Rattle.serializer.proofs.Pieces.{wrote-stored}
+use borrow.Author.Needs.{needs}
 use Rattle.serializer.proofs.writer.TextWriter.put.Statement.{statement}
 use Rattle.serializer.proofs.writer.TextWriter.put.Tie as tie
 
-slice-write-output : tie.Need-slice-write-output
-slice-write-output c = search needs
-
-add-t5 : tie.Need-add-t5
-add-t5 c = search needs
-
-stored : (c : tie.Joined1) → c .if1 .output ≡ set (c .before .args .output .now) (c .before .args .self .at) (c .before .args .byte)
-stored c = ⊎-elim (λ z. z .1) (λ z. z .1 ∙ sym (set-past _ _ _ (z .0 .left))) (c .if1 .came)
+put-requires : tie.Need-put-requires
+put-requires c κs = search needs
 
 same-length : tie.Need-same-length
-same-length c = ap length (stored c) ∙ simp length-set
+same-length c = search needs
 
 returns : tie.Need-returns
 unfolding lastOf
-returns c = wrote-stored _ (stored c) refl
+returns c = record { stored = c .before .before .put .ensures .stored; end = omega (arith, c .before .before .put .ensures .next, c .before .before .before .before .before .pre); ending = refl; level = refl }
 
 pub put-spec : {M : Type 1} → statement M
-put-spec = tie.close (tie.spec slice-write-output add-t5 same-length returns)
+put-spec = tie.close (tie.spec put-requires same-length returns)
