@@ -5,15 +5,10 @@ use mathlib.Core.List.{[], _∷_}
 use lib.ListN.{length}
 use borrow.Author.Needs.{needs}
 use Rattle.syntax.specs.Listing.{line}
-<<<<<<< HEAD
-use Rattle.marks.proofs.Puts.{put-as}
 use Rattle.laws.specs.Effect.{not-accepted}
-use Rattle.marks.proofs.Outcome.{reported, refusal, acceptance}
-=======
 use Rattle.output.proofs.Puts.{put-as}
 use Rattle.output.proofs.Lines.{line-few}
-use Rattle.marks.proofs.Outcome.{reported, not-accepted, refusal, acceptance}
->>>>>>> wc
+use Rattle.marks.proofs.Outcome.{reported, refusal, acceptance}
 use Rattle.marks.proofs.report.Statement.{statement}
 use Rattle.marks.proofs.report.Tie as tie
 
