@@ -27,7 +27,7 @@ use Rattle.serializer.specs.Writer.{Wrote}
 use Rattle.serializer.specs.Walk.{firstKind, kindAt, nodeAt, after, innerAt, At, TextAt, OneAt, Inside}
 use Rattle.serializer.specs.Serialize.{patternIn, raise, lower, Ready, Done}
 use Rattle.serializer.specs.Message.{naming, values, messageIn, termIn, ReadyFor, Valued}
-use Rattle.shape.proofs.Sizes.{Sizes}
+use Rattle.tree.proofs.Sizes.{Sizes}
 use Rattle.serializer.proofs.Pieces.{Row, two, then-assoc, then-empty, Going, going, room-first, going-on, gone, room-within, wrote-within}
 use Rattle.serializer.proofs.Walk.{Next, ends, goes, next, mark-inside, run-levels, inner-at, enter, at-kind, node-kind, text-after}
 use Rattle.serializer.proofs.Comments.{each-row}

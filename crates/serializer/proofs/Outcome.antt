@@ -20,11 +20,11 @@ use Rattle.syntax.specs.Writing.{noMark, sizesFit, writeAnswer, textOver, outpu
 use Rattle.laws.specs.Call.{written}
 use Rattle.laws.specs.Sets.{sets-nothing, sets-first}
 use Rattle.laws.specs.Text.Length.{text-short}
-use Rattle.shape.specs.declared.test.Tested.the-variants.{Refused, Passed}
-use Rattle.shape.specs.Test.{tested}
-use Rattle.shape.proofs.Sizes.{sizes, no-mark}
-use Rattle.shape.proofs.Tests.{byTest, clash, passes}
-use Rattle.shape.proofs.Tests as Tests
+use Rattle.tree.specs.declared.test.Tested.the-variants.{Refused, Passed}
+use Rattle.tree.specs.Test.{tested}
+use Rattle.tree.proofs.Sizes.{sizes, no-mark}
+use Rattle.tree.proofs.Tests.{byTest, clash, passes}
+use Rattle.tree.proofs.Tests as Tests
 use Rattle.serializer.specs.declared.writer.TextWriter.{TextWriter}
 use Rattle.serializer.specs.Writer.{begun, Room, Wrote}
 use Rattle.serializer.specs.Call.{Writable, DidWriteInto, DidWrite}

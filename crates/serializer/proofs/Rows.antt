@@ -14,7 +14,7 @@ use Rattle.serializer.specs.declared.serializer.Serializer.{Serializer}
 use Rattle.serializer.specs.Writer.{Wrote}
 use Rattle.serializer.specs.Walk.{kindAt, nodeAt, after, innerAt, Open}
 use Rattle.serializer.specs.Serialize.{Ready, Done, ReadyIn}
-use Rattle.shape.proofs.Sizes.{sizes}
+use Rattle.tree.proofs.Sizes.{sizes}
 use Rattle.serializer.proofs.Pieces.{Going, going, going-as, going-on, gone, room-first, one, two, row-same}
 use Rattle.serializer.proofs.Walk.{inside-count}
 use Rattle.serializer.proofs.Children.{Has, goes-on, goes-out}

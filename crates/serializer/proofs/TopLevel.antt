@@ -28,7 +28,7 @@ use Rattle.serializer.specs.Walk as Spec
 use Rattle.serializer.specs.Serialize.{Ready, Done}
 use Rattle.serializer.specs.Message.{messageIn, termIn}
 use Rattle.serializer.specs.Resource.{entries, junkIn}
-use Rattle.shape.proofs.Sizes.{sizes, next-mark, no-mark}
+use Rattle.tree.proofs.Sizes.{sizes, next-mark, no-mark}
 use Rattle.serializer.proofs.Pieces.{one, two, empty-then, Going, going, going-as, room-first, going-on, gone, wrote-nothing}
 use Rattle.serializer.proofs.Walk.{run-levels, at-kind, node-kind, at-rest}
 

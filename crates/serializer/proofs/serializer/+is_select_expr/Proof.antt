@@ -5,7 +5,7 @@ use mathlib.Core.Path.{sym, _∙_}
 use borrow.Fn.Kinds.{In}
 use borrow.Fn.PlainCycle.{Measures, is, falls, and}
 use Rattle.syntax.specs.Layout.{count}
-use Rattle.shape.proofs.Sizes.{sizes}
+use Rattle.tree.proofs.Sizes.{sizes}
 use Rattle.serializer.proofs.Walk.{at-count, at-kind, select-here, select-within, select-other}
 use Rattle.serializer.proofs.serializer.is_select_expr.Reads as is-select-expr
 use Rattle.serializer.proofs.serializer.is_select_expr.Kinds as is-select-expr-kinds

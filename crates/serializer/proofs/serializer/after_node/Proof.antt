@@ -3,7 +3,7 @@ use Prim.Native.Nat.{_-_}
 use native.Mathlib.Omega.{arith}
 use mathlib.Core.Logic.{⊎-elim}
 use Rattle.syntax.specs.Layout.{count, marksIn}
-use Rattle.shape.proofs.Sizes.{sizes}
+use Rattle.tree.proofs.Sizes.{sizes}
 use Rattle.serializer.proofs.Walk.{at-count}
 use Rattle.serializer.proofs.Skips.{Skips, skips-first, skips-open, skips-close, skips-count}
 use Rattle.serializer.proofs.serializer.after_node.Statement.{statement}

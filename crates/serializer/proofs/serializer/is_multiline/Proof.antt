@@ -8,7 +8,7 @@ use Rattle.syntax.specs.Layout.{count, marksIn}
 use Rattle.syntax.specs.Shape.{start}
 use Rattle.syntax.specs.Serializer.{nodes, isMultiline}
 use Rattle.serializer.specs.Walk.{kindAt, nodeAt, after, innerAt, Open}
-use Rattle.shape.proofs.Sizes.{sizes}
+use Rattle.tree.proofs.Sizes.{sizes}
 use Rattle.serializer.proofs.Walk.{at-count, inside-count, enter}
 use Rattle.serializer.proofs.Patterns.{element-next, multiline-first, multiline-later, multiline-none}
 use Rattle.serializer.proofs.serializer.is_multiline.Statement.{statement}

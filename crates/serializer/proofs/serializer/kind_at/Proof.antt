@@ -1,6 +1,6 @@
 -- `kind_at` meets its contract.
 use native.Mathlib.Omega.{arith}
-use Rattle.shape.proofs.Sizes.{sizes}
+use Rattle.tree.proofs.Sizes.{sizes}
 use Rattle.serializer.proofs.Walk.{kind-word}
 use Rattle.serializer.proofs.serializer.kind_at.Statement.{statement}
 use Rattle.serializer.proofs.serializer.kind_at.Tie as tie

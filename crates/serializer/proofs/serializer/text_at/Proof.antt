@@ -2,7 +2,7 @@
 use Prim.Native.Nat.{_+_}
 use native.Mathlib.Omega.{arith}
 use Rattle.syntax.specs.Layout.{count, capacity}
-use Rattle.shape.proofs.Sizes.{sizes}
+use Rattle.tree.proofs.Sizes.{sizes}
 use Rattle.serializer.proofs.Walk.{text-words}
 use Rattle.serializer.proofs.serializer.text_at.Statement.{statement}
 use Rattle.serializer.proofs.serializer.text_at.Tie as tie

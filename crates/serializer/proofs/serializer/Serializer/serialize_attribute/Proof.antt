@@ -6,7 +6,7 @@ use mathlib.Core.Path.{_≡_, refl, ap, _∙_}
 use Rattle.syntax.specs.Kind as Kind
 use Rattle.syntax.specs.Layout.{marksIn}
 use Rattle.serializer.specs.Walk.{after}
-use Rattle.shape.proofs.Sizes.{sizes}
+use Rattle.tree.proofs.Sizes.{sizes}
 use Rattle.serializer.proofs.Pieces.{going, room-first, going-on, gone, wrote-length}
 use Rattle.serializer.proofs.Children.{only}
 use Rattle.serializer.proofs.Messages.{attribute-parts, attribute-row, nested-count}

@@ -4,7 +4,7 @@ use native.Mathlib.Omega.{arith}
 use mathlib.Core.Path.{sym, ap, _∙_}
 use Rattle.syntax.specs.Layout.{count}
 use Rattle.serializer.specs.Walk.{after}
-use Rattle.shape.proofs.Sizes.{sizes}
+use Rattle.tree.proofs.Sizes.{sizes}
 use Rattle.serializer.proofs.Pieces.{wrote-length}
 use Rattle.serializer.proofs.Walk.{inside-count}
 use Rattle.serializer.proofs.Messages.{Attributes, attributes-first, attribute-next, attributes-done, attributes-wrote}

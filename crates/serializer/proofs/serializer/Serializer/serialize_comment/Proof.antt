@@ -3,7 +3,7 @@ use Prim.Native.Nat.{_-_}
 use native.Mathlib.Omega.{arith}
 use mathlib.Core.Path.{sym, _∙_}
 use Rattle.syntax.specs.Layout.{count}
-use Rattle.shape.proofs.Sizes.{sizes}
+use Rattle.tree.proofs.Sizes.{sizes}
 use Rattle.serializer.proofs.Pieces.{wrote-length}
 use Rattle.serializer.proofs.Walk.{at-count, inside-count}
 use Rattle.serializer.proofs.Comments.{Lines, lines-first, lines-turn, lines-done}

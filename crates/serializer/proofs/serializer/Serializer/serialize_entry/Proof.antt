@@ -1,7 +1,7 @@
 -- `Serializer::serialize_entry` meets its contract.
 use borrow.Author.Needs.{needs}
 use mathlib.Core.Path.{sym, _∙_}
-use Rattle.shape.proofs.Sizes.{sizes}
+use Rattle.tree.proofs.Sizes.{sizes}
 use Rattle.serializer.proofs.Walk.{at-count}
 use Rattle.serializer.proofs.TopLevel.{as-message, as-term, as-junk, as-comment, as-group, as-resource, as-attached}
 use Rattle.serializer.proofs.serializer.Serializer.serialize_entry.Statement.{statement}

@@ -5,7 +5,7 @@ use borrow.Author.Needs.{needs}
 use mathlib.Core.Path.{_∙_}
 use Rattle.syntax.specs.Layout.{marksIn}
 use Rattle.serializer.specs.Walk.{nodeAt}
-use Rattle.shape.proofs.Sizes.{sizes}
+use Rattle.tree.proofs.Sizes.{sizes}
 use Rattle.serializer.proofs.Pieces.{going, room-first, going-on, gone}
 use Rattle.serializer.proofs.Walk.{at-count, text-after}
 use Rattle.serializer.proofs.Messages.{naming-row}

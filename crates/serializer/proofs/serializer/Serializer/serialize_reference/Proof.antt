@@ -4,7 +4,7 @@ use borrow.Author.Needs.{needs}
 use mathlib.Core.Path.{sym, ap, _∙_}
 use Rattle.syntax.specs.Layout.{marksIn}
 use Rattle.serializer.specs.Walk.{kindAt}
-use Rattle.shape.proofs.Sizes.{sizes}
+use Rattle.tree.proofs.Sizes.{sizes}
 use Rattle.serializer.proofs.Pieces.{going, room-first, going-on, going-as, gone}
 use Rattle.serializer.proofs.Walk.{at-count, inside-count}
 use Rattle.serializer.proofs.References.{begun, no-further, further-on}

@@ -5,7 +5,7 @@ use mathlib.Core.Path.{_≡_, sym, _∙_}
 use Rattle.syntax.specs.Kind as Kind
 use Rattle.syntax.specs.Layout.{marksIn}
 use Rattle.serializer.specs.Walk.{kindAt}
-use Rattle.shape.proofs.Sizes.{sizes}
+use Rattle.tree.proofs.Sizes.{sizes}
 use Rattle.serializer.proofs.Pieces.{wrote-nothing}
 use Rattle.serializer.proofs.Walk.{inside-count}
 use Rattle.serializer.proofs.Messages.{unvalued, no-values, value}

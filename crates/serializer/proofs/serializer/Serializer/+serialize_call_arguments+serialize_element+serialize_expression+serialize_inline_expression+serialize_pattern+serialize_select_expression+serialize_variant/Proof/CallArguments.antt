@@ -12,7 +12,7 @@ use Rattle.syntax.specs.Serializer.{nodes, literal, if, _⊕_}
 use Rattle.laws.specs.Text.{separatedOf, argumentOf, separated-none, separated-is}
 use Rattle.serializer.specs.Walk.{nodeAt, after, innerAt}
 use Rattle.serializer.specs.Serialize.{arguments}
-use Rattle.shape.proofs.Sizes.{sizes}
+use Rattle.tree.proofs.Sizes.{sizes}
 use Rattle.serializer.proofs.Pieces.{then-assoc, going, room-first, going-on, gone, wrote-length, wrote-then, room-before, room-after}
 use Rattle.serializer.proofs.Walk.{at-count, after-count}
 use Rattle.serializer.proofs.Rows.{Rows, rows-first, rows-count, rows-turn, rows-done}

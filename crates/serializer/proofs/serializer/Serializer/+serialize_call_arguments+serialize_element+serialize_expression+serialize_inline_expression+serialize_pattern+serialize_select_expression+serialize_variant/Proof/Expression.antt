@@ -3,7 +3,7 @@ use Prim.Native.Nat.{ℕ, _-_}
 use native.Mathlib.Omega.{arith}
 use borrow.Author.Needs.{needs}
 use mathlib.Core.Path.{sym, _∙_}
-use Rattle.shape.proofs.Sizes.{sizes}
+use Rattle.tree.proofs.Sizes.{sizes}
 use Rattle.serializer.proofs.Walk.{at-count}
 use Rattle.serializer.proofs.Parts.{expression-select, expression-inline}
 use Rattle.serializer.proofs.serializer.kind_at.Reads as kind-at-reads

@@ -3,7 +3,7 @@ use Prim.Native.Nat.{ℕ, _-_}
 use native.Mathlib.Omega.{arith}
 use borrow.Author.Needs.{needs}
 use mathlib.Core.Path.{sym, _∙_}
-use Rattle.shape.proofs.Sizes.{sizes}
+use Rattle.tree.proofs.Sizes.{sizes}
 use Rattle.serializer.proofs.Pieces.{going, room-first, going-on, going-as, gone}
 use Rattle.serializer.proofs.Walk.{at-count, after-count, inside-count}
 use Rattle.serializer.proofs.Expressions.{inline-string, inline-number, inline-placeable, inline-reference, no-call, a-call}

@@ -9,7 +9,7 @@ use Rattle.syntax.specs.Shape.{among, models}
 use Rattle.syntax.specs.Serializer.{nodes, each}
 use Rattle.laws.specs.Text.{elementOf}
 use Rattle.serializer.specs.Walk.{after, innerAt, elements}
-use Rattle.shape.proofs.Sizes.{sizes}
+use Rattle.tree.proofs.Sizes.{sizes}
 use Rattle.serializer.proofs.Pieces.{going, room-first, going-on, gone, wrote-length, one-most, room-within, wrote-within}
 use Rattle.serializer.proofs.Walk.{at-count}
 use Rattle.serializer.proofs.Parts.{pattern-at, pattern-entered, pattern-parts}

@@ -12,7 +12,7 @@ use Rattle.syntax.specs.Serializer.{nodes, each, newline, _⊕_}
 use Rattle.laws.specs.Text.{variantOf}
 use Rattle.serializer.specs.Walk.{nodeAt, after, innerAt}
 use Rattle.serializer.specs.Serialize.{variants, variantLines}
-use Rattle.shape.proofs.Sizes.{sizes}
+use Rattle.tree.proofs.Sizes.{sizes}
 use Rattle.serializer.proofs.Pieces.{going, room-first, going-on, gone, wrote-length, wrote-then, room-before, room-after, room-within, wrote-within}
 use Rattle.serializer.proofs.Walk.{at-count}
 use Rattle.serializer.proofs.Rows.{Rows, rows-first, rows-count, rows-turn, rows-done}
