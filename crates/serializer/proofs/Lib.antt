@@ -2,10 +2,7 @@
 pub mod Pieces
 pub mod Stores
 pub mod Texts
-pub mod Walk
 pub mod Comments
-pub mod Skips
-pub mod Children
 pub mod Patterns
 pub mod References
 pub mod Variants

@@ -6,5 +6,9 @@ pub mod Sizes
 pub mod Walk
 pub mod Words
 pub mod Children
+pub mod Contents
+pub mod References
+pub mod Messages
+pub mod Entries
 pub mod Stands
 pub mod Tests

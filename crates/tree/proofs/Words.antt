@@ -8,7 +8,7 @@ use mathlib.Core.List.{List, [], _∷_, _++_, map, append-assoc}
 use lib.Dec.{eqb, leb, ltb}
 use lib.ListN.{length, take, drop, getD, length-append, length-drop, drop-of-length-le, List·getD-eq-default, length-take}
 use lib.Seq.{take-all, take-nil, drop-cons, getD-take, getD-drop}
-use borrow.Author.Tests.{eqb-true, leb-true, leb-false, ltb-true, ltb-false, lt-ltb, le-ltb, le-leb, lt-leb}
+use borrow.Author.Tests.{eqb-true, leb-true, leb-false, lt-ltb, le-ltb, le-leb, lt-leb}
 use Rattle.utf8.specs.Utf8.{isBoundary}
 use Rattle.syntax.specs.Kind as Kind
 use Rattle.syntax.specs.Marks.{Mark, plain, placed, kindOf, placeOf, node, textNode}
@@ -18,7 +18,7 @@ use Rattle.laws.specs.Bytes.{byCase, clash}
 use Rattle.laws.specs.Balanced.{Levels, Opened, run-levels}
 use Rattle.laws.specs.Balanced.Nodes.{nodes-text}
 use Rattle.tree.specs.Words.{kindIn, placeIn, textIn, upToClosing, afterIn}
-use Rattle.tree.specs.Walk.{firstKind, kindAt, firstNode, nodeAt, after, Child, At, NodeAt, TextAt}
+use Rattle.tree.specs.Walk.{firstKind, kindAt, firstNode, nodeAt, after, Child, At, TextAt}
 use Rattle.tree.specs.Walk as Spec
 use Rattle.tree.proofs.Sizes.{Sizes, next-mark, mark-inside, mark-next, kinds-length, places-length}
 use Rattle.tree.proofs.Walk.{at-after}
@@ -108,13 +108,6 @@ firstPlace : List Mark → ℕ
 firstPlace [] = 0
 firstPlace (m ∷ ms) = placeOf m
 
--- a boundary is within the source
-pub boundary-within : (s : List ℕ) (i : ℕ) → isBoundary s i ≡ true → i ≤ length s
-unfolding isBoundary
-boundary-within s i e =
-    byCase (eqb i 0) (λ q. omega (arith, eqb-true i 0 q))
-    (λ q. byCase (ltb i (length s)) (λ r. omega (arith, ltb-true i (length s) r)) (λ r. omega (arith, eqb-true i (length s) (rw (q, r, isBoundary) at e))))
-
 module _ (ws : List ℕ) (fit : Sizes ws) where
   pub kind-word : (i : ℕ) → i < count ws → kindIn ws i ≡ kindAt (marksIn ws) i
   unfolding kindIn
@@ -175,8 +168,10 @@ up-child {j = j} (Spec.nest {inner = inner} left x content) h rest =
     (ap suc (up-levels 0 inner (plain (Kind.closing j)) rest (run-levels (content .run)) (omega arith) ∙ sym (length-append inner (plain (Kind.closing j) ∷ []))))
 
 -- the mark after a node
-pub after-word : (ws : List ℕ) (fit : Sizes ws) (i : ℕ) → NodeAt (marksIn ws) i → afterIn ws i ≡ after (marksIn ws) i
+pub after-word : (ws : List ℕ) (fit : Sizes ws) {boundary : ℕ → Bool} {i j : ℕ} → At boundary (marksIn ws) i j → afterIn ws i ≡ after (marksIn ws) i
 unfolding afterIn
-after-word ws fit i n =
-    let a = n .at in
-    ap (λ k. i + k) (ap (λ ks. upToClosing 0 (drop i ks)) (kinds-marks ws fit) ∙ ap (upToClosing 0) (map-drop i (marksIn ws) ∙ ap (map kindOf) (a .there)) ∙ up-child (a .child) (a .known) (a .rest)) ∙ sym (at-after a)
+after-word ws fit {i = i} a =
+    ap (λ k. i + k)
+    (ap (λ ks. upToClosing 0 (drop i ks)) (kinds-marks ws fit) ∙ ap (upToClosing 0) (map-drop i (marksIn ws) ∙ ap (map kindOf) (a .there))
+    ∙ up-child (a .child) (a .known) (a .rest))
+    ∙ sym (at-after a)

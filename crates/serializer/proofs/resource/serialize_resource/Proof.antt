@@ -6,7 +6,7 @@ use mathlib.Core.Path.{ap, _∙_}
 use mathlib.Core.List.{[]}
 use Rattle.syntax.specs.Layout.{count, capacity}
 use Rattle.syntax.specs.Serializer.{wroteBy}
-use Rattle.serializer.specs.Walk.{after}
+use Rattle.tree.specs.Walk.{after}
 use Rattle.tree.proofs.Sizes.{sizes}
 use Rattle.serializer.proofs.Pieces.{wrote-length}
 use Rattle.serializer.proofs.TopLevel.{Entries, entries-first, entry-next, entries-done}
