@@ -11,9 +11,9 @@ use Rattle.syntax.specs.declared.answer.Answer.the-variants.{Accepted}
 use Rattle.syntax.specs.Limits.{maxOpen}
 use Rattle.syntax.specs.Layout.{marksIn}
 use Rattle.syntax.specs.Reading.{readAnswer, treeAfter}
-use Rattle.syntax.specs.Writing.{writeAnswer, outputAfter}
+use Rattle.syntax.specs.Writing.{textAnswer, writeAnswer, outputAfter}
 use Rattle.syntax.specs.Serializer.{serialize}
-use Rattle.laws.specs.Call.{written, writes, written-size, written-output, output-utf8, marks-left}
+use Rattle.laws.specs.Call.{writes, written-size, written-output, output-utf8, marks-left}
 use Rattle.cut.specs.Claim.{Demand3}
 use Rattle.cut.specs.Definition.{Slices, treeIn, errorsIn}
 use Rattle.cut.specs.Theorem.{Faithful, reading-shows, holds}
@@ -26,9 +26,9 @@ module _ (s t e : List ℕ) (h : readAnswer s (length t) (length e) ≡ Accepted
   text : List ℕ
   text = serialize s junk (marksIn (treeAfter s t e))
 
-  answer-is : (o : ℕ) → writeAnswer s (treeAfter s t e) o junk ≡ written o (length text)
+  answer-is : (o : ℕ) → writeAnswer s (treeAfter s t e) o junk ≡ textAnswer o (length text)
   unfolding text
-  answer-is o = writes s t e h o junk ∙ ap (λ ms. written o (length (serialize s junk ms))) (sym (marks-left s t e h))
+  answer-is o = writes s t e h o junk ∙ ap (λ ms. textAnswer o (length (serialize s junk ms))) (sym (marks-left s t e h))
 
   -- the output starts with the text
   left : (o o′ : List ℕ) (size : ℕ) → Accepted size ≡ writeAnswer s (treeAfter s t e) (length o) junk → o′ ≡ outputAfter s (treeAfter s t e) o junk → take size o′ ≡ text
@@ -69,9 +69,10 @@ demand-3-calls = holds maxOpen calls calls-show
 
 -- a tree that was read can be written
 pub writable : Writable
+unfolding textAnswer
 writable s r h junk = record {
   size = length (text s (r .lentTree) (r .lentErrors) h junk);
-  did = λ o o′ answer d l. d .answers ∙ ap (λ z. writeAnswer s z (length o) junk) (r .did .tree) ∙ answer-is s (r .lentTree) (r .lentErrors) h junk (length o) ∙ (rw (le-ltb (length o) _ l, written));
+  did = λ o o′ answer d l. d .answers ∙ ap (λ z. writeAnswer s z (length o) junk) (r .did .tree) ∙ answer-is s (r .lentTree) (r .lentErrors) h junk (length o) ∙ (rw (le-ltb (length o) _ l, textAnswer));
 }
 
 -- what an accepted call of `write` wrote is UTF-8

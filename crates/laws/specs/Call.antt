@@ -1,7 +1,7 @@
 -- Calls that are accepted. Of a reading: what was read, that it stands in the slices, and that the writing call takes it. Of a writing: its text.
 use Prim.Native.Nat.{ℕ}
 use native.Mathlib.Omega.{arith}
-use mathlib.Core.Path.{_≡_, refl, ap, _∙_}
+use mathlib.Core.Path.{_≡_, refl, sym, ap, _∙_}
 use mathlib.Core.Bool.{Bool, true, false}
 use mathlib.Core.List.{List, _++_}
 use mathlib.Core.Option.{Option, some, none}
@@ -10,72 +10,62 @@ use lib.Seq.{take-append-seam}
 use lib.Dec.{ltb}
 use borrow.Author.Tests.{ltb-false}
 use Rattle.utf8.specs.Utf8.{firstIllFormed, isBoundary}
-use Rattle.syntax.specs.declared.answer.Answer.{Answer}
-use Rattle.syntax.specs.declared.answer.Answer.the-variants.{Accepted, OutputTooShort}
+use Rattle.syntax.specs.declared.answer.Answer.the-variants.{Accepted}
+use Rattle.syntax.specs.Answer.{effectOf, written, untouched, sliceBy, sliceAfter}
 use Rattle.syntax.specs.Limits.{maxLength, maxOpen}
 use Rattle.syntax.specs.Marks.{Mark}
 use Rattle.syntax.specs.Core.{Error, Reading, read, refused, parse}
 use Rattle.syntax.specs.Layout.{treeCapacity, treeLayout, errorLayout, treeWords, errorWords, marksIn}
 use Rattle.syntax.specs.Serializer.{serialize}
 use Rattle.syntax.specs.Shape.{verdict}
-use Rattle.syntax.specs.Writing.{sizesFit, writeAnswer, textOver, outputAfter}
-use Rattle.syntax.specs.Reading.{answerOf, readAnswer, sliceAfter, marksOf, errorsOf, treeAfter, errorsAfter}
+use Rattle.syntax.specs.Tests.{sizesFit}
+use Rattle.syntax.specs.Writing.{textAnswer, writeAnswer, outputAfter}
+use Rattle.syntax.specs.Reading.{answerOf, readAnswer, marksOf, errorsOf, treeAfter, errorsAfter}
 use Rattle.laws.specs.Bytes.{byCase}
 use Rattle.laws.specs.File.{parse-read}
 use Rattle.laws.specs.Layout.{tree-marks, tree-fits}
 use Rattle.laws.specs.Formed.{proper, verdict-none}
 use Rattle.laws.specs.Shape.Verdict.{accepts}
+use Rattle.laws.specs.Tests.{Passes, none-refuses, byTest}
 use Rattle.laws.specs.Text.Utf8.{text-utf8}
-
--- the writing call's answer for a text of n bytes and an output of o
-abbrev pub written : (o n : ℕ) → Answer
-written o n = elim (ltb o n) [ true ↦ OutputTooShort n | false ↦ Accepted n ]
 
 -- an accepted writing: no test refuses, the answer is the text's length, the output starts with the text, and the text is UTF-8
 module _ (s t o : List ℕ) (junk : Bool) {v : ℕ} (h : writeAnswer s t (length o) junk ≡ Accepted v) where
-  not-long : ltb maxLength (length s) ≡ false
-  unfolding writeAnswer
-  not-long = byCase (ltb maxLength (length s)) (λ q. let g = rw (q, writeAnswer) at h in let z : _≡_ {A = ℕ} 0 1 = cc in absurd (omega arith)) (λ q. q)
+  abbrev text : List ℕ
+  text = serialize s junk (marksIn t)
 
-  source-formed : firstIllFormed s ≡ none
-  unfolding writeAnswer
-  source-formed = go (firstIllFormed s) refl
+  passed : Passes s t
+  unfolding writeAnswer effectOf
+  passed =
+      byTest s t
+      (λ a e u. let same : a ≡ Accepted v = rw (e, writeAnswer) at h in let z : written ≡ untouched = ap effectOf (sym same) ∙ u in clash z)
+      (λ p. p)
     where
-      go : (x : Option ℕ) → firstIllFormed s ≡ x → firstIllFormed s ≡ none
-      go none e = e
-      go (some k) e = let g = rw (not-long, writeAnswer, e) at h in let z : _≡_ {A = ℕ} 0 1 = cc in absurd (omega arith)
+      clash : {G : Type 0} → written ≡ untouched → G
+      clash z = let y : _≡_ {A = ℕ} 0 1 = cc in absurd (omega arith)
 
-  sizes-fit : sizesFit t ≡ true
+  answered : textAnswer (length o) (length text) ≡ Accepted v
   unfolding writeAnswer
-  sizes-fit = byCase (sizesFit t) (λ f. f) (λ f. let g = rw (not-long, writeAnswer, source-formed, f) at h in let z : _≡_ {A = ℕ} 0 1 = cc in absurd (omega arith))
+  answered = rw (none-refuses s t passed, writeAnswer) at h
 
-  shape-formed : verdict (isBoundary s) maxOpen (marksIn t) ≡ none
-  unfolding writeAnswer
-  shape-formed = go (verdict (isBoundary s) maxOpen (marksIn t)) refl
-    where
-      go : (x : Option ℕ) → verdict (isBoundary s) maxOpen (marksIn t) ≡ x → verdict (isBoundary s) maxOpen (marksIn t) ≡ none
-      go none e = e
-      go (some k) e = let g = rw (not-long, writeAnswer, source-formed, sizes-fit, e) at h in let z : _≡_ {A = ℕ} 0 1 = cc in absurd (omega arith)
-
-  pub written-size : v ≡ length (serialize s junk (marksIn t))
-  unfolding writeAnswer
+  pub written-size : v ≡ length text
+  unfolding textAnswer
   written-size =
-      byCase (ltb (length o) (length (serialize s junk (marksIn t))))
-      (λ l. let g = rw (not-long, writeAnswer, source-formed, sizes-fit, shape-formed, l) at h in let z : _≡_ {A = ℕ} 0 1 = cc in absurd (omega arith))
-      (λ l. let g = rw (not-long, writeAnswer, source-formed, sizes-fit, shape-formed, l) at h in cc)
+      byCase (ltb (length o) (length text))
+      (λ l. let g = rw (l, textAnswer) at answered in let z : _≡_ {A = ℕ} 0 1 = cc in absurd (omega arith))
+      (λ l. let g = rw (l, textAnswer) at answered in cc)
 
-  pub written-output : outputAfter s t o junk ≡ serialize s junk (marksIn t) ++ drop (length (serialize s junk (marksIn t))) o
-  unfolding outputAfter textOver
-  written-output = ap (λ z. textOver z (serialize s junk (marksIn t)) o) h
+  pub written-output : outputAfter s t o junk ≡ text ++ drop (length text) o
+  unfolding outputAfter sliceAfter effectOf sliceBy
+  written-output = ap (λ z. sliceAfter z (length text) text o) h
 
-  pub written-utf8 : firstIllFormed (serialize s junk (marksIn t)) ≡ none
-  written-utf8 = text-utf8 s junk maxOpen (marksIn t) source-formed (accepts (isBoundary s) maxOpen (marksIn t) .0 shape-formed)
+  pub written-utf8 : firstIllFormed text ≡ none
+  written-utf8 =
+      text-utf8 s junk maxOpen (marksIn t) (passed .formed) (accepts (isBoundary s) maxOpen (marksIn t) .0 (passed .shape))
 
   -- so the bytes that were written are
   pub output-utf8 : firstIllFormed (take v (outputAfter s t o junk)) ≡ none
-  output-utf8 =
-      let text = serialize s junk (marksIn t) in
-      rw (written-size, written-output, take-append-seam text (drop (length text) o)) written-utf8
+  output-utf8 = rw (written-size, written-output, take-append-seam text (drop (length text) o)) written-utf8
 
 pub record Read (s t e : List ℕ) : Type 0 where
   pub marks : List Mark
@@ -113,7 +103,7 @@ module _ (s t e : List ℕ) (h : readAnswer s (length t) (length e) ≡ Accepted
 
   -- what was read
   pub read-of : Read s t e
-  unfolding answerOf treeAfter errorsAfter sliceAfter marksOf errorsOf
+  unfolding answerOf treeAfter errorsAfter sliceAfter effectOf sliceBy marksOf errorsOf
   read-of = go (parse maxOpen s) refl shallow
     where
       go : (r : Reading) → parse maxOpen s ≡ r → answerOf r ≡ Accepted 0 → Read s t e
@@ -135,13 +125,19 @@ module _ (s t e : List ℕ) (h : readAnswer s (length t) (length e) ≡ Accepted
       ap marksIn (d .tree) ∙ tree-marks (treeCapacity (length s)) (d .marks) _ (omega arith) (proper maxOpen s (d .marks) (d .errors) (d .reads))
 
   -- the writing call takes the tree that was left, whatever its output; it may refuse only for want of room
-  pub writes : (o : ℕ) (junk : Bool) → writeAnswer s (treeAfter s t e) o junk ≡ written o (length (serialize s junk (read-of .marks)))
-  unfolding writeAnswer
-  writes o junk =
+  pub tree-passes : Passes s (treeAfter s t e)
+  tree-passes =
       let d = read-of in
       let c = treeCapacity (length s) in
       let r = parse-read maxOpen s (d .reads) .0 .room in
-      let m = marks-left in
-      let f : sizesFit (treeAfter s t e) ≡ true = ap sizesFit (d .tree) ∙ tree-fits c (d .marks) _ (omega arith) (omega (arith, ltb-false maxLength (length s) short)) in
-      rw (short, writeAnswer, formed, f, m, verdict-none maxOpen s (d .marks) (d .errors) formed (d .reads))
-      (ap (λ ms. written o (length (serialize s junk ms))) m)
+      let l = ltb-false maxLength (length s) short in
+      record {
+        short = l;
+        formed = formed;
+        sizes = ap sizesFit (d .tree) ∙ tree-fits c (d .marks) _ (omega arith) (omega (arith, l));
+        shape = ap (verdict (isBoundary s) maxOpen) marks-left ∙ verdict-none maxOpen s (d .marks) (d .errors) formed (d .reads);
+      }
+
+  pub writes : (o : ℕ) (junk : Bool) → writeAnswer s (treeAfter s t e) o junk ≡ textAnswer o (length (serialize s junk (read-of .marks)))
+  unfolding writeAnswer
+  writes o junk = rw (none-refuses s (treeAfter s t e) tree-passes, writeAnswer) (ap (λ ms. textAnswer o (length (serialize s junk ms))) marks-left)

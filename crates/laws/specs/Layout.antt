@@ -13,7 +13,7 @@ use Rattle.syntax.specs.Kind as Kind
 use Rattle.syntax.specs.Marks.{Mark, plain, placed, kindOf, placeOf}
 use Rattle.syntax.specs.Core.{Error}
 use Rattle.syntax.specs.Limits.{maxLength}
-use Rattle.syntax.specs.Writing.{sizesFit}
+use Rattle.syntax.specs.Tests.{sizesFit}
 use Rattle.syntax.specs.Layout.{array, treeCapacity, treeWords, groupSize, group, groups, errorNumber, errorWords, count, capacity, kinds, places, groupsIn, hasPlace, markOf, marksBy, marksIn}
 
 array-length : (c : ℕ) (ws : List ℕ) → length ws ≤ c → length (array c ws) ≡ c

@@ -28,7 +28,11 @@ pub mod Stable
 pub mod Entries
 -- the words of a tree and of a list of errors, read back
 pub mod Layout
--- a reading call that is accepted
+-- what an answer's number tells of lent memory
+pub mod Effect
+-- the tests 1, 2 and 6
+pub mod Tests
+-- calls that are accepted
 pub mod Call
 -- the shape of mark lists, its check and the verdict
 pub mod Shape

@@ -7,13 +7,10 @@ use mathlib.Core.List.{List, [], _∷_, _++_, append-nil}
 use mathlib.Core.Option.{Option, some, none}
 use lib.ListN.{length, drop, replicate, length-replicate}
 use lib.Dec.{ltb}
-use types.Run.{OneOf, miss}
-use denote.Enum.Declared.{tagOf}
 use borrow.Author.Tests.{le-ltb}
 use Rattle.utf8.specs.Utf8.{firstIllFormed}
 use Rattle.syntax.specs.declared.answer.Answer.{Answer}
 use Rattle.syntax.specs.declared.answer.Answer.the-variants.{Accepted, NotUtf8, TooDeep}
-use Rattle.syntax.proofs.answer.Answer.{the-type}
 use Rattle.syntax.specs.Answer.{numberOf, valueOf}
 use Rattle.syntax.specs.Limits.{maxLength, maxOpen}
 use Rattle.syntax.specs.Core.{Reading, read, refused, parse}
@@ -41,10 +38,6 @@ reported {s} {out} h =
     let z : 0 + length (printed s) ≡ length (printed s) = omega arith in
     let n = h .next ∙ z in
     record { text = h .stored ∙ sets-first out (printed s) (omega (arith, h .within)) ∙ ap (λ k. printed s ++ drop k out) (sym n); size = n; within = omega (arith, h .within, put-length h) }
-
--- an answer that the code took for no acceptance is none
-pub not-accepted : (a : Answer) → OneOf (1 ∷ 2 ∷ 3 ∷ 4 ∷ 5 ∷ 6 ∷ 7 ∷ []) (tagOf the-type a) → (v : ℕ) → a ≡ Accepted v → ⊥
-not-accepted a h v e = miss (1 ∷ 2 ∷ 3 ∷ 4 ∷ 5 ∷ 6 ∷ 7 ∷ []) 0 tt (rw e at h)
 
 module _ {s t e out : List ℕ} (l : Lent s t e out) where
   abbrev answer : Answer

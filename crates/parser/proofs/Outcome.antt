@@ -12,7 +12,8 @@ use Rattle.syntax.specs.Limits.{maxOpen}
 use Rattle.syntax.specs.Marks.{Mark}
 use Rattle.syntax.specs.Core.{Error, Reading, read, refused, parse}
 use Rattle.syntax.specs.Layout.{treeLayout, errorLayout, array, treeWords, errorWords, groups}
-use Rattle.syntax.specs.Reading.{answerOf, sliceAfter, readAnswer, treeAfter, errorsAfter, marksOf, errorsOf}
+use Rattle.syntax.specs.Answer.{effectOf, sliceBy, sliceAfter}
+use Rattle.syntax.specs.Reading.{answerOf, readAnswer, treeAfter, errorsAfter, marksOf, errorsOf}
 use Rattle.syntax.specs.declared.answer.Answer.{Answer}
 use Rattle.syntax.specs.declared.answer.Answer.the-variants.{Accepted, TooLong, NotUtf8, TreeTooShort, ErrorsTooShort, TooDeep}
 use Rattle.utf8.specs.Utf8.{firstIllFormed, checkedOf}
@@ -73,7 +74,7 @@ module _ (s t t₁ e e₁ : List ℕ) (r : Parsed) (z : Sized s t e) (d : DidPar
 
   pub accepted : (n k : ℕ) (t₂ e₂ : List ℕ) → r ≡ Counts n k → t₂ ≡ finished (8 * length s) n (8 * length s) n t₁ → e₂ ≡ finished (length s) k (6 * length s) (6 * k) e₁
       → DidReadInto s t t₂ e e₂ (Accepted 0)
-  unfolding answerOf sliceAfter marksOf errorsOf
+  unfolding answerOf sliceAfter effectOf sliceBy marksOf errorsOf
   accepted n k t₂ e₂ h x y =
       let c = counted n k h in
       let step : Step (8 * length s) 0 t t₁ (wordsAt 0 (c .ms)) = rw (c .reads) at (d .tree) in
@@ -86,7 +87,7 @@ module _ (s t t₁ e e₁ : List ℕ) (r : Parsed) (z : Sized s t e) (d : DidPar
 
   pub too-deep : (j : ℕ) (t₂ e₂ : List ℕ) → r ≡ Deep j → t₂ ≡ take 0 t₁ ++ (replicate (2 + 16 * length s - 0) 0 ++ drop (2 + 16 * length s) t₁)
       → e₂ ≡ take 0 e₁ ++ (replicate (2 + 7 * length s - 0) 0 ++ drop (2 + 7 * length s) e₁) → DidReadInto s t t₂ e e₂ (TooDeep j)
-  unfolding answerOf sliceAfter
+  unfolding answerOf sliceAfter effectOf sliceBy
   too-deep j t₂ e₂ h x y = go (parse maxOpen s) refl
     where
       go : (o : Reading) → parse maxOpen s ≡ o → DidReadInto s t t₂ e e₂ (TooDeep j)
@@ -104,7 +105,7 @@ module _ (s t t₁ e e₁ : List ℕ) (r : Parsed) (z : Sized s t e) (d : DidPar
 -- the tests before the reading, in their order
 module _ (s t e : List ℕ) where
   pub too-long : 1000000 < length s → DidRead s t t e e (TooLong (length s))
-  unfolding readAnswer treeAfter errorsAfter sliceAfter
+  unfolding readAnswer treeAfter errorsAfter sliceAfter effectOf sliceBy
   too-long h =
       let q = lt-ltb 1000000 (length s) h in
       record { answers = rw (q, readAnswer); tree = rw (q, readAnswer); errors = rw (q, readAnswer) }
@@ -122,7 +123,7 @@ module _ (s t e : List ℕ) where
     short = le-ltb 1000000 (length s) h
 
     pub not-utf8 : (k : ℕ) (c : Checked) → c ≡ checkedOf (firstIllFormed s) → c ≡ IllFormed k → DidRead s t t e e (NotUtf8 k)
-    unfolding readAnswer treeAfter errorsAfter sliceAfter checkedOf
+    unfolding readAnswer treeAfter errorsAfter sliceAfter effectOf sliceBy checkedOf
     not-utf8 k c d i = go (firstIllFormed s) refl (sym i ∙ d)
       where
         go : (o : Option ℕ) → firstIllFormed s ≡ o → IllFormed k ≡ checkedOf o → DidRead s t t e e (NotUtf8 k)
@@ -131,7 +132,7 @@ module _ (s t e : List ℕ) where
 
     module _ (f : firstIllFormed s ≡ none) where
       pub tree-short : length t < 2 + 16 * length s → DidRead s t t e e (TreeTooShort (2 + 16 * length s))
-      unfolding readAnswer treeAfter errorsAfter sliceAfter
+      unfolding readAnswer treeAfter errorsAfter sliceAfter effectOf sliceBy
       tree-short l =
           let n : 2 + 16 * length s ≡ treeLayout (length s) = omega arith in
           let q = lt-ltb (length t) (treeLayout (length s)) (omega arith) in
@@ -142,7 +143,7 @@ module _ (s t e : List ℕ) where
         roomy = le-ltb (length t) (treeLayout (length s)) (omega arith)
 
         pub errors-short : length e < 2 + 7 * length s → DidRead s t t e e (ErrorsTooShort (2 + 7 * length s))
-        unfolding readAnswer treeAfter errorsAfter sliceAfter
+        unfolding readAnswer treeAfter errorsAfter sliceAfter effectOf sliceBy
         errors-short g =
             let q = lt-ltb (length e) (errorLayout (length s)) g in
             record { answers = rw (short, readAnswer, f, roomy, q); tree = rw (short, readAnswer, f, roomy, q); errors = rw (short, readAnswer, f, roomy, q) }

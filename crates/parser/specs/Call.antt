@@ -4,10 +4,11 @@ use mathlib.Core.Path.{_≡_}
 use mathlib.Core.List.{List}
 use lib.ListN.{length}
 use Rattle.syntax.specs.declared.answer.Answer.{Answer}
+use Rattle.syntax.specs.Answer.{sliceAfter}
 use Rattle.syntax.specs.Limits.{maxLength, maxOpen}
 use Rattle.syntax.specs.Core.{Reading, read, refused, parse}
 use Rattle.syntax.specs.Layout.{treeCapacity, treeLayout, errorLayout, treeWords, errorWords}
-use Rattle.syntax.specs.Reading.{readAnswer, treeAfter, errorsAfter, answerOf, sliceAfter, marksOf, errorsOf}
+use Rattle.syntax.specs.Reading.{readAnswer, treeAfter, errorsAfter, answerOf, marksOf, errorsOf}
 use Rattle.parser.specs.Tree.{Step, wordsAt}
 use Rattle.parser.specs.ErrorList.{ErrorStep}
 use Rattle.parser.specs.declared.resource.Parsed.{Parsed}

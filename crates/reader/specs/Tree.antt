@@ -12,7 +12,8 @@ use lib.ListN.{drop, length, length-drop}
 use lib.Dec.{ltb}
 use Rattle.utf8.specs.Utf8.{firstIllFormed}
 use Rattle.syntax.specs.declared.answer.Answer.{Answer}
-use Rattle.syntax.specs.declared.answer.Answer.the-variants as answers
+use Rattle.syntax.specs.declared.answer.Answer.the-variants.{TreeTooShort, ErrorsTooShort}
+use Rattle.syntax.specs.Answer.{numberOf, valueOf, effectOf, written, zeroed, untouched}
 use Rattle.syntax.specs.Limits.{maxLength, maxOpen}
 use Rattle.syntax.specs.Kind as Kind
 use Rattle.syntax.specs.Marks.{Mark, plain, placed, moveUp, node, textNode}
@@ -123,26 +124,26 @@ module _ (n : ℕ) (s : List ℕ) where
 
 -- ---- the reading call
 
-abbrev pub Agrees : List ℕ → Answer → Type 0
-Agrees s (answers.Accepted v) = Lies (level maxOpen) s (AtEnd s) 0 (entriesOf s) (marksOf (parse maxOpen s))
-Agrees s (answers.TooLong v) = entriesOf s ≡ []
-Agrees s (answers.NotUtf8 v) = entriesOf s ≡ []
-Agrees s (answers.TreeTooShort v) = Unit {0}
-Agrees s (answers.ErrorsTooShort v) = Unit {0}
-Agrees s (answers.TooDeep i) = (ms : List Mark) × Lies (level maxOpen) s (TooDeep (level maxOpen) s i) 0 (entriesOf s) ms
-Agrees s (answers.IllFormed v) = Unit {0}
-Agrees s (answers.OutputTooShort v) = Unit {0}
+-- by the effect of the answer: the entries stand in the tree that is written, or in what was read before refusal 5; a source that is refused
+-- by 1 or 2 has none
+unfoldable pub Agrees : List ℕ → Answer → Type 0
+Agrees s a =
+    elim (effectOf a) [
+      | written ↦ Lies (level maxOpen) s (AtEnd s) 0 (entriesOf s) (marksOf (parse maxOpen s))
+      | zeroed ↦ (ms : List Mark) × Lies (level maxOpen) s (TooDeep (level maxOpen) s (valueOf a)) 0 (entriesOf s) ms
+      | untouched ↦ numberOf a ≤ 2 → entriesOf s ≡ []
+    ]
 
 -- what the reading call answers of a source, whatever slices it is lent, and the source's entries
 pub agrees : (s : List ℕ) (t e : ℕ) → Agrees s (readAnswer s t e)
-unfolding readAnswer entriesOf answerOf marksOf
-agrees s t e = byCase (ltb maxLength (length s)) (λ q. rw (q, readAnswer) (rw (q, entriesOf))) (λ q. formed q (firstIllFormed s) refl)
+unfolding readAnswer entriesOf answerOf marksOf Agrees effectOf
+agrees s t e = byCase (ltb maxLength (length s)) (λ q. rw (q, readAnswer) (λ _. rw (q, entriesOf))) (λ q. formed q (firstIllFormed s) refl)
   where
     by : ltb maxLength (length s) ≡ false → firstIllFormed s ≡ none → (r : Reading) → parse maxOpen s ≡ r → Shown maxOpen s 0 (parseExtents maxOpen s) r → Agrees s (answerOf r)
     by q h (read ms es) p g = rw (q, entriesOf) (rw (h, p) g)
     by q h (refused i) p g = rw (q, entriesOf) (rw h g)
 
     formed : ltb maxLength (length s) ≡ false → (o : Option ℕ) → firstIllFormed s ≡ o → Agrees s (readAnswer s t e)
-    formed q (some k) h = rw (q, readAnswer) (rw h (rw (q, entriesOf) (rw h)))
-    formed q none h = rw (q, readAnswer) (rw h (pick (Agrees s) (ltb t (treeLayout (length s))) _ _ (λ _. tt)
-        (λ _. pick (Agrees s) (ltb e (errorLayout (length s))) _ _ (λ _. tt) (λ _. by q h (parse maxOpen s) refl (parse-shown maxOpen s)))))
+    formed q (some k) h = rw (q, readAnswer) (rw h (λ _. rw (q, entriesOf) (rw h)))
+    formed q none h = rw (q, readAnswer) (rw h (pick (Agrees s) (ltb t (treeLayout (length s))) (TreeTooShort _) _ (λ _ n. absurd (omega arith))
+        (λ _. pick (Agrees s) (ltb e (errorLayout (length s))) (ErrorsTooShort _) _ (λ _ n. absurd (omega arith)) (λ _. by q h (parse maxOpen s) refl (parse-shown maxOpen s)))))

@@ -12,7 +12,7 @@ use Rattle.syntax.specs.Bytes.{ascii}
 use Rattle.syntax.specs.Layout.{marksIn}
 use Rattle.syntax.specs.Marks.{Mark, node}
 use Rattle.syntax.specs.Shape.{named, among}
-use Rattle.syntax.specs.Writing.{sizesFit}
+use Rattle.syntax.specs.Tests.{sizesFit}
 use Rattle.syntax.specs.Serializer.{Node, nodesFrom, nodes, _⊕_, empty, literal, newline, indented, each, first, isEmpty, ofKind, name, attribute, attributes}
 use Rattle.laws.specs.Text.{attribute-is, message-is}
 use Rattle.serializer.specs.declared.serializer.Serializer.{Serializer}

@@ -8,7 +8,7 @@ use lib.ListN.{length}
 use Rattle.utf8.specs.Utf8.{isBoundary}
 use Rattle.syntax.specs.Kind as Kind
 use Rattle.syntax.specs.Layout.{count, marksIn}
-use Rattle.syntax.specs.Writing.{sizesFit}
+use Rattle.syntax.specs.Tests.{sizesFit}
 use Rattle.syntax.specs.Serializer.{Node, nodesFrom, nodes, Piece, _⊕_, empty}
 use Rattle.serializer.specs.declared.serializer.Serializer.{Serializer}
 use Rattle.serializer.specs.Writer.{Wrote}

@@ -15,7 +15,7 @@ use Rattle.syntax.specs.Layout.{count, marksIn}
 use Rattle.syntax.specs.Limits.{maxOpen}
 use Rattle.syntax.specs.Marks.{node}
 use Rattle.syntax.specs.Shape.{named, among, verdict}
-use Rattle.syntax.specs.Writing.{sizesFit}
+use Rattle.syntax.specs.Tests.{sizesFit}
 use Rattle.syntax.specs.Serializer.{Node, nodesFrom, nodes, Piece, _⊕_, if, name, comment, freeComment, entry, wroteBy, resource}
 use Rattle.laws.specs.Bytes.{byCase, clash}
 use Rattle.serializer.specs.declared.serializer.Serializer.{Serializer}

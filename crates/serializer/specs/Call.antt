@@ -7,11 +7,12 @@ use mathlib.Core.Option.{none}
 use lib.ListN.{length}
 use Rattle.utf8.specs.Utf8.{isBoundary}
 use Rattle.syntax.specs.declared.answer.Answer.{Answer}
+use Rattle.syntax.specs.Answer.{sliceAfter}
 use Rattle.syntax.specs.Limits.{maxLength, maxOpen}
 use Rattle.syntax.specs.Layout.{marksIn}
 use Rattle.syntax.specs.Shape.{verdict}
-use Rattle.syntax.specs.Writing.{sizesFit, writeAnswer, textOver, outputAfter}
-use Rattle.laws.specs.Call.{written}
+use Rattle.syntax.specs.Tests.{sizesFit}
+use Rattle.syntax.specs.Writing.{textAnswer, writeAnswer, outputAfter}
 
 -- the source is short enough, and the tree is well formed over it
 pub record Writable (s t : List ℕ) : Type 0 where
@@ -21,8 +22,8 @@ pub record Writable (s t : List ℕ) : Type 0 where
 
 -- the writing where no earlier test refuses: its answer, and every byte of the output
 pub record DidWriteInto (text o o′ : List ℕ) (r : Answer) : Type 0 where
-  pub answers : r ≡ written (length o) (length text)
-  pub output : o′ ≡ textOver (written (length o) (length text)) text o
+  pub answers : r ≡ textAnswer (length o) (length text)
+  pub output : o′ ≡ sliceAfter (textAnswer (length o) (length text)) (length text) text o
 
 -- the writing call: its answer, and every byte of the output
 pub record DidWrite (s t o o′ : List ℕ) (junk : Bool) (r : Answer) : Type 0 where

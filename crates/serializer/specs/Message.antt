@@ -9,7 +9,7 @@ use Rattle.utf8.specs.Utf8.{isBoundary}
 use Rattle.syntax.specs.Kind as Kind
 use Rattle.syntax.specs.Bytes.{ascii}
 use Rattle.syntax.specs.Layout.{marksIn}
-use Rattle.syntax.specs.Writing.{sizesFit}
+use Rattle.syntax.specs.Tests.{sizesFit}
 use Rattle.syntax.specs.Shape.{named, among}
 use Rattle.syntax.specs.Serializer.{Node, nodes, Piece, _⊕_, literal, each, ofKind, name, message}
 use Rattle.serializer.specs.declared.serializer.Serializer.{Serializer}

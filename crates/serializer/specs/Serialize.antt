@@ -10,7 +10,7 @@ use Rattle.syntax.specs.Kind as Kind
 use Rattle.syntax.specs.Bytes.{ascii}
 use Rattle.syntax.specs.Marks.{Mark}
 use Rattle.syntax.specs.Layout.{marksIn}
-use Rattle.syntax.specs.Writing.{sizesFit}
+use Rattle.syntax.specs.Tests.{sizesFit}
 use Rattle.syntax.specs.Serializer.{Node, nodes, Piece, _⊕_, literal, newline, star, each, if, ofKind, name, reference}
 use Rattle.laws.specs.Text.{patternOf, selectOf, variantOf, argumentsOf}
 use Rattle.serializer.specs.declared.serializer.Serializer.{Serializer}

@@ -7,7 +7,7 @@ ghost use Rattle.utf8.specs.Utf8.{isBoundary};
 ghost use Rattle.syntax.specs.Kind as Kind;
 ghost use Rattle.syntax.specs.Layout.{marksIn};
 ghost use Rattle.syntax.specs.Shape.{named};
-ghost use Rattle.syntax.specs.Writing.{sizesFit};
+ghost use Rattle.syntax.specs.Tests.{sizesFit};
 ghost use Rattle.syntax.specs.Serializer.{nodes, attribute, attributes};
 ghost use Rattle.serializer.specs.Writer.{Room, Wrote};
 ghost use Rattle.tree.specs.Walk.{nodeAt, innerAt, TextAt};

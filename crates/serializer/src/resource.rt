@@ -8,7 +8,7 @@ ghost use Rattle.syntax.specs.Kind as Kind;
 ghost use Rattle.syntax.specs.Limits.{maxOpen};
 ghost use Rattle.syntax.specs.Layout.{marksIn};
 ghost use Rattle.syntax.specs.Shape.{verdict};
-ghost use Rattle.syntax.specs.Writing.{sizesFit};
+ghost use Rattle.syntax.specs.Tests.{sizesFit};
 ghost use Rattle.syntax.specs.Serializer.{nodes, entry, wroteBy, resource};
 ghost use Rattle.serializer.specs.Writer.{begun, Room, Wrote};
 ghost use Rattle.serializer.specs.Serialize.{Ready, Done};

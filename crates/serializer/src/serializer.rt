@@ -10,7 +10,7 @@ ghost use Rattle.syntax.specs.Byte as Byte;
 ghost use Rattle.syntax.specs.Kind as Kind;
 ghost use Rattle.syntax.specs.Bytes.{ascii};
 ghost use Rattle.syntax.specs.Layout.{marksIn};
-ghost use Rattle.syntax.specs.Writing.{sizesFit};
+ghost use Rattle.syntax.specs.Tests.{sizesFit};
 ghost use Rattle.syntax.specs.Shape.{inline};
 ghost use Rattle.syntax.specs.Serializer.{Node, nodes, if, literal, newline, star, blankLine, hasNewline, isSelect, multilineElement, isMultiline, leadingDot, name, comment, freeComment};
 ghost use Rattle.laws.specs.Text.{elementOf, expressionOf, variantOf, inlineOf};

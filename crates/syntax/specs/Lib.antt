@@ -18,6 +18,7 @@ pub mod Reading
 pub mod Next
 pub mod Shape
 pub mod ShapeTable
+pub mod Tests
 pub mod Writing
 pub mod Listing
 pub mod Table

@@ -1,13 +1,14 @@
 -- The reading call (document 01): for a source and the lent slices, what it answers and what every word of the slices then is.
 use Prim.Native.Nat.{ℕ}
 use mathlib.Core.Bool.{true, false}
-use mathlib.Core.List.{List, [], _++_}
+use mathlib.Core.List.{List, []}
 use mathlib.Core.Option.{some, none}
-use lib.ListN.{length, drop, replicate}
+use lib.ListN.{length}
 use lib.Dec.{ltb}
 use Rattle.utf8.specs.Utf8.{firstIllFormed}
 use Rattle.syntax.specs.declared.answer.Answer.{Answer}
-use Rattle.syntax.specs.declared.answer.Answer.the-variants.{Accepted, TooLong, NotUtf8, TreeTooShort, ErrorsTooShort, TooDeep, IllFormed, OutputTooShort}
+use Rattle.syntax.specs.declared.answer.Answer.the-variants.{Accepted, TooLong, NotUtf8, TreeTooShort, ErrorsTooShort, TooDeep}
+use Rattle.syntax.specs.Answer.{sliceAfter}
 use Rattle.syntax.specs.Limits.{maxLength, maxOpen}
 use Rattle.syntax.specs.Marks.{Mark}
 use Rattle.syntax.specs.Layout.{treeCapacity, treeLayout, errorLayout, treeWords, errorWords}
@@ -32,18 +33,6 @@ readAnswer s t e =
       ]
     ]
 
--- a lent slice at the end, by the answer: on acceptance its layout of n words holds ws, where reading went too deep it is zeroed, else nothing has
--- changed; the words past the layout never do
-unfoldable pub sliceAfter : Answer → ℕ → List ℕ → List ℕ → List ℕ
-sliceAfter (Accepted v) n ws slice = ws ++ drop n slice
-sliceAfter (TooLong v) n ws slice = slice
-sliceAfter (NotUtf8 v) n ws slice = slice
-sliceAfter (TreeTooShort v) n ws slice = slice
-sliceAfter (ErrorsTooShort v) n ws slice = slice
-sliceAfter (TooDeep v) n ws slice = replicate n 0 ++ drop n slice
-sliceAfter (IllFormed v) n ws slice = slice
-sliceAfter (OutputTooShort v) n ws slice = slice
-
 unfoldable pub marksOf : Reading → List Mark
 marksOf (read ms es) = ms
 marksOf (refused k) = []
@@ -52,6 +41,7 @@ unfoldable pub errorsOf : Reading → List Error
 errorsOf (read ms es) = es
 errorsOf (refused k) = []
 
+-- every word of the tree and of the errors at the end
 unfoldable pub treeAfter : (source tree errors : List ℕ) → List ℕ
 treeAfter s t e =
     sliceAfter (readAnswer s (length t) (length e)) (treeLayout (length s)) (treeWords (treeCapacity (length s)) (marksOf (parse maxOpen s))) t

@@ -11,7 +11,7 @@ use lib.Seq.{drop-cons, getD-take, getD-drop}
 use borrow.Author.Tests.{leb-true, ltb-true, ltb-false}
 use Rattle.syntax.specs.Marks.{Mark}
 use Rattle.syntax.specs.Layout.{count, capacity, kinds, places, markOf, marksBy, marksIn}
-use Rattle.syntax.specs.Writing.{sizesFit}
+use Rattle.syntax.specs.Tests.{sizesFit}
 use Rattle.laws.specs.Bytes.{byCase}
 
 -- the sizes of a tree, as facts

@@ -9,7 +9,6 @@ use lib.Dec.{eqb, leb, ltb}
 use lib.ListN.{length, take, drop, getD, length-append, length-drop, drop-of-length-le, List·getD-eq-default, length-take}
 use lib.Seq.{take-all, take-nil, drop-cons, getD-take, getD-drop}
 use borrow.Author.Tests.{eqb-true, leb-true, leb-false, lt-ltb, le-ltb, le-leb, lt-leb}
-use Rattle.utf8.specs.Utf8.{isBoundary}
 use Rattle.syntax.specs.Kind as Kind
 use Rattle.syntax.specs.Marks.{Mark, plain, placed, kindOf, placeOf, node, textNode}
 use Rattle.syntax.specs.Layout.{count, capacity, kinds, places, hasPlace, markOf, marksBy, marksIn}
@@ -118,11 +117,12 @@ module _ (ws : List ℕ) (fit : Sizes ws) where
   place-word i h = sym (ap firstPlace (next-mark ws fit i h) ∙ mark-place (getD ws (2 + i) 0) (getD ws (2 + capacity ws + i) 0))
 
   -- the text of a T node
-  pub text-word : (source : List ℕ) (i : ℕ) → TextAt (isBoundary source) (marksIn ws) i → textIn source ws i ≡ textOf source (nodeAt (marksIn ws) i)
+  pub text-word : {boundary : ℕ → Bool} (source : List ℕ) (i : ℕ) → TextAt boundary (marksIn ws) i → textIn source ws i ≡ textOf source (nodeAt (marksIn ws) i)
   unfolding textIn textNode textOf between firstPlace nodeAt
-  text-word source i t = go (t .at .child) (t .at .there)
+  text-word {boundary} source i t = go (t .at .child) (t .at .there)
     where
-      go : {marks : List Mark} → Child (isBoundary source) (t .kind) marks → drop i (marksIn ws) ≡ marks ++ t .at .rest → textIn source ws i ≡ textOf source (nodeAt (marksIn ws) i)
+      go : {marks : List Mark} → Child boundary (t .kind) marks → drop i (marksIn ws) ≡ marks ++ t .at .rest
+          → textIn source ws i ≡ textOf source (nodeAt (marksIn ws) i)
       go (Spec.nest left x content) there = clash (t .isText) x
       go (Spec.text a e x ba be l) there =
           let k = t .kind in

@@ -7,7 +7,7 @@ ghost use mathlib.Core.Option.{some};
 ghost use Rattle.utf8.specs.Utf8.{isBoundary};
 ghost use Rattle.syntax.specs.Kind.{namedArgument, isText};
 ghost use Rattle.syntax.specs.Layout.{markOf, marksIn};
-ghost use Rattle.syntax.specs.Writing.{sizesFit};
+ghost use Rattle.syntax.specs.Tests.{sizesFit};
 ghost use Rattle.syntax.specs.Limits.{maxOpen};
 ghost use Rattle.syntax.specs.Shape.{step, enter, stepMark, mayEnd, verdict};
 ghost use Rattle.tree.specs.Models.{Right};
@@ -19,14 +19,19 @@ use crate::models::models;
 use crate::models::needs;
 use crate::models::opens;
 use crate::models::step;
+use syntax::kind::CLOSING;
+use syntax::kind::NAMED_ARGUMENT;
+use syntax::layout::MARKS_A_BYTE;
+use syntax::layout::SIZES;
+use syntax::limits;
 
 // The largest capacity, that of a longest source's tree.
-const MAX_CAPACITY: usize = 8_000_000;
+const MAX_CAPACITY: usize = MARKS_A_BYTE * limits::MAX_LENGTH;
 
 // The most openings at one time, and the most nodes around an open one.
-const MAX_OPEN: u8 = 64;
+const MAX_OPEN: u8 = limits::MAX_OPEN as u8;
 
-const MOST_FRAMES: usize = 259;
+const MOST_FRAMES: usize = 4 * limits::MAX_OPEN + 3;
 
 // For a list that is not well formed, the first mark with which no well-formed list can begin, or the count if the list ends
 // early.
@@ -60,7 +65,7 @@ enum Step {
 pub fn sizes_fit(tree: &[u32]) -> bool
     ensures { λ r. ⌜ r ≡ sizesFit (now (tree .entry)) ⌝ }
 {
-    if tree.len() < 2 {
+    if tree.len() < SIZES {
         return false;
     }
     let count = tree[0] as usize;
@@ -71,7 +76,7 @@ pub fn sizes_fit(tree: &[u32]) -> bool
     if capacity < count {
         return false;
     }
-    2 + 2 * capacity <= tree.len()
+    SIZES + 2 * capacity <= tree.len()
 }
 
 // Opens a child that has no text, which leads the node that is open to the state `next`. That node waits on the stack.
@@ -106,7 +111,7 @@ fn leave(models: &Models, kinds: &[u8], states: &[u8], o: Open, kind: u32, place
     ensures { λ r. ⌜ ((boundary : ℕ → Bool) → outcome (now (kinds .entry)) (now (states .entry)) r ≡ stepMark boundary (stateOf (now (kinds .entry)) (now (states .entry)) (State.Between o)) (markOf kind place)) ⌝ }
 {
     let closed = o.kind;
-    if kind != 100 + closed as u32 {
+    if kind != CLOSING + closed as u32 {
         return Step::Refused;
     }
     if place != 0 {
@@ -155,7 +160,7 @@ fn stop(source: &[u8], text: u8, start: u32, o: Open, kind: u32, end: u32) -> St
     requires { ⌜ isText text ≡ true ⌝ }
     ensures { λ r. ⌜ ((kinds states : List ℕ) → outcome kinds states r ≡ stepMark (isBoundary (now (source .entry))) (stateOf kinds states (State.Within text start o)) (markOf kind end)) ⌝ }
 {
-    if kind != 100 + text as u32 {
+    if kind != CLOSING + text as u32 {
         return Step::Refused;
     }
     if end < start {
@@ -183,7 +188,7 @@ fn step_between(
     requires { ⌜ Fits (now kinds) (now states) o ⌝ }
     ensures { λ r. ⌜ outcome (now (kinds .exit)) (now (states .exit)) r ≡ stepMark (isBoundary (now (source .entry))) (stateOf (now (kinds .entry)) (now (states .entry)) (State.Between o)) (markOf kind place) ⌝ }
 {
-    if 26 < kind {
+    if NAMED_ARGUMENT < kind {
         return leave(models, &*kinds, &*states, o, kind, place);
     }
     let child = kind as u8;
@@ -254,10 +259,10 @@ pub fn check_shape(source: &[u8], tree: &[u32]) -> Shape
         depth: 0,
     });
     let count = tree[0] as usize;
-    let places = 2 + tree[1] as usize;
+    let places = SIZES + tree[1] as usize;
     let mut i = 0;
     while i < count {
-        let kind = tree[2 + i];
+        let kind = tree[SIZES + i];
         let place = tree[places + i];
         let Step::On(next) = step_mark(source, &table, &mut kinds, &mut states, state, kind, place)
         else {

@@ -4,8 +4,23 @@ ghost use Prim.Native.Nat.{_≤_};
 ghost use Rattle.syntax.specs.Kind.{namedArgument, isText};
 ghost use Rattle.syntax.specs.Shape.{step, final, opens, needs};
 ghost use Rattle.tree.specs.Models.{Right, nextOf};
+use syntax::kind;
 
-pub type Models = [[u8; 112]; 27];
+// The kinds that have a model, the list's as 0 among them; the states of a kind; the bytes of a state.
+const KINDS: usize = 1 + kind::NAMED_ARGUMENT as usize;
+
+const STATES: usize = 4;
+
+const ROW: usize = KINDS + 1;
+
+pub type Models = [[u8; STATES * ROW]; KINDS];
+
+// The kinds that the functions below test for.
+const PLACEABLE: u8 = kind::PLACEABLE as u8;
+
+const FUNCTION: u8 = kind::FUNCTION as u8;
+
+const ARGUMENTS: u8 = kind::ARGUMENTS as u8;
 
 // For each kind, and for each of the states that its children lead through, a byte for each kind of a child: '-' if no such child
 // may follow, else the state that it leads to, as a digit for a T child and as a letter from 'a' on for another. The last byte
@@ -188,7 +203,7 @@ pub fn step(models: &Models, kind: u8, state: u8, child: u8) -> Next
     requires { ⌜ child ≤ namedArgument ⌝ }
     ensures { λ r. ⌜ r ≡ nextOf (isText child) (step kind state child) ⌝ }
 {
-    let next = models[kind as usize][28 * state as usize + child as usize];
+    let next = models[kind as usize][ROW * state as usize + child as usize];
     if next == b'-' {
         return Next::Nothing;
     }
@@ -206,7 +221,7 @@ pub fn may_end(models: &Models, kind: u8, state: u8) -> bool
     requires { ⌜ state ≤ 3 ⌝ }
     ensures { λ r. ⌜ r ≡ final kind state ⌝ }
 {
-    models[kind as usize][28 * state as usize + 27] == b'+'
+    models[kind as usize][ROW * state as usize + KINDS] == b'+'
 }
 
 // The openings of '{' and '(' that a node of the kind makes: a placeable and arguments.
@@ -214,7 +229,7 @@ pub fn opens(kind: u8) -> u8
     ensures { λ r. ⌜ r ≡ opens kind ⌝ }
 {
     match kind {
-        13 | 25 => 1,
+        PLACEABLE | ARGUMENTS => 1,
         _ => 0,
     }
 }
@@ -224,7 +239,7 @@ pub fn needs(kind: u8) -> u8
     ensures { λ r. ⌜ r ≡ needs kind ⌝ }
 {
     match kind {
-        13 | 22 | 25 => 1,
+        PLACEABLE | FUNCTION | ARGUMENTS => 1,
         _ => 0,
     }
 }

@@ -1,15 +1,15 @@
 // The tests 1, 2 and 6, with which every call that is lent a source and a tree begins.
 ghost use mathlib.Core.Path.{_≡_};
-ghost use Rattle.tree.specs.Test.{tested};
+ghost use Rattle.syntax.specs.Tests.{refusal};
+ghost use Rattle.tree.specs.Test.{testedOf};
 use crate::check::Shape;
 use crate::check::check_shape;
 use crate::check::sizes_fit;
 use syntax::answer::Answer;
+use syntax::layout::NO_MARK;
+use syntax::limits::MAX_LENGTH;
 use utf8::Checked;
 use utf8::check;
-
-// The value of refusal 6 where the sizes don't fit.
-const NO_MARK: u64 = 4_294_967_295;
 
 // The refusal that a call answers, or that none is given.
 pub enum Tested {
@@ -19,10 +19,10 @@ pub enum Tested {
 
 // The refusals 1, 2 and 6 of a source and a tree, tested in this order.
 pub fn test_tree(source: &[u8], tree: &[u32]) -> Tested
-    ensures { λ r. ⌜ r ≡ tested (now (source .entry)) (now (tree .entry)) ⌝ }
+    ensures { λ r. ⌜ r ≡ testedOf (refusal (now (source .entry)) (now (tree .entry))) ⌝ }
 {
     let length = source.len();
-    if 1_000_000 < length {
+    if MAX_LENGTH < length {
         return Tested::Refused(Answer::TooLong(length as u64));
     }
     if let Checked::IllFormed(at) = check(source) {

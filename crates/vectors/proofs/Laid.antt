@@ -5,11 +5,10 @@ use mathlib.Core.Path.{_≡_, refl, sym, ap, _∙_}
 use mathlib.Core.List.{List, [], _∷_, _++_, append-assoc}
 use lib.ListN.{length, getD, take, drop, replicate, length-append, length-replicate, length-drop}
 use lib.Seq.{drop-drop, length-take-le}
-use Rattle.syntax.specs.Answer.{numberOf}
 use Rattle.syntax.specs.declared.answer.Answer.{Answer}
-use Rattle.syntax.specs.declared.answer.Answer.the-variants.{Accepted, TooLong, NotUtf8, TreeTooShort, ErrorsTooShort, TooDeep, IllFormed, OutputTooShort}
+use Rattle.syntax.specs.Answer.{numberOf, Effect, effectOf, sliceBy, sliceAfter}
 use Rattle.syntax.specs.Layout.{array}
-use Rattle.syntax.specs.Reading.{sliceAfter}
+use Rattle.laws.specs.Effect.{writes, zeroes, leaves}
 use Rattle.vectors.specs.Stored.{between, shorts}
 use Rattle.vectors.specs.Agreement.{Stores, filling, filled, laid, laidLength, left}
 use Rattle.vectors.specs.declared.compare.Arrays.{Arrays}
@@ -124,36 +123,19 @@ module _ (s : List ℕ) (n : ℕ) where
       parts s (replicate n 0) (drop n (filled (length s))) n (p ∙ ap (λ i. replicate i 0) (length-take-le n s h)) (rest-yes s n filling q)
 
 -- what the call leaves, by the number of its answer
-module _ (a : Arrays) (f g : List ℕ) (n : ℕ) where
-  pub left-laid : (r : Answer) → numberOf r ≡ 0 → left r a f g n ≡ laid a f g ++ drop (laidLength a) (filled n)
+module _ (a : Arrays) (f g : List ℕ) (n : ℕ) (r : Answer) where
+  by : {e : Effect} → effectOf r ≡ e → left r a f g n ≡ sliceBy e (laidLength a) (laid a f g) (filled n)
   unfolding left sliceAfter
-  left-laid (Accepted v) e = refl
-  left-laid (TooLong v) e = absurd (omega arith)
-  left-laid (NotUtf8 v) e = absurd (omega arith)
-  left-laid (TreeTooShort v) e = absurd (omega arith)
-  left-laid (ErrorsTooShort v) e = absurd (omega arith)
-  left-laid (TooDeep v) e = absurd (omega arith)
-  left-laid (IllFormed v) e = absurd (omega arith)
-  left-laid (OutputTooShort v) e = absurd (omega arith)
+  by h = ap (λ e. sliceBy e (laidLength a) (laid a f g) (filled n)) h
 
-  pub left-zeroed : (r : Answer) → numberOf r ≡ 5 → left r a f g n ≡ replicate (laidLength a) 0 ++ drop (laidLength a) (filled n)
-  unfolding left sliceAfter
-  left-zeroed (Accepted v) e = absurd (omega arith)
-  left-zeroed (TooLong v) e = absurd (omega arith)
-  left-zeroed (NotUtf8 v) e = absurd (omega arith)
-  left-zeroed (TreeTooShort v) e = absurd (omega arith)
-  left-zeroed (ErrorsTooShort v) e = absurd (omega arith)
-  left-zeroed (TooDeep v) e = refl
-  left-zeroed (IllFormed v) e = absurd (omega arith)
-  left-zeroed (OutputTooShort v) e = absurd (omega arith)
+  pub left-laid : numberOf r ≡ 0 → left r a f g n ≡ laid a f g ++ drop (laidLength a) (filled n)
+  unfolding sliceBy
+  left-laid e = by (writes r e)
 
-  pub left-filled : (r : Answer) → (numberOf r ≡ 0 → ⊥) → (numberOf r ≡ 5 → ⊥) → left r a f g n ≡ filled n
-  unfolding left sliceAfter
-  left-filled (Accepted v) p q = absurd (p refl)
-  left-filled (TooLong v) p q = refl
-  left-filled (NotUtf8 v) p q = refl
-  left-filled (TreeTooShort v) p q = refl
-  left-filled (ErrorsTooShort v) p q = refl
-  left-filled (TooDeep v) p q = absurd (q refl)
-  left-filled (IllFormed v) p q = refl
-  left-filled (OutputTooShort v) p q = refl
+  pub left-zeroed : numberOf r ≡ 5 → left r a f g n ≡ replicate (laidLength a) 0 ++ drop (laidLength a) (filled n)
+  unfolding sliceBy
+  left-zeroed e = by (zeroes r e)
+
+  pub left-filled : (numberOf r ≡ 0 → ⊥) → (numberOf r ≡ 5 → ⊥) → left r a f g n ≡ filled n
+  unfolding sliceBy
+  left-filled p q = by (leaves r p q)

@@ -4,10 +4,10 @@ use mathlib.Core.Path.{_≡_}
 use mathlib.Core.Bool.{Bool, true, false}
 use mathlib.Core.List.{List, _∷_, _++_}
 use lib.ListN.{length, replicate}
-use Rattle.syntax.specs.Answer.{numberOf, valueOf}
+use Rattle.syntax.specs.Answer.{numberOf, valueOf, sliceAfter}
 use Rattle.syntax.specs.declared.answer.Answer.{Answer}
 use Rattle.syntax.specs.Layout.{array, treeCapacity, groupSize}
-use Rattle.syntax.specs.Reading.{readAnswer, sliceAfter, treeAfter, errorsAfter}
+use Rattle.syntax.specs.Reading.{readAnswer, treeAfter, errorsAfter}
 use Rattle.vectors.specs.Stored.{between, shorts, Repeats}
 use Rattle.vectors.specs.declared.stored.Case.{Case}
 use Rattle.vectors.specs.declared.replay.Turn.{Turn}

@@ -4,7 +4,8 @@ use mathlib.Core.List.{[], _∷_}
 use borrow.Author.Needs.{needs}
 use Rattle.syntax.specs.Listing.{line}
 use Rattle.marks.proofs.Puts.{put-as}
-use Rattle.marks.proofs.Outcome.{reported, not-accepted, refusal, acceptance}
+use Rattle.laws.specs.Effect.{not-accepted}
+use Rattle.marks.proofs.Outcome.{reported, refusal, acceptance}
 use Rattle.marks.proofs.report.Statement.{statement}
 use Rattle.marks.proofs.report.Tie as tie
 

@@ -2,7 +2,7 @@
 use native.Mathlib.Omega.{arith}
 use borrow.Author.Tests.{le-leb, lt-leb}
 use Rattle.syntax.specs.Layout.{count, capacity}
-use Rattle.syntax.specs.Writing.{sizesFit}
+use Rattle.syntax.specs.Tests.{sizesFit}
 use borrow.Author.Needs.{needs}
 use Rattle.tree.proofs.check.sizes_fit.Statement.{statement}
 use Rattle.tree.proofs.check.sizes_fit.Tie as tie
