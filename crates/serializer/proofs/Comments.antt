@@ -2,19 +2,47 @@
 use Prim.Native.Nat.{ℕ, _+_}
 use native.Mathlib.Omega.{arith}
 use mathlib.Core.Path.{_≡_, refl, ap, _∙_}
-use mathlib.Core.Bool.{true}
+use mathlib.Core.Bool.{true, false, _&&_, _||_, not, and-eq-true-iff}
 use mathlib.Core.List.{List, [], _∷_, map}
+use mathlib.Core.Option.{some}
 use lib.ListN.{length}
+use lib.Dec.{eqb}
 use Rattle.utf8.specs.Utf8.{isBoundary}
 use Rattle.syntax.specs.Kind as Kind
 use Rattle.syntax.specs.Layout.{marksIn}
-use Rattle.syntax.specs.Shape.{start}
+use Rattle.syntax.specs.Shape.{start, among, models, step}
 use Rattle.syntax.specs.Serializer.{nodesFrom, nodes, Piece, _⊕_, each, textOf, blankLine, commentLine, comment}
+use borrow.Author.Tests.{eqb-true}
+use Rattle.laws.specs.Bytes.{byCase, clash}
+use Rattle.laws.specs.Shape.Run.{otherwise, rule}
 use Rattle.serializer.specs.declared.writer.TextWriter.{TextWriter}
 use Rattle.serializer.specs.Writer.{Room, Wrote}
-use Rattle.serializer.specs.Walk.{kindAt, nodeAt, after, innerAt, At, TextAt, Inside, CommentAt, isComment, lineOf}
+use Rattle.tree.specs.Walk.{kindAt, nodeAt, after, innerAt, At, TextAt, Inside}
+use Rattle.serializer.specs.Comment.{CommentAt, isComment, lineOf}
 use Rattle.serializer.proofs.Pieces.{row, Going, going, room-first, going-on, gone}
-use Rattle.serializer.proofs.Walk.{Next, ends, goes, next, at-kind, text-after, enter, comment-plain, comment-child}
+use Rattle.tree.proofs.Walk.{Next, ends, goes, next, at-kind, text-after, enter}
+
+-- comments: their children are lines
+pub comment-plain : (k : ℕ) → isComment k ≡ true → Kind.isText k ≡ false
+unfolding isComment among Kind.isText
+comment-plain k c =
+    byCase (eqb k Kind.comment) (one Kind.comment refl)
+    (λ e. let c₁ = otherwise _ _ c e in
+    byCase (eqb k Kind.groupComment) (one Kind.groupComment refl)
+    (λ e. let c₂ = otherwise _ _ c₁ e in
+    byCase (eqb k Kind.resourceComment) (one Kind.resourceComment refl)
+    (λ e. let c₃ = otherwise _ _ c₂ e in
+    byCase (eqb k Kind.attachedComment) (one Kind.attachedComment refl) (λ e. clash (otherwise _ _ c₃ e) refl))))
+  where
+    one : (n : ℕ) → Kind.isText n ≡ false → eqb k n ≡ true → Kind.isText k ≡ false
+    one n h e = rw (eqb-true k n e) h
+
+pub comment-child : (k q j r : ℕ) → isComment k ≡ true → step k q j ≡ some r → (j ≡ Kind.commentLine) × (r ≡ start)
+unfolding isComment among models
+comment-child k q j r c s =
+    let t = otherwise (not (isComment k)) (eqb j Kind.commentLine && eqb r start) (rule (λ k q j r. not (isComment k) || (eqb j Kind.commentLine && eqb r start)) refl k q j r s) (ap not c) in
+    let b = and-eq-true-iff (eqb j Kind.commentLine) (eqb r start) .0 t in
+    (eqb-true j Kind.commentLine (b .0), eqb-true r start (b .1))
 
 -- each of a list, as a row
 pub each-row : {A : Type 0} (f : A → Piece) (xs : List A) → each f xs ≡ row (map f xs)

@@ -18,14 +18,13 @@ use Rattle.laws.specs.Bytes.{byCase, clash}
 use Rattle.laws.specs.Shape.Run.{otherwise, child-rule}
 use Rattle.laws.specs.Text.{expressionOf, selectOf, variantOf, inlineOf, separatedOf, argumentOf}
 use Rattle.laws.specs.Text as Text
-use Rattle.serializer.specs.Walk.{kindAt, nodeAt, after, innerAt, At, TextAt, OneAt, Open}
-use Rattle.serializer.specs.Serialize.{variants, arguments, references, patternIn, selectIn, argumentsIn, variantLines, sigil, quoted, referenceOf, keyAt, argumentName, oneIf, Call, Named}
-use Rattle.serializer.specs.Serialize as Spec
+use Rattle.tree.specs.Walk.{kindAt, nodeAt, after, innerAt, At, TextAt, OneAt, Open, variants, arguments, references, Call}
+use Rattle.tree.specs.Walk as Spec
+use Rattle.serializer.specs.Serialize.{patternIn, selectIn, argumentsIn, variantLines, sigil, quoted, referenceOf, keyAt, argumentName, oneIf, Named}
 use Rattle.serializer.proofs.Pieces.{Row, one, two, three, four, row-same, then-assoc, empty-then}
-use Rattle.serializer.proofs.Walk.{at-kind, node-kind, enter, Entered}
-use Rattle.serializer.proofs.Children.{must, only, at-as, others, keeps, omits}
-use Rattle.serializer.proofs.Variants.{Pair, variant-pair, argument-pair}
-use Rattle.serializer.proofs.Parts.{Held, held}
+use Rattle.tree.proofs.Walk.{at-kind, node-kind, enter, Entered}
+use Rattle.tree.proofs.Children.{must, only, at-as, others, keeps, omits}
+use Rattle.tree.proofs.Contents.{Pair, variant-pair, argument-pair, Held, held}
 
 -- an inline expression
 module _ (source : List ℕ) {boundary : ℕ → Bool} {ms : List Mark} {i : ℕ} (a : OneAt boundary inline ms i) where

@@ -1,10 +1,7 @@
 -- What the proofs of the functions share.
 pub mod Pieces
 pub mod Texts
-pub mod Walk
 pub mod Comments
-pub mod Skips
-pub mod Children
 pub mod Patterns
 pub mod References
 pub mod Variants

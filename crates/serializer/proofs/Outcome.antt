@@ -1,5 +1,5 @@
 -- What the writing call leaves in its output: the text and what was there after it, or all that was there.
-use Prim.Native.Nat.{ℕ, _+_, _≤_, _<_}
+use Prim.Native.Nat.{ℕ, _≤_, _<_}
 use native.Mathlib.Omega.{arith}
 use mathlib.Core.Path.{_≡_, ap, _∙_}
 use mathlib.Core.Bool.{Bool, false}
@@ -17,10 +17,10 @@ use Rattle.syntax.specs.Writing.{textAnswer, writeAnswer, outputAfter}
 use Rattle.laws.specs.Tests.{passes, refusal-keeps}
 use Rattle.laws.specs.Sets.{sets-nothing, sets-first}
 use Rattle.laws.specs.Text.Length.{text-short}
-use Rattle.shape.specs.declared.test.Tested.the-variants.{Refused, Passed}
-use Rattle.shape.specs.Test.{testedOf}
-use Rattle.shape.proofs.Sizes.{sizes, no-mark}
-use Rattle.shape.proofs.Tests.{refusal-of, none-of}
+use Rattle.tree.specs.declared.test.Tested.the-variants.{Refused, Passed}
+use Rattle.tree.specs.Test.{testedOf}
+use Rattle.tree.proofs.Sizes.{sizes, no-mark}
+use Rattle.tree.proofs.Tests.{refusal-of, none-of}
 use Rattle.serializer.specs.declared.writer.TextWriter.{TextWriter}
 use Rattle.serializer.specs.Writer.{begun, Room, Wrote}
 use Rattle.serializer.specs.Call.{Writable, DidWriteInto, DidWrite}

@@ -5,21 +5,21 @@ use mathlib.Core.Path.{_≡_, refl, sym, ap, _∙_}
 use mathlib.Core.Bool.{Bool, true, false, _&&_, not}
 use mathlib.Core.List.{List, [], _∷_}
 use lib.Dec.{eqb}
-use lib.ListN.{length}
 use borrow.Author.Tests.{eqb-true, eq-eqb, ne-eqb}
 use Rattle.syntax.specs.Kind as Kind
 use Rattle.syntax.specs.Bytes.{ascii}
 use Rattle.syntax.specs.Marks.{Mark}
-use Rattle.syntax.specs.Shape.{among, models, finalBy, final, inline}
-use Rattle.syntax.specs.Serializer.{Node, nodesFrom, nodes, Piece, _⊕_, literal, newline, indented, each, first, name, leadingDot, isMultiline}
+use Rattle.syntax.specs.Shape.{among, inline}
+use Rattle.syntax.specs.Serializer.{Node, nodes, Piece, _⊕_, literal, newline, indented, each, first, name, leadingDot, isMultiline}
 use Rattle.laws.specs.Bytes.{byCase}
 use Rattle.laws.specs.Text.{elementOf, inBracesOf, expressionOf, inlineOf}
 use Rattle.laws.specs.Text as Text
-use Rattle.serializer.specs.Walk.{kindAt, nodeAt, after, innerAt, At, OneAt, elements}
-use Rattle.serializer.specs.Serialize.{expressions, patternIn, selectIn, patternStart, openingBraces, closingBraces, bracesOf}
+use Rattle.tree.specs.Walk.{kindAt, nodeAt, after, innerAt, At, OneAt, elements, expressions}
+use Rattle.serializer.specs.Serialize.{patternIn, selectIn, patternStart, openingBraces, closingBraces, bracesOf}
 use Rattle.serializer.proofs.Pieces.{Row, two, three, row-same, within}
-use Rattle.serializer.proofs.Walk.{at-kind, node-kind, enter, Entered}
-use Rattle.serializer.proofs.Children.{must, none, only, at-as, others}
+use Rattle.tree.proofs.Walk.{at-kind, node-kind, enter, Entered}
+use Rattle.tree.proofs.Children.{only, at-as, others}
+use Rattle.tree.proofs.Contents.{Held, held}
 use Rattle.serializer.proofs.Patterns.{element-placeable}
 
 module _ (source : List ℕ) {boundary : ℕ → Bool} {ms : List Mark} {i : ℕ} where
@@ -51,24 +51,6 @@ module _ (source : List ℕ) {boundary : ℕ → Bool} {ms : List Mark} {i : ℕ
     pub expression-inline : (kindAt ms i ≡ Kind.select → ⊥) → OneAt boundary inline ms i × (expressionOf source (nodeAt ms i) ≡ inlineOf source (nodeAt ms i))
     expression-inline h =
         (others a h, Text.expression-is source (nodeAt ms i) ∙ rw (ne-eqb (nodeAt ms i .kind) Kind.select (λ e. h (at-kind (a .at) ∙ sym (node-kind (a .at)) ∙ e))))
-
--- a placeable, with the expression in it
-pub record Held (boundary : ℕ → Bool) (ms : List Mark) (i : ℕ) : Type 0 where
-  pub child : OneAt boundary expressions ms (i + 1)
-  pub all : nodes (nodeAt ms i .inner) ≡ nodeAt ms (i + 1) ∷ []
-  pub till : after ms (i + 1) + 1 ≡ after ms i
-
-pub held : {boundary : ℕ → Bool} {ms : List Mark} {i : ℕ} → At boundary ms i Kind.placeable → Held boundary ms i
-unfolding Kind.isText among models finalBy final nodes nodesFrom
-held {ms = ms} {i} a =
-    let m = enter a refl in
-    let f = must expressions 1 refl refl (m .first) in
-    let z = none 0 refl (f .on) in
-    record {
-      child = f .child;
-      all = ap nodes (sym (m .inner)) ∙ f .split ∙ ap (λ r. nodeAt ms (i + 1) ∷ nodes r) z;
-      till = omega (arith, m .behind, f .till, ap length z);
-    }
 
 -- a pattern's placeable, with so many marks for its braces before and behind the expression
 pub record Braced (source : List ℕ) (boundary : ℕ → Bool) (ms : List Mark) (i n : ℕ) (opening closing : List ℕ) : Type 0 where

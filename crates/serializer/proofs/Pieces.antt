@@ -17,7 +17,7 @@ use Rattle.syntax.specs.Marks.{Mark}
 use Rattle.syntax.specs.Serializer.{Piece, lastOf, _⊕_, empty, indentWidth, literal, newline, indented, star, if, blankLine, comment, freeComment}
 use Rattle.serializer.specs.declared.writer.TextWriter.{TextWriter}
 use Rattle.serializer.specs.Writer.{textAt, bytes, Room, Wrote}
-use Rattle.serializer.specs.Walk.{lineOf}
+use Rattle.serializer.specs.Comment.{lineOf}
 use Rattle.serializer.specs.Serialize.{oneIf, raise, lower}
 
 lastOf-append : (b : ℕ) (s t : List ℕ) → lastOf b (s ++ t) ≡ lastOf (lastOf b s) t

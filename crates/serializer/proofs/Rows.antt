@@ -12,12 +12,12 @@ use Rattle.syntax.specs.Tests.{sizesFit}
 use Rattle.syntax.specs.Serializer.{Node, nodesFrom, nodes, Piece, _⊕_, empty}
 use Rattle.serializer.specs.declared.serializer.Serializer.{Serializer}
 use Rattle.serializer.specs.Writer.{Wrote}
-use Rattle.serializer.specs.Walk.{kindAt, nodeAt, after, innerAt, Open}
+use Rattle.tree.specs.Walk.{kindAt, nodeAt, after, innerAt, Open}
 use Rattle.serializer.specs.Serialize.{Ready, Done, ReadyIn}
-use Rattle.shape.proofs.Sizes.{sizes}
+use Rattle.tree.proofs.Sizes.{sizes}
 use Rattle.serializer.proofs.Pieces.{Going, going, going-as, going-on, gone, room-first, one, two, row-same}
-use Rattle.serializer.proofs.Walk.{inside-count}
-use Rattle.serializer.proofs.Children.{Has, goes-on, goes-out}
+use Rattle.tree.proofs.Walk.{inside-count}
+use Rattle.tree.proofs.Children.{Has, goes-on, goes-out}
 
 -- With the children that are left written, which is P of them, the whole is.
 pub record Rows (source tree : List ℕ) (k q : ℕ) (whole : Piece) (P : List Node → Piece) (o₀ o : List ℕ) (s₀ s : Serializer) : Type 0 where

@@ -1,6 +1,6 @@
 -- What the contracts of the writer cite.
 pub mod Writer
-pub mod Walk
+pub mod Comment
 pub mod Serialize
 pub mod Message
 pub mod Resource

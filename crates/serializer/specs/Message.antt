@@ -14,7 +14,7 @@ use Rattle.syntax.specs.Shape.{named, among}
 use Rattle.syntax.specs.Serializer.{Node, nodes, Piece, _⊕_, literal, each, ofKind, name, message}
 use Rattle.serializer.specs.declared.serializer.Serializer.{Serializer}
 use Rattle.serializer.specs.Writer.{Room}
-use Rattle.serializer.specs.Walk.{innerAt, Inside}
+use Rattle.tree.specs.Walk.{innerAt, Inside}
 use Rattle.serializer.specs.Serialize.{patternIn}
 
 module _ (source : List ℕ) where

@@ -2,7 +2,7 @@
 use Prim.Native.Nat.{ℕ, _+_, _-_, _≤_}
 use mathlib.Core.Path.{_≡_}
 use mathlib.Core.Bool.{Bool, true, false}
-use mathlib.Core.List.{List, [], _∷_}
+use mathlib.Core.List.{List}
 use lib.Dec.{eqb}
 use lib.ListN.{length}
 use Rattle.utf8.specs.Utf8.{isBoundary}
@@ -11,26 +11,12 @@ use Rattle.syntax.specs.Bytes.{ascii}
 use Rattle.syntax.specs.Marks.{Mark}
 use Rattle.syntax.specs.Layout.{marksIn}
 use Rattle.syntax.specs.Tests.{sizesFit}
-use Rattle.syntax.specs.Shape.{inline}
 use Rattle.syntax.specs.Serializer.{Node, nodes, Piece, _⊕_, literal, newline, star, each, if, ofKind, name, reference}
 use Rattle.laws.specs.Text.{patternOf, selectOf, variantOf, argumentsOf}
 use Rattle.serializer.specs.declared.serializer.Serializer.{Serializer}
 use Rattle.serializer.specs.declared.writer.TextWriter.{TextWriter}
 use Rattle.serializer.specs.Writer.{Room, Wrote}
-use Rattle.serializer.specs.Walk.{kindAt, nodeAt, after, innerAt, At, OneAt, Open}
-
--- the kinds of expressions, of variants, of arguments, of references
-abbrev pub expressions : List ℕ
-expressions = Kind.select ∷ inline
-
-abbrev pub variants : List ℕ
-variants = Kind.variant ∷ Kind.defaultVariant ∷ []
-
-abbrev pub arguments : List ℕ
-arguments = Kind.namedArgument ∷ inline
-
-abbrev pub references : List ℕ
-references = Kind.variable ∷ Kind.function ∷ Kind.messageReference ∷ Kind.termReference ∷ []
+use Rattle.tree.specs.Walk.{kindAt, nodeAt, after, innerAt, OneAt, Open, Call}
 
 -- A node of one of the kinds ks is next, and there is room for its piece, f of it. The indent is at most the mark, since each
 -- level of it has a node around.
@@ -125,11 +111,6 @@ module _ (source : List ℕ) where
   -- an argument's name
   unfoldable pub argumentName : Node → Piece
   argumentName n = name source n ⊕ literal (ascii ": ")
-
--- of the node that is open at the mark m nothing is left, or arguments alone
-pub data Call (boundary : ℕ → Bool) (ms : List Mark) (m : ℕ) : Type 0 where
-  none : Kind.closing 0 ≤ kindAt ms m → innerAt ms m ≡ [] → Call boundary ms m
-  some : At boundary ms m Kind.arguments → nodes (innerAt ms m) ≡ nodeAt ms m ∷ [] → m + length (innerAt ms m) ≡ after ms m → Call boundary ms m
 
 -- at the mark m, after the names of the reference at the mark i
 pub record Named (source tree : List ℕ) (i m : ℕ) : Type 0 where

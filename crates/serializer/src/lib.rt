@@ -2,5 +2,6 @@
 mod message;
 mod resource;
 mod serializer;
+mod walk;
 pub mod write;
 mod writer;

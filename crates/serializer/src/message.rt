@@ -10,16 +10,13 @@ ghost use Rattle.syntax.specs.Shape.{named};
 ghost use Rattle.syntax.specs.Tests.{sizesFit};
 ghost use Rattle.syntax.specs.Serializer.{nodes, attribute, attributes};
 ghost use Rattle.serializer.specs.Writer.{Room, Wrote};
-ghost use Rattle.serializer.specs.Walk.{nodeAt, innerAt, TextAt};
+ghost use Rattle.tree.specs.Walk.{nodeAt, innerAt, TextAt};
 ghost use Rattle.serializer.specs.Serialize.{Ready, Went, Done, DoneIn};
 ghost use Rattle.serializer.specs.Message.{naming, values, messageIn, termIn, ReadyFor, Valued};
 use crate::serializer::Serializer;
-use crate::serializer::kind_at;
-
-// The kinds that the code tests for.
-const ATTRIBUTE: u32 = 10;
-
-const PATTERN: u32 = 11;
+use crate::walk::kind_at;
+use syntax::kind::ATTRIBUTE;
+use syntax::kind::PATTERN;
 
 impl Serializer {
     // The name of a message, of a term or of an attribute, and the equals sign; the value is next.

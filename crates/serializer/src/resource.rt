@@ -12,10 +12,18 @@ ghost use Rattle.syntax.specs.Tests.{sizesFit};
 ghost use Rattle.syntax.specs.Serializer.{nodes, entry, wroteBy, resource};
 ghost use Rattle.serializer.specs.Writer.{begun, Room, Wrote};
 ghost use Rattle.serializer.specs.Serialize.{Ready, Done};
-ghost use Rattle.serializer.specs.Resource.{entries, junkIn};
+ghost use Rattle.tree.specs.Walk.{entries};
+ghost use Rattle.serializer.specs.Resource.{junkIn};
 use crate::serializer::Serializer;
-use crate::serializer::kind_at;
+use crate::walk::kind_at;
 use crate::writer::TextWriter;
+use syntax::kind::ATTACHED_COMMENT;
+use syntax::kind::COMMENT;
+use syntax::kind::GROUP_COMMENT;
+use syntax::kind::JUNK;
+use syntax::kind::MESSAGE;
+use syntax::kind::RESOURCE_COMMENT;
+use syntax::kind::TERM;
 
 impl Serializer {
     // Junk, which is passed over where it is not asked for.
@@ -33,24 +41,25 @@ impl Serializer {
         }
     }
 
+    // `wrote` says that an entry that is no junk was written last.
     fn serialize_entry(
         self,
         source: &[u8],
         tree: &[u32],
         output: &mut [u8],
         with_junk: bool,
-        wrote_non_junk_entry: bool,
+        wrote: bool,
     ) -> Self
-        requires { ⌜ Ready (now source) (now tree) self entries (entry (now source) «with_junk» «wrote_non_junk_entry») ⌝ }
-        ensures { λ r. ⌜ Done (now (tree .entry)) (now (output .entry)) (now (output .exit)) self r (entry (now (source .entry)) «with_junk» «wrote_non_junk_entry») ⌝ }
+        requires { ⌜ Ready (now source) (now tree) self entries (entry (now source) «with_junk» wrote) ⌝ }
+        ensures { λ r. ⌜ Done (now (tree .entry)) (now (output .entry)) (now (output .exit)) self r (entry (now (source .entry)) «with_junk» wrote) ⌝ }
     {
         match kind_at(tree, self.mark) {
-            1 => self.serialize_message(source, tree, output),
-            2 => self.serialize_term(source, tree, output),
-            3 => self.serialize_free_comment(source, tree, output, b"#", wrote_non_junk_entry),
-            4 => self.serialize_free_comment(source, tree, output, b"##", wrote_non_junk_entry),
-            5 => self.serialize_free_comment(source, tree, output, b"###", wrote_non_junk_entry),
-            6 => self.serialize_comment(source, tree, output, b"#"),
+            MESSAGE => self.serialize_message(source, tree, output),
+            TERM => self.serialize_term(source, tree, output),
+            COMMENT => self.serialize_free_comment(source, tree, output, b"#", wrote),
+            GROUP_COMMENT => self.serialize_free_comment(source, tree, output, b"##", wrote),
+            RESOURCE_COMMENT => self.serialize_free_comment(source, tree, output, b"###", wrote),
+            ATTACHED_COMMENT => self.serialize_comment(source, tree, output, b"#"),
             _ => self.serialize_junk(source, tree, output, with_junk),
         }
     }
@@ -61,8 +70,8 @@ fn wrote_by(wrote_non_junk_entry: bool, kind: u32) -> bool
     ensures { λ r. ⌜ r ≡ wroteBy [] «wrote_non_junk_entry» kind ⌝ }
 {
     match kind {
-        7 => false,
-        6 => wrote_non_junk_entry,
+        JUNK => false,
+        ATTACHED_COMMENT => wrote_non_junk_entry,
         _ => true,
     }
 }

@@ -9,39 +9,32 @@ ghost use Rattle.utf8.specs.Utf8.{isBoundary};
 ghost use Rattle.syntax.specs.Byte as Byte;
 ghost use Rattle.syntax.specs.Kind as Kind;
 ghost use Rattle.syntax.specs.Bytes.{ascii};
-ghost use Rattle.syntax.specs.Layout.{count, marksIn};
+ghost use Rattle.syntax.specs.Layout.{marksIn};
 ghost use Rattle.syntax.specs.Tests.{sizesFit};
 ghost use Rattle.syntax.specs.Shape.{inline};
-ghost use Rattle.syntax.specs.Serializer.{Node, nodes, if, literal, newline, star, blankLine, hasNewline, isSelect, multilineElement, isMultiline, leadingDot, textOf, name, comment, freeComment};
+ghost use Rattle.syntax.specs.Serializer.{Node, nodes, if, literal, newline, star, blankLine, hasNewline, isSelect, multilineElement, isMultiline, leadingDot, name, comment, freeComment};
 ghost use Rattle.laws.specs.Text.{elementOf, expressionOf, variantOf, inlineOf};
 ghost use Rattle.serializer.specs.Writer.{Room, Wrote};
-ghost use Rattle.serializer.specs.Walk.{kindAt, nodeAt, after, At, NodeAt, TextAt, CommentAt, OneAt, elements, lineOf};
-ghost use Rattle.serializer.specs.Serialize.{expressions, variants, references, oneIf, lower, Ready, Went, Done, Begun, patternIn, selectIn, argumentsIn, patternStart, openingBraces, closingBraces, bracesOf, sigil, quoted, referenceOf, keyAt, argumentName, Named};
+ghost use Rattle.tree.specs.Walk.{nodeAt, after, At, NodeAt, TextAt, OneAt, elements, expressions, variants, references};
+ghost use Rattle.serializer.specs.Comment.{CommentAt, lineOf};
+ghost use Rattle.serializer.specs.Serialize.{oneIf, lower, Ready, Went, Done, Begun, patternIn, selectIn, argumentsIn, patternStart, openingBraces, closingBraces, bracesOf, sigil, quoted, referenceOf, keyAt, argumentName, Named};
+use crate::walk::kind_at;
+use crate::walk::text_at;
 use crate::writer::TextWriter;
-
-// The kinds that the code tests for.
-const COMMENT_LINE: u32 = 8;
-
-const IDENTIFIER: u32 = 9;
-
-const TEXT: u32 = 12;
-
-const PLACEABLE: u32 = 13;
-
-const SELECT: u32 = 14;
-
-const DEFAULT_VARIANT: u32 = 16;
-
-const STRING: u32 = 19;
-
-const NUMBER: u32 = 20;
-
-const ARGUMENTS: u32 = 25;
-
-const NAMED_ARGUMENT: u32 = 26;
-
-// The kind from which on a mark closes a node.
-const CLOSING: u32 = 100;
+use syntax::kind::ARGUMENTS;
+use syntax::kind::CLOSING;
+use syntax::kind::COMMENT_LINE;
+use syntax::kind::DEFAULT_VARIANT;
+use syntax::kind::IDENTIFIER;
+use syntax::kind::NAMED_ARGUMENT;
+use syntax::kind::NUMBER;
+use syntax::kind::PLACEABLE;
+use syntax::kind::SELECT;
+use syntax::kind::STRING;
+use syntax::kind::TERM_REFERENCE;
+use syntax::kind::TEXT;
+use syntax::kind::VARIABLE;
+use tree::marks::after_node;
 
 // Where the serializer stands: in the text, and in the marks.
 pub struct Serializer {
@@ -114,35 +107,15 @@ fn has_newline(text: &[u8]) -> bool
     has_newline_at(text, last)
 }
 
-pub fn kind_at(tree: &[u32], mark: usize) -> u32
-    requires { ⌜ sizesFit (now tree) ≡ true ⌝ }
-    requires { ⌜ mark < count (now tree) ⌝ }
-    ensures { λ r. ⌜ r ≡ kindAt (marksIn (now (tree .entry))) mark ⌝ }
-{
-    tree[2 + mark]
-}
-
-// The text of the T node that starts at a mark.
-fn text_at<'a>(source: &'a [u8], tree: &[u32], mark: usize) -> &'a [u8]
-    requires { ⌜ sizesFit (now tree) ≡ true ⌝ }
-    requires { ⌜ TextAt (isBoundary (now source)) (marksIn (now tree)) mark ⌝ }
-    ensures { λ r. ⌜ now r ≡ textOf (now (source .entry)) (nodeAt (marksIn (now (tree .entry))) mark) ⌝ }
-{
-    let places = 2 + tree[1] as usize;
-    let start = tree[places + mark] as usize;
-    let end = tree[places + mark + 1] as usize;
-    &source[start..end]
-}
-
-// Whether the expression at a mark is a select (14), or a placeable (13) around one, at any depth.
+// Whether the expression at a mark is a select, or a placeable around one, at any depth.
 fn is_select_expr(tree: &[u32], mark: usize) -> bool
     requires { ⌜ sizesFit (now tree) ≡ true ⌝ }
     requires { ⌜ NodeAt (marksIn (now tree)) mark ⌝ }
     ensures { λ r. ⌜ ((source : List ℕ) (n : ℕ) (more : List Node) → length (nodeAt (marksIn (now (tree .entry))) mark .inner) < n → r ≡ isSelect source n (nodeAt (marksIn (now (tree .entry))) mark ∷ more)) ⌝ }
 {
     match kind_at(tree, mark) {
-        14 => true,
-        13 => is_select_expr(tree, mark + 1),
+        SELECT => true,
+        PLACEABLE => is_select_expr(tree, mark + 1),
         _ => false,
     }
 }
@@ -162,25 +135,6 @@ fn has_leading_text_dot(source: &[u8], tree: &[u32], mark: usize) -> bool
         return false;
     }
     text[0] == b'.'
-}
-
-// The mark after the node that starts at a mark.
-fn after_node(tree: &[u32], mark: usize) -> usize
-    requires { ⌜ sizesFit (now tree) ≡ true ⌝ }
-    requires { ⌜ NodeAt (marksIn (now tree)) mark ⌝ }
-    ensures { λ r. ⌜ r ≡ after (marksIn (now (tree .entry))) mark ⌝ }
-{
-    let mut depth: usize = 1;
-    let mut next = mark + 1;
-    while 0 < depth {
-        if kind_at(tree, next) < CLOSING {
-            depth += 1;
-        } else {
-            depth -= 1;
-        }
-        next += 1;
-    }
-    next
 }
 
 // Whether the element at a mark is a text with a newline, or a select.
@@ -288,8 +242,8 @@ fn write_sigil(writer: TextWriter, output: &mut [u8], kind: u32) -> TextWriter
     ensures { λ r. ⌜ Wrote (now (output .entry)) (now (output .exit)) writer r (sigil kind) ⌝ }
 {
     match kind {
-        21 => writer.write_literal(output, b"$"),
-        24 => writer.write_literal(output, b"-"),
+        VARIABLE => writer.write_literal(output, b"$"),
+        TERM_REFERENCE => writer.write_literal(output, b"-"),
         _ => writer,
     }
 }

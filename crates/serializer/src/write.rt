@@ -3,9 +3,9 @@ ghost use Rattle.syntax.specs.Layout.{marksIn};
 ghost use Rattle.syntax.specs.Serializer.{serialize};
 ghost use Rattle.serializer.specs.Call.{Writable, DidWrite, DidWriteInto};
 use crate::resource::serialize_resource;
-use shape::test::Tested;
-use shape::test::test_tree;
 use syntax::answer::Answer;
+use tree::test::Tested;
+use tree::test::test_tree;
 
 // Writes the normal text of a tree into an output that is lent, with its junk if so asked. The tests come in the order of the
 // refusals 1, 2, 6 and 7.

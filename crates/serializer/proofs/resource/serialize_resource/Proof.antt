@@ -6,8 +6,8 @@ use mathlib.Core.Path.{ap, _∙_}
 use mathlib.Core.List.{[]}
 use Rattle.syntax.specs.Layout.{count, capacity}
 use Rattle.syntax.specs.Serializer.{wroteBy}
-use Rattle.serializer.specs.Walk.{after}
-use Rattle.shape.proofs.Sizes.{sizes}
+use Rattle.tree.specs.Walk.{after}
+use Rattle.tree.proofs.Sizes.{sizes}
 use Rattle.serializer.proofs.Pieces.{wrote-length}
 use Rattle.serializer.proofs.TopLevel.{Entries, entries-first, entry-next, entries-done}
 use Rattle.serializer.proofs.resource.serialize_resource.Statement.{statement}

@@ -5,12 +5,13 @@ use mathlib.Core.Path.{sym, _∙_}
 use borrow.Fn.Kinds.{In}
 use borrow.Fn.PlainCycle.{Measures, is, falls, and}
 use Rattle.syntax.specs.Layout.{count}
-use Rattle.shape.proofs.Sizes.{sizes}
-use Rattle.serializer.proofs.Walk.{at-count, at-kind, select-here, select-within, select-other}
+use Rattle.tree.proofs.Sizes.{sizes}
+use Rattle.tree.proofs.Walk.{at-count, at-kind}
+use Rattle.serializer.proofs.Patterns.{select-here, select-within, select-other}
 use Rattle.serializer.proofs.serializer.is_select_expr.Reads as is-select-expr
 use Rattle.serializer.proofs.serializer.is_select_expr.Kinds as is-select-expr-kinds
 use Rattle.serializer.proofs.serializer.+is_select_expr.Lts-is_select_expr as is-select-expr-lts
-use Rattle.serializer.proofs.serializer.kind_at.Reads as kind-at-reads
+use Rattle.serializer.proofs.walk.kind_at.Reads as kind-at-reads
 use Rattle.serializer.proofs.serializer.+is_select_expr.{statement}
 use Rattle.serializer.proofs.serializer.+is_select_expr.Tie.{close}
 

@@ -3,9 +3,10 @@ use native.Mathlib.Omega.{arith}
 use borrow.Author.Needs.{needs}
 use mathlib.Core.Path.{sym, _∙_}
 use Rattle.syntax.specs.Byte as Byte
-use Rattle.shape.proofs.Sizes.{sizes}
+use Rattle.tree.proofs.Sizes.{sizes}
 use Rattle.serializer.proofs.Texts.{starts-none, starts-byte}
-use Rattle.serializer.proofs.Walk.{at-count, inside-count, pattern-first, no-leading, leading}
+use Rattle.tree.proofs.Walk.{at-count, inside-count}
+use Rattle.serializer.proofs.Patterns.{pattern-first, no-leading, leading}
 use Rattle.serializer.proofs.serializer.has_leading_text_dot.Statement.{statement}
 use Rattle.serializer.proofs.serializer.has_leading_text_dot.Tie as tie
 

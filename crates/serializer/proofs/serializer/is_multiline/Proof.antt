@@ -7,9 +7,10 @@ use Rattle.syntax.specs.Kind as Kind
 use Rattle.syntax.specs.Layout.{count, marksIn}
 use Rattle.syntax.specs.Shape.{start}
 use Rattle.syntax.specs.Serializer.{nodes, isMultiline}
-use Rattle.serializer.specs.Walk.{kindAt, nodeAt, after, innerAt, Open}
-use Rattle.shape.proofs.Sizes.{sizes}
-use Rattle.serializer.proofs.Walk.{at-count, inside-count, enter}
+use Rattle.tree.specs.Walk.{kindAt, nodeAt, after, innerAt, Open}
+use Rattle.tree.proofs.Sizes.{sizes}
+use Rattle.tree.proofs.Walk.{at-count, inside-count, enter}
+use Rattle.tree.proofs.Words.{after-word}
 use Rattle.serializer.proofs.Patterns.{element-next, multiline-first, multiline-later, multiline-none}
 use Rattle.serializer.proofs.serializer.is_multiline.Statement.{statement}
 use Rattle.serializer.proofs.serializer.is_multiline.Tie as tie
@@ -40,21 +41,25 @@ returns c =
     sym (c .before .before .before .before .loop .inv .1 ∙ multiline-first (c .before .before .before .before .loop .inv .0) (c .before .before .before .before .before .before .before .args .source .now) (omega (arith, c .before .before .before .kind-at .ensures, c .before .before .if1 .taken)) (sym (c .before .is-multiline-element .ensures) ∙ c .if2 .taken))
 
 after-node-requires : tie.Need-after-node-requires Inv-loop μ-loop
-after-node-requires c κs =
-    let a = element-next (c .before .before .before .before .loop .inv .0) (omega (arith, c .before .before .before .kind-at .ensures, c .before .before .if1 .taken)) .follows .child in
-    (c .before .before .before .before .before .before .before .pre .0, record { boundary = isBoundary (c .before .before .before .before .before .before .before .args .source .now); kind = a .kind; at = a .at })
+after-node-requires c κs = tt
 
 loop-less : tie.Need-loop-less Inv-loop μ-loop
 unfolding after
-loop-less c = omega (arith, inside-count (c .before .before .before .before .before .before .before .before .args .tree .now) (sizes (c .before .before .before .before .before .before .before .before .args .tree .now) (c .before .before .before .before .before .before .before .before .pre .0)) (c .before .before .before .before .before .loop .inv .0 .here), c .after-node .ensures)
+loop-less c =
+    let tree = c .before .before .before .before .before .before .before .before .args .tree .now in
+    let fit = sizes tree (c .before .before .before .before .before .before .before .before .pre .0) in
+    let g = element-next (c .before .before .before .before .before .loop .inv .0) (omega (arith, c .before .before .before .before .kind-at .ensures, c .before .before .before .if1 .taken)) in
+    omega (arith, inside-count tree fit (c .before .before .before .before .before .loop .inv .0 .here), c .after-node .ensures, after-word tree fit (g .follows .child .at))
 
 loop-again : tie.Need-loop-again Inv-loop μ-loop
 loop-again c =
-    let l : kindAt (marksIn (c .before .before .before .before .before .before .before .before .args .tree .now)) (c .before .before .before .before .before .loop .next) < Kind.closing 0 = omega (arith, c .before .before .before .before .kind-at .ensures, c .before .before .before .if1 .taken) in
+    let source = c .before .before .before .before .before .before .before .before .args .source .now in
+    let tree = c .before .before .before .before .before .before .before .before .args .tree .now in
+    let l : kindAt (marksIn tree) (c .before .before .before .before .before .loop .next) < Kind.closing 0 = omega (arith, c .before .before .before .before .kind-at .ensures, c .before .before .before .if1 .taken) in
     let g = element-next (c .before .before .before .before .before .loop .inv .0) l in
-    rw (c .after-node .ensures) (
+    rw (c .after-node .ensures ∙ after-word tree (sizes tree (c .before .before .before .before .before .before .before .before .pre .0)) (g .follows .child .at)) (
       record { state = g .state; least = g .least; here = g .follows .on },
-      c .before .before .before .before .before .loop .inv .1 ∙ multiline-later (c .before .before .before .before .before .loop .inv .0) (c .before .before .before .before .before .before .before .before .args .source .now) l (sym (c .before .before .is-multiline-element .ensures) ∙ c .before .if2 .left),
+      c .before .before .before .before .before .loop .inv .1 ∙ multiline-later (c .before .before .before .before .before .loop .inv .0) source l (sym (c .before .before .is-multiline-element .ensures) ∙ c .before .if2 .left),
     )
 
 returns-2 : tie.Need-returns-2 Inv-loop μ-loop

@@ -4,8 +4,8 @@ use borrow.Author.Needs.{needs}
 use mathlib.Core.Path.{sym, ap, _∙_}
 use mathlib.Core.List.{[]}
 use Rattle.syntax.specs.Serializer.{hasNewline}
-use Rattle.shape.proofs.Sizes.{sizes}
-use Rattle.serializer.proofs.Walk.{at-count}
+use Rattle.tree.proofs.Sizes.{sizes}
+use Rattle.tree.proofs.Walk.{at-count}
 use Rattle.serializer.proofs.Patterns.{element-text, multiline-text, multiline-placeable}
 use Rattle.serializer.proofs.serializer.is_multiline_element.Statement.{statement}
 use Rattle.serializer.proofs.serializer.is_multiline_element.Tie as tie

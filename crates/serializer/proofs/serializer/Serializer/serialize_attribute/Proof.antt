@@ -2,14 +2,14 @@
 use Prim.Native.Nat.{_+_}
 use native.Mathlib.Omega.{arith}
 use borrow.Author.Needs.{needs}
-use mathlib.Core.Path.{_≡_, refl, ap, _∙_}
+use mathlib.Core.Path.{_≡_, ap, _∙_}
 use Rattle.syntax.specs.Kind as Kind
 use Rattle.syntax.specs.Layout.{marksIn}
-use Rattle.serializer.specs.Walk.{after}
-use Rattle.shape.proofs.Sizes.{sizes}
+use Rattle.tree.specs.Walk.{after}
+use Rattle.tree.proofs.Sizes.{sizes}
 use Rattle.serializer.proofs.Pieces.{going, room-first, going-on, gone, wrote-length}
-use Rattle.serializer.proofs.Children.{only}
-use Rattle.serializer.proofs.Messages.{attribute-parts, attribute-row, nested-count}
+use Rattle.serializer.proofs.Messages.{attribute-parts, attribute-row}
+use Rattle.tree.proofs.Walk.{after-count}
 use Rattle.serializer.proofs.serializer.Serializer.serialize_attribute.Statement.{statement}
 use Rattle.serializer.proofs.serializer.Serializer.serialize_attribute.Tie as tie
 
@@ -47,7 +47,7 @@ next-requires c κs =
     let fit = sizes tree (c .before .before .before .before .before .before .before .before .before .before .before .before .before .before .before .before .before .before .before .before .pre .fit) in
     let p = attribute-parts (c .before .before .before .before .before .before .before .before .before .before .before .before .before .before .before .before .before .before .before .before .pre .node) in
     let n : c .before .before .serialize-pattern .result .mark ≡ after (marksIn tree) (c .before .before .before .before .before .before .before .before .before .before .before .before .before .before .before .before .before .before .before .before .args .self .mark + 3) = c .before .before .serialize-pattern .ensures .next ∙ ap (λ m. after (marksIn tree) m) (c .before .before .before .before .before .before .serialize-name .ensures .next) in
-    omega (arith, fit, n, p .till, nested-count tree fit (rw (only (c .before .before .before .before .before .before .before .before .before .before .before .before .before .before .before .before .before .before .before .before .pre .node)) at (c .before .before .before .before .before .before .before .before .before .before .before .before .before .before .before .before .before .before .before .before .pre .node .at)) refl)
+    omega (arith, fit, n, p .till, after-count tree fit (c .before .before .before .before .before .before .before .before .before .before .before .before .before .before .before .before .before .before .before .before .pre .node .at))
 
 same-length : tie.Need-same-length
 same-length c =

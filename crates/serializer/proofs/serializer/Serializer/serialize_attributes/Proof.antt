@@ -3,10 +3,10 @@ use Prim.Native.Nat.{_+_, _-_}
 use native.Mathlib.Omega.{arith}
 use mathlib.Core.Path.{sym, ap, _∙_}
 use Rattle.syntax.specs.Layout.{count}
-use Rattle.serializer.specs.Walk.{after}
-use Rattle.shape.proofs.Sizes.{sizes}
+use Rattle.tree.specs.Walk.{after}
+use Rattle.tree.proofs.Sizes.{sizes}
 use Rattle.serializer.proofs.Pieces.{wrote-length}
-use Rattle.serializer.proofs.Walk.{inside-count}
+use Rattle.tree.proofs.Walk.{inside-count}
 use Rattle.serializer.proofs.Messages.{Attributes, attributes-first, attribute-next, attributes-done, attributes-wrote}
 use Rattle.serializer.proofs.serializer.Serializer.serialize_attributes.Statement.{statement}
 use Rattle.serializer.proofs.serializer.Serializer.serialize_attributes.Tie as tie

@@ -3,9 +3,9 @@ use Prim.Native.Nat.{_-_}
 use native.Mathlib.Omega.{arith}
 use mathlib.Core.Path.{sym, _∙_}
 use Rattle.syntax.specs.Layout.{count}
-use Rattle.shape.proofs.Sizes.{sizes}
+use Rattle.tree.proofs.Sizes.{sizes}
 use Rattle.serializer.proofs.Pieces.{wrote-length}
-use Rattle.serializer.proofs.Walk.{at-count, inside-count}
+use Rattle.tree.proofs.Walk.{at-count, inside-count}
 use Rattle.serializer.proofs.Comments.{Lines, lines-first, lines-turn, lines-done}
 use Rattle.serializer.proofs.serializer.Serializer.serialize_comment.Statement.{statement}
 use Rattle.serializer.proofs.serializer.Serializer.serialize_comment.Tie as tie

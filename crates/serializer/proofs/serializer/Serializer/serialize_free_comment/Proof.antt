@@ -1,7 +1,7 @@
 -- `Serializer::serialize_free_comment` meets its contract.
 use borrow.Author.Needs.{needs}
 use Rattle.syntax.specs.Layout.{marksIn}
-use Rattle.serializer.specs.Walk.{nodeAt}
+use Rattle.tree.specs.Walk.{nodeAt}
 use Rattle.serializer.proofs.Pieces.{going, room-first, going-on, gone, free-row}
 use Rattle.serializer.proofs.serializer.Serializer.serialize_free_comment.Statement.{statement}
 use Rattle.serializer.proofs.serializer.Serializer.serialize_free_comment.Tie as tie

@@ -5,10 +5,10 @@ use mathlib.Core.Path.{refl, sym}
 use Rattle.syntax.specs.Kind as Kind
 use Rattle.syntax.specs.Serializer.{if}
 use Rattle.serializer.specs.Resource.{junkIn}
-use Rattle.shape.proofs.Sizes.{sizes}
+use Rattle.tree.proofs.Sizes.{sizes}
 use Rattle.serializer.proofs.Pieces.{wrote-nothing}
-use Rattle.serializer.proofs.Walk.{at-count, text-after}
-use Rattle.serializer.proofs.Children.{text-one}
+use Rattle.tree.proofs.Walk.{at-count, text-after}
+use Rattle.tree.proofs.Children.{text-one}
 use Rattle.serializer.proofs.serializer.Serializer.serialize_junk.Statement.{statement}
 use Rattle.serializer.proofs.serializer.Serializer.serialize_junk.Tie as tie
 

@@ -4,10 +4,10 @@ use native.Mathlib.Omega.{arith}
 use borrow.Author.Needs.{needs}
 use mathlib.Core.Path.{_∙_}
 use Rattle.syntax.specs.Layout.{marksIn}
-use Rattle.serializer.specs.Walk.{nodeAt}
-use Rattle.shape.proofs.Sizes.{sizes}
+use Rattle.tree.specs.Walk.{nodeAt}
+use Rattle.tree.proofs.Sizes.{sizes}
 use Rattle.serializer.proofs.Pieces.{going, room-first, going-on, gone}
-use Rattle.serializer.proofs.Walk.{at-count, text-after}
+use Rattle.tree.proofs.Walk.{at-count, text-after}
 use Rattle.serializer.proofs.Messages.{naming-row}
 use Rattle.serializer.proofs.serializer.Serializer.serialize_name.Statement.{statement}
 use Rattle.serializer.proofs.serializer.Serializer.serialize_name.Tie as tie

@@ -3,10 +3,10 @@ use native.Mathlib.Omega.{arith}
 use borrow.Author.Needs.{needs}
 use mathlib.Core.Path.{sym, ap, _∙_}
 use Rattle.syntax.specs.Layout.{marksIn}
-use Rattle.serializer.specs.Walk.{kindAt}
-use Rattle.shape.proofs.Sizes.{sizes}
+use Rattle.tree.specs.Walk.{kindAt}
+use Rattle.tree.proofs.Sizes.{sizes}
 use Rattle.serializer.proofs.Pieces.{going, room-first, going-on, going-as, gone}
-use Rattle.serializer.proofs.Walk.{at-count, inside-count}
+use Rattle.tree.proofs.Walk.{at-count, inside-count}
 use Rattle.serializer.proofs.References.{begun, no-further, further-on}
 use Rattle.serializer.proofs.serializer.Serializer.serialize_reference.Statement.{statement}
 use Rattle.serializer.proofs.serializer.Serializer.serialize_reference.Tie as tie

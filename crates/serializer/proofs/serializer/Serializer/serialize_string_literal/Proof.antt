@@ -3,9 +3,9 @@ use borrow.Author.Needs.{needs}
 use mathlib.Core.Path.{refl}
 use Rattle.syntax.specs.Kind as Kind
 use Rattle.syntax.specs.Layout.{marksIn}
-use Rattle.serializer.specs.Walk.{nodeAt}
+use Rattle.tree.specs.Walk.{nodeAt}
 use Rattle.serializer.proofs.Pieces.{going, room-first, going-on, gone}
-use Rattle.serializer.proofs.Children.{text-one}
+use Rattle.tree.proofs.Children.{text-one}
 use Rattle.serializer.proofs.References.{quoted-row}
 use Rattle.serializer.proofs.serializer.Serializer.serialize_string_literal.Statement.{statement}
 use Rattle.serializer.proofs.serializer.Serializer.serialize_string_literal.Tie as tie

@@ -2,7 +2,7 @@
 use native.Mathlib.Omega.{arith}
 use borrow.Author.Needs.{needs}
 use Rattle.syntax.specs.Layout.{marksIn}
-use Rattle.serializer.specs.Walk.{nodeAt}
+use Rattle.tree.specs.Walk.{nodeAt}
 use Rattle.serializer.proofs.Pieces.{going, room-first, going-on, gone}
 use Rattle.serializer.proofs.Messages.{term-row, term-named}
 use Rattle.serializer.proofs.serializer.Serializer.serialize_term.Statement.{statement}

@@ -3,8 +3,8 @@ use native.Mathlib.Omega.{arith}
 use borrow.Author.Needs.{needs}
 use mathlib.Core.Path.{sym}
 use Rattle.syntax.specs.Serializer.{name}
-use Rattle.shape.proofs.Sizes.{sizes}
-use Rattle.serializer.proofs.Walk.{at-count, text-after}
+use Rattle.tree.proofs.Sizes.{sizes}
+use Rattle.tree.proofs.Walk.{at-count, text-after}
 use Rattle.serializer.proofs.serializer.Serializer.serialize_text.Statement.{statement}
 use Rattle.serializer.proofs.serializer.Serializer.serialize_text.Tie as tie
 

@@ -4,10 +4,10 @@ use borrow.Author.Needs.{needs}
 use mathlib.Core.Path.{_≡_, sym, _∙_}
 use Rattle.syntax.specs.Kind as Kind
 use Rattle.syntax.specs.Layout.{marksIn}
-use Rattle.serializer.specs.Walk.{kindAt}
-use Rattle.shape.proofs.Sizes.{sizes}
+use Rattle.tree.specs.Walk.{kindAt}
+use Rattle.tree.proofs.Sizes.{sizes}
 use Rattle.serializer.proofs.Pieces.{wrote-nothing}
-use Rattle.serializer.proofs.Walk.{inside-count}
+use Rattle.tree.proofs.Walk.{inside-count}
 use Rattle.serializer.proofs.Messages.{unvalued, no-values, value}
 use Rattle.serializer.proofs.serializer.Serializer.serialize_value.Statement.{statement}
 use Rattle.serializer.proofs.serializer.Serializer.serialize_value.Tie as tie

@@ -3,10 +3,11 @@ use native.Mathlib.Omega.{arith}
 use borrow.Author.Needs.{needs}
 use mathlib.Core.Path.{_∙_}
 use Rattle.syntax.specs.Layout.{marksIn}
-use Rattle.shape.proofs.Sizes.{sizes}
+use Rattle.tree.proofs.Sizes.{sizes}
 use Rattle.serializer.proofs.Pieces.{going, room-first, going-on, gone}
-use Rattle.serializer.proofs.Walk.{at-count}
-use Rattle.serializer.proofs.Variants.{key-row, variant-pair}
+use Rattle.tree.proofs.Walk.{at-count}
+use Rattle.serializer.proofs.Variants.{key-row}
+use Rattle.tree.proofs.Contents.{variant-pair}
 use Rattle.serializer.proofs.serializer.Serializer.serialize_variant_key.Statement.{statement}
 use Rattle.serializer.proofs.serializer.Serializer.serialize_variant_key.Tie as tie
 

@@ -10,14 +10,13 @@ use Rattle.syntax.specs.Layout.{count, marksIn}
 use Rattle.syntax.specs.Shape.{among, models}
 use Rattle.syntax.specs.Serializer.{nodes, literal, if, _⊕_}
 use Rattle.laws.specs.Text.{separatedOf, argumentOf, separated-none, separated-is}
-use Rattle.serializer.specs.Walk.{nodeAt, after, innerAt}
-use Rattle.serializer.specs.Serialize.{arguments}
-use Rattle.shape.proofs.Sizes.{sizes}
+use Rattle.tree.specs.Walk.{nodeAt, after, innerAt, arguments}
+use Rattle.tree.proofs.Sizes.{sizes}
 use Rattle.serializer.proofs.Pieces.{then-assoc, going, room-first, going-on, gone, wrote-length, wrote-then, room-before, room-after}
-use Rattle.serializer.proofs.Walk.{at-count, after-count}
+use Rattle.tree.proofs.Walk.{at-count, after-count}
 use Rattle.serializer.proofs.Rows.{Rows, rows-first, rows-count, rows-turn, rows-done}
 use Rattle.serializer.proofs.Expressions.{arguments-entered, arguments-parts, argued}
-use Rattle.serializer.proofs.serializer.kind_at.Reads as kind-at-reads
+use Rattle.serializer.proofs.walk.kind_at.Reads as kind-at-reads
 use Rattle.serializer.proofs.serializer.separate.Reads as separate-reads
 use Rattle.serializer.proofs.serializer.Serializer.begin_argument.Reads as begin-argument-reads
 use Rattle.serializer.proofs.serializer.Serializer.end_argument.Reads as end-argument-reads

@@ -1,16 +1,16 @@
 -- `serialize_element`: a text, or a placeable.
-use Prim.Native.Nat.{ℕ, _-_}
+use Prim.Native.Nat.{ℕ}
 use native.Mathlib.Omega.{arith}
 use borrow.Author.Needs.{needs}
 use mathlib.Core.Path.{sym, _∙_}
-use Rattle.shape.proofs.Sizes.{sizes}
+use Rattle.tree.proofs.Sizes.{sizes}
 use Rattle.serializer.proofs.Pieces.{going, room-first, going-on, gone}
-use Rattle.serializer.proofs.Walk.{at-count, after-count}
+use Rattle.tree.proofs.Walk.{at-count, after-count}
 use Rattle.serializer.proofs.Patterns.{element-text}
 use Rattle.serializer.proofs.Parts.{element-name, placeable-inside, braced}
 use Rattle.serializer.proofs.serializer.Serializer.begin_placeable.Reads as begin-placeable-reads
 use Rattle.serializer.proofs.serializer.Serializer.end_placeable.Reads as end-placeable-reads
-use Rattle.serializer.proofs.serializer.kind_at.Reads as kind-at-reads
+use Rattle.serializer.proofs.walk.kind_at.Reads as kind-at-reads
 use Rattle.serializer.proofs.serializer.Serializer.serialize_expression.Reads as serialize-expression
 use Rattle.serializer.proofs.serializer.Serializer.serialize_text.Reads as serialize-text-reads
 use Rattle.serializer.proofs.serializer.Serializer.serialize_element.Reads as own

@@ -1,12 +1,12 @@
 -- `serialize_expression`: a select, or an inline expression.
-use Prim.Native.Nat.{ℕ, _-_}
+use Prim.Native.Nat.{ℕ}
 use native.Mathlib.Omega.{arith}
 use borrow.Author.Needs.{needs}
 use mathlib.Core.Path.{sym, _∙_}
-use Rattle.shape.proofs.Sizes.{sizes}
-use Rattle.serializer.proofs.Walk.{at-count}
+use Rattle.tree.proofs.Sizes.{sizes}
+use Rattle.tree.proofs.Walk.{at-count}
 use Rattle.serializer.proofs.Parts.{expression-select, expression-inline}
-use Rattle.serializer.proofs.serializer.kind_at.Reads as kind-at-reads
+use Rattle.serializer.proofs.walk.kind_at.Reads as kind-at-reads
 use Rattle.serializer.proofs.serializer.Serializer.serialize_inline_expression.Reads as serialize-inline-expression
 use Rattle.serializer.proofs.serializer.Serializer.serialize_select_expression.Reads as serialize-select-expression
 use Rattle.serializer.proofs.serializer.Serializer.serialize_expression.Reads as own

@@ -1,13 +1,13 @@
 -- `serialize_inline_expression`: a literal, an expression in braces, or a reference.
-use Prim.Native.Nat.{ℕ, _-_}
+use Prim.Native.Nat.{ℕ}
 use native.Mathlib.Omega.{arith}
 use borrow.Author.Needs.{needs}
 use mathlib.Core.Path.{sym, _∙_}
-use Rattle.shape.proofs.Sizes.{sizes}
+use Rattle.tree.proofs.Sizes.{sizes}
 use Rattle.serializer.proofs.Pieces.{going, room-first, going-on, going-as, gone}
-use Rattle.serializer.proofs.Walk.{at-count, after-count, inside-count}
+use Rattle.tree.proofs.Walk.{at-count, after-count, inside-count}
 use Rattle.serializer.proofs.Expressions.{inline-string, inline-number, inline-placeable, inline-reference, no-call, a-call}
-use Rattle.serializer.proofs.serializer.kind_at.Reads as kind-at-reads
+use Rattle.serializer.proofs.walk.kind_at.Reads as kind-at-reads
 use Rattle.serializer.proofs.serializer.Serializer.next.Reads as next-reads
 use Rattle.serializer.proofs.serializer.Serializer.serialize_call_arguments.Reads as serialize-call-arguments
 use Rattle.serializer.proofs.serializer.Serializer.serialize_expression.Reads as serialize-expression

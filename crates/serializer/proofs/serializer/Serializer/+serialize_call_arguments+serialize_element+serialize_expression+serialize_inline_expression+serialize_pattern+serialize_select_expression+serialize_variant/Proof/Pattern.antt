@@ -8,13 +8,13 @@ use Rattle.syntax.specs.Layout.{count, marksIn}
 use Rattle.syntax.specs.Shape.{among, models}
 use Rattle.syntax.specs.Serializer.{nodes, each}
 use Rattle.laws.specs.Text.{elementOf}
-use Rattle.serializer.specs.Walk.{after, innerAt, elements}
-use Rattle.shape.proofs.Sizes.{sizes}
+use Rattle.tree.specs.Walk.{after, innerAt, elements}
+use Rattle.tree.proofs.Sizes.{sizes}
 use Rattle.serializer.proofs.Pieces.{going, room-first, going-on, gone, wrote-length, one-most, room-within, wrote-within}
-use Rattle.serializer.proofs.Walk.{at-count}
+use Rattle.tree.proofs.Walk.{at-count}
 use Rattle.serializer.proofs.Parts.{pattern-at, pattern-entered, pattern-parts}
 use Rattle.serializer.proofs.Rows.{Rows, rows-first, rows-count, rows-turn, rows-done}
-use Rattle.serializer.proofs.serializer.kind_at.Reads as kind-at-reads
+use Rattle.serializer.proofs.walk.kind_at.Reads as kind-at-reads
 use Rattle.serializer.proofs.serializer.starts_on_new_line.Reads as starts-on-new-line-reads
 use Rattle.serializer.proofs.serializer.Serializer.begin_pattern.Reads as begin-pattern-reads
 use Rattle.serializer.proofs.serializer.Serializer.end_pattern.Reads as end-pattern-reads

@@ -10,16 +10,16 @@ use Rattle.syntax.specs.Layout.{count, marksIn}
 use Rattle.syntax.specs.Shape.{among, models}
 use Rattle.syntax.specs.Serializer.{nodes, each, newline, _⊕_}
 use Rattle.laws.specs.Text.{variantOf}
-use Rattle.serializer.specs.Walk.{nodeAt, after, innerAt}
-use Rattle.serializer.specs.Serialize.{variants, variantLines}
-use Rattle.shape.proofs.Sizes.{sizes}
+use Rattle.tree.specs.Walk.{nodeAt, after, innerAt, variants}
+use Rattle.serializer.specs.Serialize.{variantLines}
+use Rattle.tree.proofs.Sizes.{sizes}
 use Rattle.serializer.proofs.Pieces.{going, room-first, going-on, gone, wrote-length, wrote-then, room-before, room-after, room-within, wrote-within}
-use Rattle.serializer.proofs.Walk.{at-count}
+use Rattle.tree.proofs.Walk.{at-count}
 use Rattle.serializer.proofs.Rows.{Rows, rows-first, rows-count, rows-turn, rows-done}
 use Rattle.serializer.proofs.Expressions.{chosen}
 use Rattle.serializer.proofs.writer.TextWriter.dedent.Reads as dedent-reads
 use Rattle.serializer.proofs.writer.TextWriter.indent.Reads as indent-reads
-use Rattle.serializer.proofs.serializer.kind_at.Reads as kind-at-reads
+use Rattle.serializer.proofs.walk.kind_at.Reads as kind-at-reads
 use Rattle.serializer.proofs.writer.TextWriter.newline.Reads as newline-reads
 use Rattle.serializer.proofs.serializer.Serializer.next.Reads as next-reads
 use Rattle.serializer.proofs.serializer.Serializer.serialize_inline_expression.Reads as serialize-inline-expression

@@ -1,12 +1,12 @@
 -- `serialize_variant`: the key, and the pattern.
-use Prim.Native.Nat.{ℕ, _-_}
+use Prim.Native.Nat.{ℕ}
 use native.Mathlib.Omega.{arith}
 use borrow.Author.Needs.{needs}
-use Rattle.shape.proofs.Sizes.{sizes}
+use Rattle.tree.proofs.Sizes.{sizes}
 use Rattle.serializer.proofs.Pieces.{going, room-first, going-on, gone}
-use Rattle.serializer.proofs.Walk.{at-count, after-count}
+use Rattle.tree.proofs.Walk.{at-count, after-count}
 use Rattle.serializer.proofs.Expressions.{variant-parts}
-use Rattle.serializer.proofs.Variants.{variant-pair}
+use Rattle.tree.proofs.Contents.{variant-pair}
 use Rattle.serializer.proofs.serializer.Serializer.next.Reads as next-reads
 use Rattle.serializer.proofs.serializer.Serializer.serialize_pattern.Reads as serialize-pattern
 use Rattle.serializer.proofs.serializer.Serializer.serialize_variant_key.Reads as serialize-variant-key-reads

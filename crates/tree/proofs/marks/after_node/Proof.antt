@@ -1,0 +1,75 @@
+-- `marks::after_node` meets its contract: in the loop, as many nodes are open as are counted.
+use Prim.Native.Nat.{_-_}
+use native.Mathlib.Omega.{arith}
+use Rattle.tree.proofs.Words.{kind-inside, Passing, passing-first, passing-open, passing-close, passing-last, passing-end}
+use Rattle.tree.proofs.marks.after_node.Statement.{statement}
+use Rattle.tree.proofs.marks.after_node.Tie as tie
+
+abbrev Inv-loop : tie.InvT-loop
+Inv-loop tree mark count depth₀ next₀ depth next = Passing tree mark depth next
+
+abbrev μ-loop : tie.MeasureT-loop
+μ-loop tree mark count depth₀ next₀ depth next = count - next
+
+kind-count-requires : tie.Need-kind-count-requires Inv-loop μ-loop
+kind-count-requires c κs = tt
+
+loop-holds : tie.Need-loop-holds Inv-loop μ-loop
+loop-holds c = passing-first (c .before .before .args .tree .now) (c .before .before .args .mark)
+
+add-kind : tie.Need-add-kind Inv-loop μ-loop
+add-kind c = omega (arith, kind-inside (c .before .before .before .before .args .tree .now) (c .before .loop .next) (omega arith))
+
+mul-kind : tie.Need-mul-kind Inv-loop μ-loop
+mul-kind c = omega (arith, kind-inside (c .before .before .before .before .args .tree .now) (c .before .loop .next) (omega arith))
+
+shared-slice-read-kind : tie.Need-shared-slice-read-kind Inv-loop μ-loop
+shared-slice-read-kind c = omega (arith, kind-inside (c .before .before .before .before .before .args .tree .now) (c .before .before .loop .next) (omega arith))
+
+add-next : tie.Need-add-next Inv-loop μ-loop
+add-next c = omega (arith, kind-inside (c .before .before .before .before .before .args .tree .now) (c .before .before .loop .next) (omega arith))
+
+add-depth : tie.Need-add-depth Inv-loop μ-loop
+add-depth c = omega (arith, c .before .before .before .loop .inv .small, kind-inside (c .before .before .before .before .before .before .args .tree .now) (c .before .before .before .loop .next) (omega arith))
+
+loop-less : tie.Need-loop-less Inv-loop μ-loop
+loop-less c = omega arith
+
+loop-again : tie.Need-loop-again Inv-loop μ-loop
+loop-again c = passing-open (c .before .before .before .before .before .before .args .tree .now) (c .before .before .before .before .before .before .args .mark) (c .before .before .before .loop .inv) (omega arith) (c .if1 .taken)
+
+returns : tie.Need-returns Inv-loop μ-loop
+returns c = passing-last (c .before .before .before .before .before .before .before .args .tree .now) (c .before .before .before .before .before .before .before .args .mark) (c .before .before .before .before .loop .inv) (omega arith) (omega arith) (c .if2 .taken)
+
+sub-depth : tie.Need-sub-depth Inv-loop μ-loop
+sub-depth c = omega arith
+
+loop-less-2 : tie.Need-loop-less-2 Inv-loop μ-loop
+loop-less-2 c = omega arith
+
+loop-again-2 : tie.Need-loop-again-2 Inv-loop μ-loop
+loop-again-2 c = passing-close (c .before .before .before .before .before .before .before .args .tree .now) (c .before .before .before .before .before .before .before .args .mark) (c .before .before .before .before .loop .inv) (omega arith) (omega arith) (omega arith)
+
+returns-2 : tie.Need-returns-2 Inv-loop μ-loop
+returns-2 c = passing-end (c .before .before .before .before .args .tree .now) (c .before .before .before .before .args .mark) (c .before .loop .inv) (omega arith)
+
+pub after-node-spec : {M : Type 1} → statement M
+after-node-spec =
+    tie.close
+    (tie.spec
+    Inv-loop
+    μ-loop
+    kind-count-requires
+    loop-holds
+    add-kind
+    mul-kind
+    shared-slice-read-kind
+    add-next
+    add-depth
+    loop-less
+    loop-again
+    returns
+    sub-depth
+    loop-less-2
+    loop-again-2
+    returns-2)
