@@ -30,19 +30,21 @@ use Rattle.laws.specs.Lines.{starts-add}
 use Rattle.laws.specs.Lines.Lands.{block-starts}
 use Rattle.laws.specs.Lines.Starts.{first-stays}
 use Rattle.laws.specs.Moving.{moveUp-append, moveUp-length, moveUp-nil, following-twice}
-use Rattle.parser.specs.Tree.{Word, word, wordsAt, marksIn, Step}
+use Rattle.entry.specs.Tree.{Word, word, wordsAt, marksIn, Step}
 use Rattle.parser.specs.ErrorList.{ErrorStep, withJunk}
-use Rattle.parser.specs.Place.{Went, Passed}
+use Rattle.entry.specs.Place.{Passed}
+use Rattle.entry.specs.Border.{Skipped}
+use Rattle.entry.specs.declared.border.BlankBlock.{BlankBlock}
 use Rattle.parser.specs.Call.{Sized, DidParse}
 use Rattle.parser.specs.Resource.{regular, kept, Attachable, attached, Moved, junkTill, Junked, Open, Pending, Held, Framed}
 use Rattle.parser.specs.declared.resource.LastComment.{LastComment}
 use Rattle.parser.specs.declared.resource.LastComment.the-variants.{At, None}
 use Rattle.parser.specs.declared.resource.State.{State}
 use Rattle.parser.specs.declared.resource.Parsed.the-variants.{Counts, Deep}
-use Rattle.parser.proofs.Lines.{starts-later}
-use Rattle.parser.proofs.Steps.{step-none, step-cut, step-then}
-use Rattle.parser.proofs.Insert.{step-kind}
-use Rattle.parser.proofs.Dids.{Lost, Far, words-up, words-append, words-length, words-none, text-placed, node-words, step-failed}
+use Rattle.parser.proofs.Seeks.{starts-later}
+use Rattle.entry.proofs.Steps.{step-none, step-cut, step-then}
+use Rattle.parser.proofs.Changed.{step-kind}
+use Rattle.entry.proofs.Dids.{Lost, Far, words-up, words-append, words-length, words-none, text-placed, node-words, step-failed}
 use Rattle.parser.proofs.Rows.{rows-then, rows-none, rows-cut, rows-self}
 use Rattle.parser.proofs.Got.{Got}
 
@@ -51,22 +53,22 @@ top = level maxOpen
 
 -- ---- past the blank lines after an entry
 
-module _ {s : List ℕ} {k c a : ℕ} (n e : ℕ) (x : LastComment) (w : Went s k (skipBlankBlock (drop k s)) c a) where
-  passes : a ≡ k + usedBy (skipBlankBlock (drop k s))
-  unfolding usedBy
-  passes = rw (w .answers) (omega (arith, w .onward))
+module _ {s : List ℕ} {k : ℕ} {b : BlankBlock} (n e : ℕ) (x : LastComment) (w : Skipped s k b) where
+  pub moved-kept : b .count < 2 → Moved s k n e x (record { at = b .end; marks = n; errors = e; comment = x })
+  unfolding kept
+  moved-kept h = record { at = w .end; marks = refl; errors = refl; comment = rw (← w .count, kept, lt-ltb (b .count) 2 h) }
 
-  pub moved-kept : c < 2 → Moved s k n e x (record { at = a; marks = n; errors = e; comment = x })
-  unfolding count kept
-  moved-kept h = record { at = passes; marks = refl; errors = refl; comment = rw (w .answers, kept, lt-ltb c 2 h) }
+  pub moved-lost : 2 ≤ b .count → Moved s k n e x (record { at = b .end; marks = n; errors = e; comment = None })
+  unfolding kept
+  moved-lost h = record { at = w .end; marks = refl; errors = refl; comment = rw (← w .count, kept, le-ltb (b .count) 2 h) }
 
-  pub moved-lost : 2 ≤ c → Moved s k n e x (record { at = a; marks = n; errors = e; comment = None })
-  unfolding count kept
-  moved-lost h = record { at = passes; marks = refl; errors = refl; comment = rw (w .answers, kept, le-ltb c 2 h) }
-
-pub junked : {s t t′ e e′ : List ℕ} {x : State} {f : ParserError} {k end m c : ℕ} {r : State} → Passed s k (toNextEntry (lineStartsAt k s) (drop k s)) end → Step (8 * length s) (x .marks) t t′ (word 7 (x .at) ∷ word 107 end ∷ [])
-    → m ≡ x .marks + 2 → ErrorStep (length s) (x .errors) e e′ (withJunk f (x .at) end ∷ []) → c ≡ x .errors + 1 → Moved s end m c None r → Junked s t t′ e e′ x f k r
-junked p a q b o d = record { tree = rw (p .end) at a; list = rw (p .end) at b; moved = rw (p .end, q, o) at d }
+pub junked : {s t t₁ t′ e e′ : List ℕ} {x : State} {f : ParserError} {k end o m c : ℕ} {r : State}
+    → Passed s k (toNextEntry (lineStartsAt k s) (drop k s)) end → Step (8 * length s) (x .marks) t t₁ (word 7 (x .at) ∷ []) → o ≡ x .marks + 1
+    → Step (8 * length s) o t₁ t′ (word 107 end ∷ []) → m ≡ o + 1 → ErrorStep (length s) (x .errors) e e′ (withJunk f (x .at) end ∷ []) → c ≡ x .errors + 1
+    → Moved s end m c None r → Junked s t t′ e e′ x f k r
+junked {x = x} {o = o} {m = m} p a i z q b j d =
+    let n : m ≡ x .marks + 2 = omega arith in
+    record { tree = rw (p .end) at (step-then a i z); list = rw (p .end) at b; moved = rw (p .end, n, j) at d }
 
 -- ---- steps whose start does not matter
 

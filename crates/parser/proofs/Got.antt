@@ -8,12 +8,12 @@ use Rattle.syntax.specs.declared.errors.ParserError.{ParserError}
 use Rattle.syntax.specs.Marks.{Mark}
 use Rattle.syntax.specs.Reader.{Out, ok, bad, deep}
 use Rattle.syntax.specs.Core.{Entry, comment, message, term}
-use Rattle.parser.specs.Tree.{Step, wordsAt}
-use Rattle.parser.specs.Did.{Did}
-use Rattle.parser.specs.Entry.{entryRead, entrying}
-use Rattle.parser.specs.declared.marks.ReadEntry.{ReadEntry}
-use Rattle.parser.specs.declared.marks.ReadEntry.the-variants.{Bad, Deep}
-use Rattle.parser.proofs.Dids.{Clear}
+use Rattle.entry.specs.Tree.{Step, wordsAt}
+use Rattle.entry.specs.Did.{Did}
+use Rattle.entry.specs.Entry.{entryRead, entrying}
+use Rattle.entry.specs.declared.border.ReadEntry.{ReadEntry}
+use Rattle.entry.specs.declared.border.ReadEntry.the-variants.{Bad, Deep}
+use Rattle.entry.proofs.Dids.{Clear}
 
 same-entry : (x y : Entry) (a b m n : ℕ) → entryRead x a m ≡ entryRead y b n → (x ≡ y) × (a ≡ b) × (m ≡ n)
 same-entry message message a b m n e = (refl, cc, cc)

@@ -20,7 +20,7 @@ use Rattle.utf8.specs.Utf8.{firstIllFormed, checkedOf}
 use Rattle.utf8.specs.declared.Checked.{Checked}
 use Rattle.utf8.specs.declared.Checked.the-variants.{WellFormed, IllFormed}
 use Rattle.laws.specs.File.{parse-read}
-use Rattle.parser.specs.Tree.{wordsAt, Step}
+use Rattle.entry.specs.Tree.{wordsAt, Step}
 use Rattle.parser.specs.ErrorList.{ErrorStep}
 use Rattle.parser.specs.Laid.{finished}
 use Rattle.parser.specs.Call.{Sized, parsedOf, DidParse, DidReadInto, DidRead}

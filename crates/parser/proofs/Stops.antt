@@ -30,12 +30,13 @@ use Rattle.laws.specs.Bounds.{bad-within}
 use Rattle.laws.specs.Bounds.Expression.{level-bounds}
 use Rattle.laws.specs.Bounds.Entry.{entry-bounds}
 use Rattle.laws.specs.Progress.{junk-moves}
-use Rattle.parser.specs.Place.{Went}
-use Rattle.parser.specs.Did.{answer, Did}
-use Rattle.parser.specs.Entry.{entrying}
+use Rattle.entry.specs.Did.{answer, Did}
+use Rattle.entry.specs.Entry.{entrying}
+use Rattle.entry.specs.Border.{Skipped}
 use Rattle.parser.specs.Next.{Stoppable, stoppedAt}
-use Rattle.parser.specs.declared.marks.ReadEntry.{ReadEntry}
-use Rattle.parser.proofs.Lines.{starts-past}
+use Rattle.entry.specs.declared.border.BlankBlock.{BlankBlock}
+use Rattle.entry.specs.declared.border.ReadEntry.{ReadEntry}
+use Rattle.parser.proofs.Seeks.{starts-past}
 
 -- ---- junk
 
@@ -118,20 +119,16 @@ module _ (s : List ℕ) (at : ℕ) (t : List ℕ) where
     unfolding aheadFrom
     end-there {a} g = let q = le-ltb a (length s) g in rw (q, aheadFrom)
 
-    pub asked-past : length s < at → Answers s at t t answers.None
-    asked-past g = nothing-there (ahead-is ∙ end-there (omega arith))
+    module _ {b : BlankBlock} (w : Skipped s at b) where
+      from-there : ahead s at (length t) ≡ aheadFrom s (b .end) (length t)
+      from-there = ahead-is ∙ ap (λ i. aheadFrom s i (length t)) (sym (w .end))
 
-    module _ {count a : ℕ} (w : Went s at (skipBlankBlock (drop at s)) count a) where
-      from-there : ahead s at (length t) ≡ aheadFrom s a (length t)
-      unfolding usedBy
-      from-there = ahead-is ∙ ap (λ i. aheadFrom s i (length t)) (ap (λ o. at + usedBy o) (w .answers) ∙ omega (arith, w .onward))
-
-      pub asked-end : length s ≤ a → Answers s at t t answers.None
+      pub asked-end : length s ≤ b .end → Answers s at t t answers.None
       asked-end g = nothing-there (from-there ∙ end-there g)
 
-      module _ (g : a < length s) where
-        here : ltb a (length s) ≡ true
-        here = lt-ltb a (length s) g
+      module _ (g : b .end < length s) where
+        here : ltb (b .end) (length s) ≡ true
+        here = lt-ltb (b .end) (length s) g
 
         pub asked-short : length t < 2 + 16 * length s → Answers s at t t (answers.TreeTooShort (2 + 16 * length s))
         unfolding aheadFrom answerBy
@@ -141,9 +138,9 @@ module _ (s : List ℕ) (at : ℕ) (t : List ℕ) where
             finds short t (from-there ∙ rw (here, aheadFrom, q)) (ap answers.TreeTooShort n) refl
 
         pub asked-entry : 2 + 16 * length s ≤ length t → {t′ : List ℕ} {r : Next}
-            → (r ≡ stopped a (stopOf (drop a s) (getEntry (level maxOpen) (drop a s)))) × Scratched (treeLayout (length s)) t t′ → Answers s at t t′ r
+            → (r ≡ stopped (b .end) (stopOf (drop (b .end) s) (getEntry (level maxOpen) (drop (b .end) s)))) × Scratched (treeLayout (length s)) t t′ → Answers s at t t′ r
         unfolding aheadFrom answerBy
-        asked-entry m {t′} (x, y) = let q = le-ltb (length t) (treeLayout (length s)) (omega arith) in finds (entryAt a) t′ (from-there ∙ rw (here, aheadFrom, q)) x y
+        asked-entry m {t′} (x, y) = let q = le-ltb (length t) (treeLayout (length s)) (omega arith) in finds (entryAt (b .end)) t′ (from-there ∙ rw (here, aheadFrom, q)) x y
 
 -- ---- the first place
 

@@ -8,7 +8,7 @@ use lib.ListN.{length, getD, take, drop, length-drop, length-map}
 use lib.Seq.{take-suc, getD-drop}
 use Rattle.syntax.specs.Marks.{Mark, kindOf, placeOf, moveUp}
 use Rattle.laws.specs.Moving.{map-append, moveUp-zero}
-use Rattle.parser.specs.Tree.{Word, word, wordOf, wordsAt, marksIn, Step}
+use Rattle.entry.specs.Tree.{Word, word, wordOf, wordsAt, marksIn, Step}
 
 kindIn : Word → ℕ
 kindIn (word k p) = k

@@ -9,7 +9,7 @@ use Rattle.syntax.specs.Limits.{maxLength, maxOpen}
 use Rattle.syntax.specs.Core.{Reading, read, refused, parse}
 use Rattle.syntax.specs.Layout.{treeCapacity, treeLayout, errorLayout, treeWords, errorWords}
 use Rattle.syntax.specs.Reading.{readAnswer, treeAfter, errorsAfter, answerOf, marksOf, errorsOf}
-use Rattle.parser.specs.Tree.{Step, wordsAt}
+use Rattle.entry.specs.Tree.{Step, wordsAt}
 use Rattle.parser.specs.ErrorList.{ErrorStep}
 use Rattle.parser.specs.declared.resource.Parsed.{Parsed}
 use Rattle.parser.specs.declared.resource.Parsed.the-variants.{Counts, Deep}

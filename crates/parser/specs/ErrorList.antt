@@ -3,6 +3,7 @@ use Prim.Native.Nat.{ℕ, _+_, _*_, _≤_, _<_, _^_}
 use mathlib.Core.Path.{_≡_}
 use mathlib.Core.List.{List, _++_, map}
 use lib.ListN.{length, take, drop}
+use Rattle.syntax.specs.Limits.{maxLength}
 use Rattle.syntax.specs.declared.errors.ParserError.{ParserError}
 use Rattle.syntax.specs.Core.{Error}
 use Rattle.syntax.specs.Layout.{groupSize, groups, errorNumber}
@@ -17,7 +18,7 @@ withJunk e a z = record { fault = e; junkFrom = a; junkTill = z }
 -- a list has room for cap errors, and n are there
 pub record Spare (t : List ℕ) (cap n : ℕ) : Type 0 where
   pub fits : n < cap
-  pub small : cap ≤ 1_000_000
+  pub small : cap ≤ maxLength
   pub layout : 2 + 7 * cap ≤ length t
 
 -- after the first n errors stand es. The words past the layout are as they were

@@ -1,20 +1,6 @@
 -- What the contracts of the parser say of results and of lent words.
-pub mod Tree
-pub mod Settle
-pub mod Elements
-pub mod Texts
 pub mod Laid
 pub mod ErrorList
-pub mod Place
-pub mod Scan
-pub mod Slice
-pub mod Did
-pub mod Shape
-pub mod Argument
-pub mod Entry
-pub mod Line
 pub mod Call
 pub mod Resource
-pub mod Fields
-pub mod Names
 pub mod Next

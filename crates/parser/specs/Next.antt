@@ -6,10 +6,10 @@ use lib.ListN.{length}
 use Rattle.syntax.specs.declared.next.Next.{Next}
 use Rattle.syntax.specs.declared.next.Next.the-variants as answers
 use Rattle.syntax.specs.Next.{nextAnswer, placeAfter, NextTree}
-use Rattle.parser.specs.Place.{Inside}
+use Rattle.entry.specs.Place.{Inside}
 use Rattle.parser.specs.Resource.{junkTill}
-use Rattle.parser.specs.declared.marks.ReadEntry.{ReadEntry}
-use Rattle.parser.specs.declared.marks.ReadEntry.the-variants.{Message, Term, Comment, Bad, Deep}
+use Rattle.entry.specs.declared.border.ReadEntry.{ReadEntry}
+use Rattle.entry.specs.declared.border.ReadEntry.the-variants.{Message, Term, Comment, Bad, Deep}
 use Rattle.parser.specs.declared.next.Asked.{Asked}
 
 -- an error lies in the source

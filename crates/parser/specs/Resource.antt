@@ -12,7 +12,7 @@ use Rattle.syntax.specs.Helper.{skipBlankBlock}
 use Rattle.syntax.specs.Pattern.{usedBy}
 use Rattle.syntax.specs.Expression.{level}
 use Rattle.syntax.specs.Core.{comment, getEntry, toNextEntry, lineStartsAt, Error, refused, following, isNamed, count, kindOfEntry, entries, parse}
-use Rattle.parser.specs.Tree.{word, Step, wordsAt}
+use Rattle.entry.specs.Tree.{word, Step, wordsAt}
 use Rattle.parser.specs.ErrorList.{ErrorStep, withJunk}
 use Rattle.parser.specs.Call.{Sized}
 use Rattle.parser.specs.declared.resource.LastComment.{LastComment}

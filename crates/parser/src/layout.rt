@@ -1,14 +1,17 @@
 // The lent slices as a whole: two words of sizes, and two arrays, of which the first holds a word for each item.
-ghost use Prim.Native.Nat.{_+_, _-_, _*_, _≤_};
+ghost use Prim.Native.Nat.{_-_, _≤_};
 ghost use mathlib.Core.Path.{_≡_};
 ghost use mathlib.Core.List.{_++_};
 ghost use lib.ListN.{length, take, drop, replicate};
 ghost use Rattle.parser.specs.Laid.{Laid, finished};
+use syntax::layout::SIZES;
 
 // Zeros from one index to another.
 pub fn zero(slice: &mut [u32], from: usize, to: usize)
     requires { ⌜ (from ≤ to) × (to ≤ length (now slice)) ⌝ }
-    ensures { λ r. ⌜ now (slice .exit) ≡ take from (now (slice .entry)) ++ (replicate (to - from) 0 ++ drop to (now (slice .entry))) ⌝ }
+    ensures { λ r. ⌜
+        now (slice .exit) ≡ take from (now (slice .entry)) ++ (replicate (to - from) 0 ++ drop to (now (slice .entry)))
+        ⌝ }
 {
     let mut i = from;
     while i < to {
@@ -25,7 +28,7 @@ pub fn finish(slice: &mut [u32], cap: usize, n: usize, size: usize, used: usize)
 {
     slice[0] = n as u32;
     slice[1] = cap as u32;
-    let second = 2 + cap;
-    zero(slice, 2 + n, second);
+    let second = SIZES + cap;
+    zero(slice, SIZES + n, second);
     zero(slice, second + used, second + size);
 }

@@ -1,16 +1,8 @@
-// The parser: bytes are read into marks and errors.
-mod bytes;
-mod comment;
-mod core;
-mod errors;
-mod expression;
-mod helper;
+// The parser: a file is read, entry by entry, into marks and errors.
+mod junk;
 mod layout;
 mod list;
 mod marks;
 pub mod next;
-mod pattern;
 pub mod read;
 mod resource;
-mod string;
-mod text;

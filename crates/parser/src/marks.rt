@@ -1,29 +1,33 @@
-// Marks in a lent tree: two words of sizes, then as many kinds as the tree holds, then as many places.
-ghost use Prim.Native.Nat.{_+_, _≤_, _<_, _^_};
+// The functions of crate entry that write marks, where what they test holds.
+ghost use Prim.Native.Nat.{_+_, _<_, _^_};
 ghost use mathlib.Core.Path.{_≡_};
 ghost use mathlib.Core.List.{[], _∷_};
-ghost use lib.ListN.{length, set};
-ghost use Rattle.syntax.specs.Kind.{closing};
-ghost use Rattle.parser.specs.Tree.{word, Step, Fits, Inserted};
-ghost use Rattle.parser.specs.Did.{Closable, Closed, Textable, Texted};
-use crate::helper::Place;
-use syntax::errors::ParserError;
+ghost use lib.ListN.{length, drop, set};
+ghost use Rattle.syntax.specs.Layout.{treeCapacity};
+ghost use Rattle.syntax.specs.Expression.{level};
+ghost use Rattle.syntax.specs.Core.{getEntry};
+ghost use Rattle.entry.specs.Tree.{word, Step, Fits};
+ghost use Rattle.entry.specs.Did.{Did, Entered};
+ghost use Rattle.entry.specs.Entry.{entrying};
+use entry::border::ReadEntry;
+use entry::border::Tried;
+use entry::border::put_mark;
+use entry::border::read_entry;
+use syntax::layout::SIZES;
 
-// What a reader that writes marks answers: the place after what it read and the count of marks; an error and where it
-// stopped; or the place of an opening that nests too deep.
-pub enum Read {
-    Ok(usize, usize),
-    Bad(ParserError, usize),
-    Deep(usize),
-}
-
-// What a reader of an entry answers: as `Read`, with what the entry is. A comment has its level.
-pub enum ReadEntry {
-    Message(usize, usize),
-    Term(usize, usize),
-    Comment(usize, usize, usize),
-    Bad(ParserError, usize),
-    Deep(usize),
+// What stands in an entry: the marks of its node are the caller's to write.
+pub fn get_entry(source: &[u8], at: usize, left: usize, tree: &mut [u32], n: usize) -> ReadEntry
+    requires { ⌜ Entered (now source) (now tree) (treeCapacity (length (now source))) at n ⌝ }
+    ensures { λ r. ⌜
+        Did entrying (treeCapacity (length (now (source .entry)))) at n (now (tree .entry)) (now (tree .exit)) r
+        (getEntry (level left) (drop at (now (source .entry))))
+        ⌝ }
+{
+    match read_entry(source, at, left, tree, n) {
+        Tried::Entry(entry) => entry,
+        // What is required is what is tested.
+        Tried::Refused => ReadEntry::Deep(at),
+    }
 }
 
 // Writes a mark after n others.
@@ -32,28 +36,7 @@ pub fn put(tree: &mut [u32], cap: usize, n: usize, kind: u32, place: usize) -> u
     requires { ⌜ place < 2 ^ 32 ⌝ }
     ensures { λ r. ⌜ (r ≡ n + 1) × Step cap n (now (tree .entry)) (now (tree .exit)) (word kind place ∷ []) ⌝ }
 {
-    let at = n + 2;
-    tree[at] = kind;
-    let at = cap + n + 2;
-    tree[at] = place as u32;
-    n + 1
-}
-
-// Writes the two marks of a text.
-pub fn put_text(
-    tree: &mut [u32],
-    cap: usize,
-    n: usize,
-    kind: u32,
-    start: usize,
-    end: usize,
-) -> usize
-    requires { ⌜ Fits (now tree) cap n 2 ⌝ }
-    requires { ⌜ (start < 2 ^ 32) × (end < 2 ^ 32) × (kind < 100) ⌝ }
-    ensures { λ r. ⌜ (r ≡ n + 2) × Step cap n (now (tree .entry)) (now (tree .exit)) (word kind start ∷ word (closing kind) end ∷ []) ⌝ }
-{
-    let m = put(tree, cap, n, kind, start);
-    put(tree, cap, m, 100 + kind, end)
+    put_mark(tree, cap, n, kind, place as u32)
 }
 
 // Changes the kind of the i-th mark.
@@ -61,67 +44,6 @@ pub fn set_kind(tree: &mut [u32], i: usize, kind: u32)
     requires { ⌜ i + 2 < length (now tree) ⌝ }
     ensures { λ r. ⌜ now (tree .exit) ≡ set (now (tree .entry)) (i + 2) kind ⌝ }
 {
-    let at = i + 2;
+    let at = i + SIZES;
     tree[at] = kind;
-}
-
-// Puts a mark without a place before those from the i-th of n on, which move up by one.
-pub fn insert(tree: &mut [u32], cap: usize, from: usize, n: usize, kind: u32) -> usize
-    requires { ⌜ from ≤ n ⌝ }
-    requires { ⌜ Fits (now tree) cap n 1 ⌝ }
-    ensures { λ r. ⌜ (r ≡ n + 1) × Inserted cap from n (now (tree .entry)) (now (tree .exit)) (word kind 0) ⌝ }
-{
-    let mut i = from;
-    let mut carried = kind;
-    let mut place = 0u32;
-    while i < n {
-        let a = i + 2;
-        let b = cap + i + 2;
-        let k = tree[a];
-        let p = tree[b];
-        tree[a] = carried;
-        tree[b] = place;
-        carried = k;
-        place = p;
-        i += 1;
-    }
-    put(tree, cap, n, carried, place as usize)
-}
-
-// Closes a node, if what stands in it was read.
-pub fn close(tree: &mut [u32], cap: usize, kind: u32, r: Read) -> Read
-    requires { ⌜ kind < 100 ⌝ }
-    requires { ⌜ Closable (now tree) cap r ⌝ }
-    ensures { λ x. ⌜ Closed cap kind (now (tree .entry)) (now (tree .exit)) r x ⌝ }
-{
-    match r {
-        Read::Ok(at, n) => {
-            let m = put(tree, cap, n, 100 + kind, 0);
-            Read::Ok(at, m)
-        }
-        Read::Bad(e, k) => Read::Bad(e, k),
-        Read::Deep(k) => Read::Deep(k),
-    }
-}
-
-// Writes the two marks of a text, if its end was found.
-pub fn put_found(
-    tree: &mut [u32],
-    cap: usize,
-    n: usize,
-    kind: u32,
-    start: usize,
-    end: Place,
-) -> Read
-    requires { ⌜ (kind < 100) × (start < 2 ^ 32) ⌝ }
-    requires { ⌜ Textable (now tree) cap n end ⌝ }
-    ensures { λ x. ⌜ Texted cap n kind start (now (tree .entry)) (now (tree .exit)) end x ⌝ }
-{
-    match end {
-        Place::At(e) => {
-            let m = put_text(tree, cap, n, kind, start, e);
-            Read::Ok(e, m)
-        }
-        Place::Bad(e, k) => Read::Bad(e, k),
-    }
 }

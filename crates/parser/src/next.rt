@@ -8,10 +8,14 @@ ghost use Rattle.syntax.specs.Core.{getEntry};
 ghost use Rattle.syntax.specs.Layout.{treeLayout};
 ghost use Rattle.syntax.specs.Next.{stopOf, firstPlace, stopped, nextAnswer, placeAfter, Scratched, NextTree};
 ghost use Rattle.parser.specs.Next.{Stoppable, stoppedAt, DidAsk};
-use crate::core::get_entry;
-use crate::helper::skip_blank_block;
-use crate::helper::skip_to_next_entry_start;
-use crate::marks::ReadEntry;
+use crate::junk::skip_to_next_entry_start;
+use crate::marks::get_entry;
+use entry::border::ReadEntry;
+use entry::border::skip_blank_lines;
+use syntax::layout::SIZES;
+use syntax::layout::TREE_WORDS_A_BYTE;
+use syntax::limits::MAX_LENGTH;
+use syntax::limits::MAX_OPEN;
 use syntax::next::Next;
 use utf8::Checked;
 use utf8::check;
@@ -41,29 +45,35 @@ fn stopped_at(source: &[u8], start: usize, entry: ReadEntry) -> Next
 
 // The entry at a place. Its marks are read into the tree, as scratch.
 fn entry_at(source: &[u8], start: usize, tree: &mut [u32]) -> Next
-    requires { ⌜ (length (now source) ≤ maxLength) × (start < length (now source)) × (treeLayout (length (now source)) ≤ length (now tree)) ⌝ }
-    ensures { λ r. ⌜ (r ≡ stopped start (stopOf (drop start (now (source .entry))) (getEntry (level maxOpen) (drop start (now (source .entry)))))) × Scratched (treeLayout (length (now (source .entry)))) (now (tree .entry)) (now (tree .exit)) ⌝ }
+    requires { ⌜
+        (length (now source) ≤ maxLength) × (start < length (now source)) × (treeLayout (length (now source)) ≤ length (now tree))
+        ⌝ }
+    ensures { λ r. ⌜
+        (r ≡ stopped start
+        (stopOf (drop start (now (source .entry))) (getEntry (level maxOpen) (drop start (now (source .entry))))))
+        × Scratched (treeLayout (length (now (source .entry)))) (now (tree .entry)) (now (tree .exit))
+        ⌝ }
 {
-    let entry = get_entry(source, start, 64, tree, 8 * source.len(), 0);
+    let entry = get_entry(source, start, MAX_OPEN, tree, 0);
     stopped_at(source, start, entry)
 }
 
 fn answer(source: &[u8], at: usize, tree: &mut [u32]) -> Next
-    ensures { λ r. ⌜ (r ≡ nextAnswer (now (source .entry)) at (length (now (tree .entry)))) × NextTree (now (source .entry)) at (now (tree .entry)) (now (tree .exit)) ⌝ }
+    ensures { λ r. ⌜
+        (r ≡ nextAnswer (now (source .entry)) at (length (now (tree .entry))))
+        × NextTree (now (source .entry)) at (now (tree .entry)) (now (tree .exit))
+        ⌝ }
 {
     let length = source.len();
-    if 1_000_000 < length {
+    if MAX_LENGTH < length {
         return Next::None;
     }
-    if length < at {
-        return Next::None;
-    }
-    let block = skip_blank_block(source, at);
+    let block = skip_blank_lines(source, at);
     let start = block.end;
     if length <= start {
         return Next::None;
     }
-    let words = 2 + 16 * length;
+    let words = SIZES + TREE_WORDS_A_BYTE * length;
     if tree.len() < words {
         return Next::TreeTooShort(words as u64);
     }
@@ -96,7 +106,7 @@ pub fn first_place(source: &[u8]) -> usize
     ensures { λ r. ⌜ r ≡ firstPlace (now (source .entry)) ⌝ }
 {
     let length = source.len();
-    if 1_000_000 < length {
+    if MAX_LENGTH < length {
         return length;
     }
     if let Checked::IllFormed(_) = check(source) {

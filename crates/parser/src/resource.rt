@@ -6,20 +6,30 @@ ghost use lib.ListN.{length, set};
 ghost use Rattle.syntax.specs.Kind.{closing};
 ghost use Rattle.syntax.specs.Core as Core;
 ghost use Rattle.syntax.specs.Limits.{maxOpen};
-ghost use Rattle.parser.specs.Tree.{word, Step, Fits};
-ghost use Rattle.parser.specs.Place.{Inside};
+ghost use Rattle.entry.specs.Tree.{word, Step, Fits};
 ghost use Rattle.parser.specs.Call.{Sized, DidParse};
 ghost use Rattle.parser.specs.Resource.{attached, Attachable, regular, Moved, Troubled, Junked, Held, Turned};
 ghost use Rattle.parser.specs.declared.resource.LastComment.the-variants.{None};
-use crate::core::get_entry;
-use crate::helper::skip_blank_block;
-use crate::helper::skip_to_next_entry_start;
+use crate::junk::skip_to_next_entry_start;
 use crate::list::put_error;
-use crate::marks::ReadEntry;
+use crate::marks::get_entry;
 use crate::marks::put;
-use crate::marks::put_text;
 use crate::marks::set_kind;
+use entry::border::ReadEntry;
+use entry::border::skip_blank_lines;
 use syntax::errors::ParserError;
+use syntax::kind::ATTACHED_COMMENT;
+use syntax::kind::ATTACHED_COMMENT_END;
+use syntax::kind::CLOSING;
+use syntax::kind::COMMENT;
+use syntax::kind::JUNK;
+use syntax::kind::MESSAGE;
+use syntax::kind::TERM;
+use syntax::layout::MARKS_A_BYTE;
+use syntax::limits::MAX_OPEN;
+
+// The kinds of comments of the levels 1 to 3 follow this one.
+const NO_LEVEL: u32 = COMMENT - 1;
 
 // What was read: the counts of marks and of errors, or the place of an opening that nests too deep.
 pub enum Parsed {
@@ -65,8 +75,8 @@ fn attach_comment(tree: &mut [u32], comment: LastComment, n: usize)
 {
     match comment {
         LastComment::At(i) => {
-            set_kind(tree, i, 6);
-            set_kind(tree, n - 1, 106);
+            set_kind(tree, i, ATTACHED_COMMENT);
+            set_kind(tree, n - 1, ATTACHED_COMMENT_END);
         }
         LastComment::None => {}
     }
@@ -76,10 +86,12 @@ fn attach_comment(tree: &mut [u32], comment: LastComment, n: usize)
 fn close_entry(tree: &mut [u32], cap: usize, n: usize, kind: u32, m: usize) -> usize
     requires { ⌜ Fits (now tree) cap m 1 ⌝ }
     requires { ⌜ (n < m) × (kind < 100) ⌝ }
-    ensures { λ r. ⌜ (r ≡ m + 1) × Step cap m (set (now (tree .entry)) (n + 2) kind) (now (tree .exit)) (word (closing kind) 0 ∷ []) ⌝ }
+    ensures { λ r. ⌜
+        (r ≡ m + 1) × Step cap m (set (now (tree .entry)) (n + 2) kind) (now (tree .exit)) (word (closing kind) 0 ∷ [])
+        ⌝ }
 {
     set_kind(tree, n, kind);
-    put(tree, cap, m, 100 + kind, 0)
+    put(tree, cap, m, CLOSING + kind, 0)
 }
 
 // Closes a message or a term, to which the last comment is attached.
@@ -87,7 +99,11 @@ fn close_named(tree: &mut [u32], cap: usize, state: State, kind: u32, m: usize) 
     requires { ⌜ Attachable (now tree) (state .comment) (state .marks) ⌝ }
     requires { ⌜ Fits (now tree) cap m 1 ⌝ }
     requires { ⌜ (state .marks < m) × (kind < 100) ⌝ }
-    ensures { λ r. ⌜ (r ≡ m + 1) × Step cap m (set (attached (state .comment) (state .marks) (now (tree .entry))) (state .marks + 2) kind) (now (tree .exit)) (word (closing kind) 0 ∷ []) ⌝ }
+    ensures { λ r. ⌜
+        (r ≡ m + 1)
+        × Step cap m (set (attached (state .comment) (state .marks) (now (tree .entry))) (state .marks + 2) kind)
+        (now (tree .exit)) (word (closing kind) 0 ∷ [])
+        ⌝ }
 {
     let comment = state.comment;
     let n = state.marks;
@@ -97,10 +113,9 @@ fn close_named(tree: &mut [u32], cap: usize, state: State, kind: u32, m: usize) 
 
 // Past the blank lines after an entry. A comment after which there are two line ends is not attached.
 fn go_on(source: &[u8], end: usize, marks: usize, errors: usize, comment: LastComment) -> State
-    requires { ⌜ Inside (now source) end ⌝ }
     ensures { λ r. ⌜ Moved (now (source .entry)) end marks errors comment r ⌝ }
 {
-    let block = skip_blank_block(source, end);
+    let block = skip_blank_lines(source, end);
     let at = block.end;
     if block.count < 2 {
         return State {
@@ -128,12 +143,16 @@ fn put_junk(
     k: usize,
 ) -> State
     requires { ⌜ Troubled (now source) (now tree) (now errors) state k ⌝ }
-    ensures { λ r. ⌜ Junked (now (source .entry)) (now (tree .entry)) (now (tree .exit)) (now (errors .entry)) (now (errors .exit)) state e k r ⌝ }
+    ensures { λ r. ⌜
+        Junked (now (source .entry)) (now (tree .entry)) (now (tree .exit)) (now (errors .entry)) (now (errors .exit)) state e k r
+        ⌝ }
 {
     let length = source.len();
     let at = state.at;
     let end = skip_to_next_entry_start(source, k);
-    let marks = put_text(tree, 8 * length, state.marks, 7, at, end);
+    let cap = MARKS_A_BYTE * length;
+    let opened = put(tree, cap, state.marks, JUNK, at);
+    let marks = put(tree, cap, opened, CLOSING + JUNK, end);
     let count = put_error(errors, length, state.errors, e, at, end);
     go_on(source, end, marks, count, LastComment::None)
 }
@@ -142,24 +161,26 @@ fn put_junk(
 fn parse_entry(source: &[u8], tree: &mut [u32], errors: &mut [u32], state: State) -> EntryTurn
     requires { ⌜ Held (now source) (now tree) (now errors) state ⌝ }
     requires { ⌜ state .at < length (now source) ⌝ }
-    ensures { λ r. ⌜ Turned (now (source .entry)) (now (tree .entry)) (now (tree .exit)) (now (errors .entry)) (now (errors .exit)) state r ⌝ }
+    ensures { λ r. ⌜
+        Turned (now (source .entry)) (now (tree .entry)) (now (tree .exit)) (now (errors .entry)) (now (errors .exit)) state r
+        ⌝ }
 {
-    let cap = 8 * source.len();
+    let cap = MARKS_A_BYTE * source.len();
     let at = state.at;
     let n = state.marks;
-    let opened = put(tree, cap, n, 1, 0);
-    match get_entry(source, at, 64, tree, cap, opened) {
+    let opened = put(tree, cap, n, MESSAGE, 0);
+    match get_entry(source, at, MAX_OPEN, tree, opened) {
         ReadEntry::Message(end, m) => {
-            let marks = close_named(tree, cap, state, 1, m);
+            let marks = close_named(tree, cap, state, MESSAGE, m);
             EntryTurn::On(go_on(source, end, marks, state.errors, LastComment::None))
         }
         ReadEntry::Term(end, m) => {
-            let marks = close_named(tree, cap, state, 2, m);
+            let marks = close_named(tree, cap, state, TERM, m);
             EntryTurn::On(go_on(source, end, marks, state.errors, LastComment::None))
         }
         ReadEntry::Comment(level, end, m) => {
             let comment = last_comment(level, n);
-            let marks = close_entry(tree, cap, n, 2 + level as u32, m);
+            let marks = close_entry(tree, cap, n, NO_LEVEL + level as u32, m);
             EntryTurn::On(go_on(source, end, marks, state.errors, comment))
         }
         ReadEntry::Bad(e, k) => EntryTurn::On(put_junk(source, tree, errors, state, e, k)),
@@ -170,7 +191,10 @@ fn parse_entry(source: &[u8], tree: &mut [u32], errors: &mut [u32], state: State
 // A file: its entries, and junk where one cannot be read.
 pub fn parse(source: &[u8], tree: &mut [u32], errors: &mut [u32]) -> Parsed
     requires { ⌜ Sized (now source) (now tree) (now errors) ⌝ }
-    ensures { λ r. ⌜ DidParse (now (source .entry)) (now (tree .entry)) (now (tree .exit)) (now (errors .entry)) (now (errors .exit)) r (Core.parse maxOpen (now (source .entry))) ⌝ }
+    ensures { λ r. ⌜
+        DidParse (now (source .entry)) (now (tree .entry)) (now (tree .exit)) (now (errors .entry)) (now (errors .exit)) r
+        (Core.parse maxOpen (now (source .entry)))
+        ⌝ }
 {
     let mut state = go_on(source, 0, 0, 0, LastComment::None);
     while state.at < source.len() {

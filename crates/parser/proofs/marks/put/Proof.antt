@@ -1,57 +1,20 @@
--- `marks::put` meets its contract: the two stores are a step.
-use Rattle.parser.proofs.Steps.{step-put}
-use mathlib.Core.Path.{refl}
-use lib.ListN.{length-set}
-use native.Mathlib.Omega.{arith}
+-- `marks::put` meets its contract: there is room.
 use borrow.Author.Needs.{needs}
+use Rattle.parser.proofs.Granted.{can-put}
 use Rattle.parser.proofs.marks.put.Statement.{statement}
 use Rattle.parser.proofs.marks.put.Tie as tie
 
-add-at : tie.Need-add-at
-add-at c = search needs
+cast-put-mark : tie.Need-cast-put-mark
+cast-put-mark c = search needs
 
-mul-tree : tie.Need-mul-tree
-mul-tree c = search needs
-
-slice-write-tree : tie.Need-slice-write-tree
-slice-write-tree c = search needs
-
-add-at-2 : tie.Need-add-at-2
-add-at-2 c = search needs
-
-add-at-3 : tie.Need-add-at-3
-add-at-3 c = search needs
-
-cast-tree : tie.Need-cast-tree
-cast-tree c = search needs
-
-mul-tree-2 : tie.Need-mul-tree-2
-mul-tree-2 c = search needs
-
-slice-write-tree-2 : tie.Need-slice-write-tree-2
-slice-write-tree-2 c = simp length-set (omega arith)
-
-add-result : tie.Need-add-result
-add-result c = search needs
+put-mark-requires : tie.Need-put-mark-requires
+put-mark-requires c κs = search needs
 
 same-length : tie.Need-same-length
 same-length c = search needs
 
 returns : tie.Need-returns
-returns c = (refl, step-put _ _ _ _ _ (c .pre .0 .fits) (c .pre .0 .layout))
+returns c = rw (can-put (c .before .before .before .before .before .pre .0)) at (c .before .before .put-mark .ensures)
 
 pub put-spec : {M : Type 1} → statement M
-put-spec =
-    tie.close
-    (tie.spec
-    add-at
-    mul-tree
-    slice-write-tree
-    add-at-2
-    add-at-3
-    cast-tree
-    mul-tree-2
-    slice-write-tree-2
-    add-result
-    same-length
-    returns)
+put-spec = tie.close (tie.spec cast-put-mark put-mark-requires same-length returns)

@@ -4,9 +4,6 @@ use borrow.Author.Needs.{needs}
 use Rattle.parser.proofs.next.entry_at.Statement.{statement}
 use Rattle.parser.proofs.next.entry_at.Tie as tie
 
-mul-get-entry : tie.Need-mul-get-entry
-mul-get-entry c = search needs
-
 get-entry-requires : tie.Need-get-entry-requires
 get-entry-requires c κs = search needs
 
@@ -20,11 +17,4 @@ returns : tie.Need-returns
 returns c = entry-read _ _ (c .before .before .before .before .before .before .before .pre .1) (c .before .before .before .get-entry .ensures) (c .stopped-at .ensures)
 
 pub entry-at-spec : {M : Type 1} → statement M
-entry-at-spec =
-    tie.close
-    (tie.spec
-    mul-get-entry
-    get-entry-requires
-    stopped-at-requires
-    same-length
-    returns)
+entry-at-spec = tie.close (tie.spec get-entry-requires stopped-at-requires same-length returns)

@@ -16,7 +16,7 @@ abbrev μ-loop : tie.MeasureT-loop
 μ-loop source tree₀ errors₀ state₀ tree errors state = length source - state .at
 
 go-on-requires : tie.Need-go-on-requires Inv-loop μ-loop
-go-on-requires c κs = record { inside = omega arith; short = c .before .before .before .pre .short }
+go-on-requires c κs = search needs
 
 loop-holds : tie.Need-loop-holds Inv-loop μ-loop
 loop-holds c = (framed-none _ _ _, held-start (c .before .before .before .before .pre) (c .go-on .ensures))

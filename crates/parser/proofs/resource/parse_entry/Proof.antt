@@ -2,9 +2,9 @@
 use mathlib.Core.Path.{refl}
 use native.Mathlib.Omega.{arith}
 use Rattle.syntax.specs.Core.{comment, message, term, isNamed, kindOfEntry}
-use Rattle.parser.proofs.Dids.{failed-wrote, lost, far}
+use Rattle.entry.proofs.Dids.{failed-wrote, lost, far}
 use Rattle.parser.proofs.Got.{clear-entrying, got}
-use Rattle.parser.proofs.Files.{entry-inside, entry-room, entry-small, entry-long, entry-attachable, held-named, held-comment, lost-inside, lost-long, held-junk, held-far}
+use Rattle.parser.proofs.Files.{entry-room, entry-small, entry-long, entry-attachable, held-named, held-comment, lost-inside, lost-long, held-junk, held-far}
 use borrow.Author.Needs.{needs}
 use Rattle.parser.proofs.resource.parse_entry.Statement.{statement}
 use Rattle.parser.proofs.resource.parse_entry.Tie as tie
@@ -25,7 +25,7 @@ close-named-requires : tie.Need-close-named-requires
 close-named-requires c κs = (entry-attachable (c .before .before .before .before .before .before .before .before .before .before .before .before .before .before .before .pre .0) (c .before .before .before .before .before .before .before .before .before .before .before .before .before .before .before .pre .1) (c .before .before .before .before .before .before .before .before .before .before .put .ensures .0) (c .before .before .before .before .before .before .before .before .before .before .put .ensures .1) (got message _ (c .before .before .before .before .before .before .get-entry .ensures) (c .before .before .end .given .1)), (record { fits = entry-room (c .before .before .before .before .before .before .before .before .before .before .before .before .before .before .before .pre .0) (c .before .before .before .before .before .before .before .before .before .before .before .before .before .before .before .pre .1) (c .before .before .before .before .before .before .before .before .before .before .put .ensures .0) (c .before .before .before .before .before .before .before .before .before .before .put .ensures .1) (got message _ (c .before .before .before .before .before .before .get-entry .ensures) (c .before .before .end .given .1)) .1; layout = omega (arith, entry-long (c .before .before .before .before .before .before .before .before .before .before .before .before .before .before .before .pre .0) (c .before .before .before .before .before .before .before .before .before .before .before .before .before .before .before .pre .1) (c .before .before .before .before .before .before .before .before .before .before .put .ensures .0) (c .before .before .before .before .before .before .before .before .before .before .put .ensures .1) (got message _ (c .before .before .before .before .before .before .get-entry .ensures) (c .before .before .end .given .1)), c .before .before .before .before .before .before .before .before .before .before .before .before .before .before .before .pre .0 .sized .tree) }, (entry-room (c .before .before .before .before .before .before .before .before .before .before .before .before .before .before .before .pre .0) (c .before .before .before .before .before .before .before .before .before .before .before .before .before .before .before .pre .1) (c .before .before .before .before .before .before .before .before .before .before .put .ensures .0) (c .before .before .before .before .before .before .before .before .before .before .put .ensures .1) (got message _ (c .before .before .before .before .before .before .get-entry .ensures) (c .before .before .end .given .1)) .0, omega arith)))
 
 go-on-requires : tie.Need-go-on-requires
-go-on-requires c κs = record { inside = entry-inside (c .before .before .before .before .before .before .before .before .before .before .before .before .before .before .before .before .before .before .pre .0) (c .before .before .before .before .before .before .before .before .before .before .before .before .before .before .before .before .before .before .pre .1) (c .before .before .before .before .before .before .before .before .before .before .before .before .before .put .ensures .0) (c .before .before .before .before .before .before .before .before .before .before .before .before .before .put .ensures .1) (got message _ (c .before .before .before .before .before .before .before .before .before .get-entry .ensures) (c .before .before .before .before .before .end .given .1)); short = c .before .before .before .before .before .before .before .before .before .before .before .before .before .before .before .before .before .before .pre .0 .sized .short }
+go-on-requires c κs = search needs
 
 enum-known-end-2 : tie.Need-enum-known-end-2
 enum-known-end-2 c = search needs
@@ -34,7 +34,7 @@ close-named-requires-2 : tie.Need-close-named-requires-2
 close-named-requires-2 c κs = (entry-attachable (c .before .before .before .before .before .before .before .before .before .before .before .before .before .before .before .pre .0) (c .before .before .before .before .before .before .before .before .before .before .before .before .before .before .before .pre .1) (c .before .before .before .before .before .before .before .before .before .before .put .ensures .0) (c .before .before .before .before .before .before .before .before .before .before .put .ensures .1) (got term _ (c .before .before .before .before .before .before .get-entry .ensures) (c .before .before .end2 .given .1)), (record { fits = entry-room (c .before .before .before .before .before .before .before .before .before .before .before .before .before .before .before .pre .0) (c .before .before .before .before .before .before .before .before .before .before .before .before .before .before .before .pre .1) (c .before .before .before .before .before .before .before .before .before .before .put .ensures .0) (c .before .before .before .before .before .before .before .before .before .before .put .ensures .1) (got term _ (c .before .before .before .before .before .before .get-entry .ensures) (c .before .before .end2 .given .1)) .1; layout = omega (arith, entry-long (c .before .before .before .before .before .before .before .before .before .before .before .before .before .before .before .pre .0) (c .before .before .before .before .before .before .before .before .before .before .before .before .before .before .before .pre .1) (c .before .before .before .before .before .before .before .before .before .before .put .ensures .0) (c .before .before .before .before .before .before .before .before .before .before .put .ensures .1) (got term _ (c .before .before .before .before .before .before .get-entry .ensures) (c .before .before .end2 .given .1)), c .before .before .before .before .before .before .before .before .before .before .before .before .before .before .before .pre .0 .sized .tree) }, (entry-room (c .before .before .before .before .before .before .before .before .before .before .before .before .before .before .before .pre .0) (c .before .before .before .before .before .before .before .before .before .before .before .before .before .before .before .pre .1) (c .before .before .before .before .before .before .before .before .before .before .put .ensures .0) (c .before .before .before .before .before .before .before .before .before .before .put .ensures .1) (got term _ (c .before .before .before .before .before .before .get-entry .ensures) (c .before .before .end2 .given .1)) .0, omega arith)))
 
 go-on-requires-2 : tie.Need-go-on-requires-2
-go-on-requires-2 c κs = record { inside = entry-inside (c .before .before .before .before .before .before .before .before .before .before .before .before .before .before .before .before .before .before .pre .0) (c .before .before .before .before .before .before .before .before .before .before .before .before .before .before .before .before .before .before .pre .1) (c .before .before .before .before .before .before .before .before .before .before .before .before .before .put .ensures .0) (c .before .before .before .before .before .before .before .before .before .before .before .before .before .put .ensures .1) (got term _ (c .before .before .before .before .before .before .before .before .before .get-entry .ensures) (c .before .before .before .before .before .end2 .given .1)); short = c .before .before .before .before .before .before .before .before .before .before .before .before .before .before .before .before .before .before .pre .0 .sized .short }
+go-on-requires-2 c κs = search needs
 
 enum-known-level : tie.Need-enum-known-level
 enum-known-level c = search needs
@@ -52,7 +52,7 @@ close-entry-requires : tie.Need-close-entry-requires
 close-entry-requires c κs = let q = entry-small (c .before .before .before .before .before .before .before .before .before .before .before .before .before .before .before .before .pre .0) (c .before .before .before .before .before .before .before .before .before .before .before .before .before .before .before .before .pre .1) (c .before .before .before .before .before .before .before .before .before .before .before .put .ensures .0) (c .before .before .before .before .before .before .before .before .before .before .before .put .ensures .1) (got (comment _) _ (c .before .before .before .before .before .before .before .get-entry .ensures) (c .before .before .before .level .given .1)) in (record { fits = entry-room (c .before .before .before .before .before .before .before .before .before .before .before .before .before .before .before .before .pre .0) (c .before .before .before .before .before .before .before .before .before .before .before .before .before .before .before .before .pre .1) (c .before .before .before .before .before .before .before .before .before .before .before .put .ensures .0) (c .before .before .before .before .before .before .before .before .before .before .before .put .ensures .1) (got (comment _) _ (c .before .before .before .before .before .before .before .get-entry .ensures) (c .before .before .before .level .given .1)) .1; layout = omega (arith, entry-long (c .before .before .before .before .before .before .before .before .before .before .before .before .before .before .before .before .pre .0) (c .before .before .before .before .before .before .before .before .before .before .before .before .before .before .before .before .pre .1) (c .before .before .before .before .before .before .before .before .before .before .before .put .ensures .0) (c .before .before .before .before .before .before .before .before .before .before .before .put .ensures .1) (got (comment _) _ (c .before .before .before .before .before .before .before .get-entry .ensures) (c .before .before .before .level .given .1)), c .before .before .before .before .before .before .before .before .before .before .before .before .before .before .before .before .pre .0 .sized .tree) }, (entry-room (c .before .before .before .before .before .before .before .before .before .before .before .before .before .before .before .before .pre .0) (c .before .before .before .before .before .before .before .before .before .before .before .before .before .before .before .before .pre .1) (c .before .before .before .before .before .before .before .before .before .before .before .put .ensures .0) (c .before .before .before .before .before .before .before .before .before .before .before .put .ensures .1) (got (comment _) _ (c .before .before .before .before .before .before .before .get-entry .ensures) (c .before .before .before .level .given .1)) .0, omega (arith, q .1)))
 
 go-on-requires-3 : tie.Need-go-on-requires-3
-go-on-requires-3 c κs = record { inside = entry-inside (c .before .before .before .before .before .before .before .before .before .before .before .before .before .before .before .before .before .before .before .pre .0) (c .before .before .before .before .before .before .before .before .before .before .before .before .before .before .before .before .before .before .before .pre .1) (c .before .before .before .before .before .before .before .before .before .before .before .before .before .before .put .ensures .0) (c .before .before .before .before .before .before .before .before .before .before .before .before .before .before .put .ensures .1) (got (comment _) _ (c .before .before .before .before .before .before .before .before .before .before .get-entry .ensures) (c .before .before .before .before .before .before .level .given .1)); short = c .before .before .before .before .before .before .before .before .before .before .before .before .before .before .before .before .before .before .before .pre .0 .sized .short }
+go-on-requires-3 c κs = search needs
 
 enum-known-e : tie.Need-enum-known-e
 enum-known-e c = search needs

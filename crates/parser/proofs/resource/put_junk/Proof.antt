@@ -7,11 +7,17 @@ use Rattle.parser.proofs.resource.put_junk.Tie as tie
 skip-to-next-entry-start-requires : tie.Need-skip-to-next-entry-start-requires
 skip-to-next-entry-start-requires c κs = search needs
 
-mul-put-text : tie.Need-mul-put-text
-mul-put-text c = search needs
+mul-cap : tie.Need-mul-cap
+mul-cap c = search needs
 
-put-text-requires : tie.Need-put-text-requires
-put-text-requires c κs = search needs
+put-requires : tie.Need-put-requires
+put-requires c κs = search needs
+
+add-put : tie.Need-add-put
+add-put c = search needs
+
+put-requires-2 : tie.Need-put-requires-2
+put-requires-2 c κs = search needs
 
 put-error-requires : tie.Need-put-error-requires
 put-error-requires c κs = search needs
@@ -26,15 +32,19 @@ same-length-2 : tie.Need-same-length-2
 same-length-2 c = search needs
 
 returns : tie.Need-returns
-returns c = junked (c .before .before .before .before .before .before .before .before .before .skip-to-next-entry-start .ensures) (c .before .before .before .before .before .before .before .put-text .ensures .1) (c .before .before .before .before .before .before .before .put-text .ensures .0) (c .before .before .before .put-error .ensures .1) (c .before .before .before .put-error .ensures .0) (c .go-on .ensures)
+returns c =
+    junked (c .before .before .before .before .before .before .before .before .before .before .before .before .before .skip-to-next-entry-start .ensures) (c .before .before .before .before .before .before .before .before .before .before .before .put .ensures .1) (c .before .before .before .before .before .before .before .before .before .before .before .put .ensures .0) (c .before .before .before .before .before .before .before .put2 .ensures .1) (c .before .before .before .before .before .before .before .put2 .ensures .0) (c .before .before .before .put-error .ensures .1)
+    (c .before .before .before .put-error .ensures .0) (c .go-on .ensures)
 
 pub put-junk-spec : {M : Type 1} → statement M
 put-junk-spec =
     tie.close
     (tie.spec
     skip-to-next-entry-start-requires
-    mul-put-text
-    put-text-requires
+    mul-cap
+    put-requires
+    add-put
+    put-requires-2
     put-error-requires
     go-on-requires
     same-length
