@@ -2,24 +2,16 @@
 ghost use mathlib.Core.Path.{_≡_};
 ghost use mathlib.Core.Bool.{_&&_};
 ghost use lib.ListN.{drop};
-ghost use Rattle.syntax.specs.Bytes.{isLetter, isFresh};
+ghost use Rattle.syntax.specs.Bytes.{isFresh};
 ghost use Rattle.syntax.specs.Core.{toNextEntry, lineStartsAt};
 ghost use Rattle.entry.specs.Place.{Inside, Passed};
-
-fn is_letter(b: u8) -> bool
-    ensures { λ r. ⌜ r ≡ isLetter b ⌝ }
-{
-    match b {
-        b'A'..=b'Z' | b'a'..=b'z' => true,
-        _ => false,
-    }
-}
+use syntax::bytes::is_ascii_alphabetic;
 
 // A byte with which an entry starts; `fresh` says that a line starts there.
 fn is_entry_start(fresh: bool, b: u8) -> bool
     ensures { λ r. ⌜ r ≡ (fresh && isFresh b) ⌝ }
 {
-    fresh && (is_letter(b) || (b == b'-' || b == b'#'))
+    fresh && (is_ascii_alphabetic(b) || (b == b'-' || b == b'#'))
 }
 
 // Whether a line starts here.

@@ -1,8 +1,8 @@
 -- `bytes::is_ascii_uppercase` meets its contract.
 use borrow.Author.Needs.{needs}
 use Rattle.syntax.specs.Bytes.{isUpper}
-use Rattle.entry.proofs.bytes.is_ascii_uppercase.Statement.{statement}
-use Rattle.entry.proofs.bytes.is_ascii_uppercase.Tie as tie
+use Rattle.syntax.proofs.bytes.is_ascii_uppercase.Statement.{statement}
+use Rattle.syntax.proofs.bytes.is_ascii_uppercase.Tie as tie
 
 is-between-requires : tie.Need-is-between-requires
 is-between-requires c κs = search needs

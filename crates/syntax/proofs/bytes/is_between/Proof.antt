@@ -1,7 +1,7 @@
 -- `bytes::is_between` meets its contract.
 use borrow.Author.Tests.{le-leb, lt-leb}
-use Rattle.entry.proofs.bytes.is_between.Statement.{statement}
-use Rattle.entry.proofs.bytes.is_between.Tie as tie
+use Rattle.syntax.proofs.bytes.is_between.Statement.{statement}
+use Rattle.syntax.proofs.bytes.is_between.Tie as tie
 
 returns : tie.Need-returns
 returns c = rw (le-leb _ _ (c .if1 .taken))
