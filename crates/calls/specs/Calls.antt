@@ -1,4 +1,5 @@
--- Reading by the calls: slices of any length and content that are lent to `read`, and what `write` makes of the tree that it leaves. What the calls leave
+-- Reading by the calls: slices of any length and content that are lent to `read`, and what `write` makes of the tree
+-- that it leaves. What the calls leave
 -- is given by their contracts alone.
 use Prim.Native.Nat.{ℕ, _≤_}
 use mathlib.Core.Path.{_≡_}
@@ -29,7 +30,8 @@ pub record Reading (Did : ReadContract) (s : List ℕ) : Type 0 where
   pub answer : Answer
   pub did : Did s lentTree tree lentErrors errors answer
 
--- an accepted call of `write` with a source, a tree and the flag `junk`: its output before and after, and how many bytes it wrote, which are the text
+-- an accepted call of `write` with a source, a tree and the flag `junk`: its output before and after, and how many
+-- bytes it wrote, which are the text
 pub record Writing (s tree : List ℕ) (junk : Bool) (text : List ℕ) : Type 0 where
   pub lent : List ℕ
   pub output : List ℕ
@@ -37,7 +39,8 @@ pub record Writing (s tree : List ℕ) (junk : Bool) (text : List ℕ) : Type 0 
   pub did : DidWrite s tree lent output junk (Accepted size)
   pub wrote : text ≡ take size output
 
--- a view by a reading call and `write`. What is read of a source, and whether a reading is accepted, goes by the definitions, not by what the call answers
+-- a view by a reading call and `write`. What is read of a source, and whether a reading is accepted, goes by the
+-- definitions, not by what the call answers
 abbrev pub called : (parse : List ℕ → Core.Reading) (answer : List ℕ → ℕ → ℕ → Answer) → ReadContract → View
 called parse answer Did = record {
   kinds = λ s. kindsOf (parse s);
@@ -52,7 +55,8 @@ called parse answer Did = record {
 abbrev pub calls : View
 calls = called (parse maxOpen) readAnswer DidRead
 
--- The tree that an accepted reading left is never refused as ill-formed: for every output there is a text of `size` bytes, and `write` refuses only where
+-- The tree that an accepted reading left is never refused as ill-formed: for every output there is a text of `size`
+-- bytes, and `write` refuses only where
 -- the output is shorter. So a view by the calls has the texts that its claim speaks of.
 pub record Written (s tree : List ℕ) (junk : Bool) : Type 0 where
   pub size : ℕ

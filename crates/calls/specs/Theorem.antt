@@ -31,7 +31,8 @@ module _ (s t e : List ℕ) (h : readAnswer s (length t) (length e) ≡ Accepted
   answer-is o = writes s t e h o junk ∙ ap (λ ms. textAnswer o (length (serialize s junk ms))) (sym (marks-left s t e h))
 
   -- the output starts with the text
-  left : (o o′ : List ℕ) (size : ℕ) → Accepted size ≡ writeAnswer s (treeAfter s t e) (length o) junk → o′ ≡ outputAfter s (treeAfter s t e) o junk → take size o′ ≡ text
+  left : (o o′ : List ℕ) (size : ℕ) → Accepted size ≡ writeAnswer s (treeAfter s t e) (length o) junk
+      → o′ ≡ outputAfter s (treeAfter s t e) o junk → take size o′ ≡ text
   unfolding text
   left o o′ size a w =
       let n : size ≡ length text = written-size s (treeAfter s t e) o junk (sym a) in
@@ -41,12 +42,14 @@ module _ (s t e : List ℕ) (h : readAnswer s (length t) (length e) ≡ Accepted
 -- ---- a reading, and what is written of it
 
 module _ (s : List ℕ) (r : Reading DidRead s) (h : calls .Accepted s r) where
-  written-text : (junk : Bool) (x : List ℕ) → Writing s (r .tree) junk x → x ≡ serialize s junk (marksIn (treeAfter s (r .lentTree) (r .lentErrors)))
+  written-text : (junk : Bool) (x : List ℕ) → Writing s (r .tree) junk x
+      → x ≡ serialize s junk (marksIn (treeAfter s (r .lentTree) (r .lentErrors)))
   unfolding text
   written-text junk x w =
       let t = r .did .tree in
       w .wrote
-      ∙ left s (r .lentTree) (r .lentErrors) h junk (w .lent) (w .output) (w .size) (w .did .answers ∙ ap (λ z. writeAnswer s z (length (w .lent)) junk) t)
+      ∙ left s (r .lentTree) (r .lentErrors) h junk (w .lent) (w .output) (w .size)
+      (w .did .answers ∙ ap (λ z. writeAnswer s z (length (w .lent)) junk) t)
       (w .did .output ∙ ap (λ z. outputAfter s z (w .lent) junk) t)
 
 calls-show : Faithful maxOpen calls
@@ -72,9 +75,11 @@ pub writable : Writable
 unfolding textAnswer
 writable s r h junk = record {
   size = length (text s (r .lentTree) (r .lentErrors) h junk);
-  did = λ o o′ answer d l. d .answers ∙ ap (λ z. writeAnswer s z (length o) junk) (r .did .tree) ∙ answer-is s (r .lentTree) (r .lentErrors) h junk (length o) ∙ (rw (le-ltb (length o) _ l, textAnswer));
+  did = λ o o′ answer d l. d .answers ∙ ap (λ z. writeAnswer s z (length o) junk) (r .did .tree)
+      ∙ answer-is s (r .lentTree) (r .lentErrors) h junk (length o) ∙ (rw (le-ltb (length o) _ l, textAnswer));
 }
 
 -- what an accepted call of `write` wrote is UTF-8
-pub output-is-utf8 : (s tree o o′ : List ℕ) (junk : Bool) (size : ℕ) → DidWrite s tree o o′ junk (Accepted size) → Utf8.WellFormed (take size o′)
+pub output-is-utf8 : (s tree o o′ : List ℕ) (junk : Bool) (size : ℕ) → DidWrite s tree o o′ junk (Accepted size)
+    → Utf8.WellFormed (take size o′)
 output-is-utf8 s tree o o′ junk size d = rw (d .output) (output-utf8 s tree o junk (sym (d .answers)))

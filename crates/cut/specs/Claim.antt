@@ -1,4 +1,5 @@
--- Demand 3, said once (document 01, "A file cut in two"): a single claim about a source and a cut, tree, errors and texts together. It is said of any
+-- Demand 3, said once (document 01, "A file cut in two"): a single claim about a source and a cut, tree, errors and
+-- texts together. It is said of any
 -- view of reading; the definitions are one (Definition, proved in Theorem), the calls another (crate calls).
 use Prim.Native.Nat.{ℕ, _+_, _≤_}
 use mathlib.Core.Path.{_≡_}
@@ -6,7 +7,8 @@ use mathlib.Core.Bool.{Bool, true, false, _||_}
 use mathlib.Core.List.{List, [], _∷_, _++_, map}
 use lib.ListN.{length, take, drop}
 use lib.Dec.{eqb}
-use Rattle.syntax.specs.declared.errors.ErrorKind.the-variants.{ExpectedMessageField, ExpectedTermField, DuplicatedNamedArgument, InvalidUnicodeEscapeSequence}
+use Rattle.syntax.specs.declared.errors.ErrorKind.the-variants.{ExpectedMessageField, ExpectedTermField}
+use Rattle.syntax.specs.declared.errors.ErrorKind.the-variants.{DuplicatedNamedArgument, InvalidUnicodeEscapeSequence}
 use Rattle.syntax.specs.Byte as Byte
 use Rattle.syntax.specs.Kind as Kind
 use Rattle.syntax.specs.Bytes.{startsWith, run, lineRun, Whole, Fresh}
@@ -74,7 +76,8 @@ lastLine (b ∷ bs) = elim (oneLine (b ∷ bs)) [ true ↦ b ∷ bs | false ↦ 
 unfoldable pub hashes : List ℕ → ℕ
 hashes s = run (λ b. eqb b Byte.hash) s
 
--- the kind of a tree's first entry, by the kinds of its marks; 0 where it has none. A second part starts with an entry: its first is the one at its
+-- the kind of a tree's first entry, by the kinds of its marks; 0 where it has none. A second part starts with an entry:
+-- its first is the one at its
 -- first byte
 unfoldable pub firstEntry : List ℕ → ℕ
 firstEntry [] = 0
@@ -90,7 +93,8 @@ isFree k = eqb k Kind.comment || (eqb k Kind.groupComment || eqb k Kind.resource
 unfoldable pub isComment : ℕ → Bool
 isComment k = isFree k || eqb k Kind.attachedComment
 
--- what the bytes B start with, an entry of the kind k, joins a comment line of the level l right before it: it is a comment of the same level or, after a
+-- what the bytes B start with, an entry of the kind k, joins a comment line of the level l right before it: it is a
+-- comment of the same level or, after a
 -- one-'#' comment, a message or term
 pub data Joins (l : ℕ) (B : List ℕ) (k : ℕ) : Type 0 where
   level : isComment k ≡ true → hashes B ≡ l → Joins l B k
@@ -101,7 +105,8 @@ pub record Exception (A B : List ℕ) (ks : List ℕ) : Type 0 where
   pub line : startsWith Byte.hash (lastLine A) ≡ true
   pub joins : Joins (hashes (lastLine A)) B (firstEntry ks)
 
--- what stands between the normal texts of two parts: a newline exactly when the first part has an entry and the second opens with a free comment
+-- what stands between the normal texts of two parts: a newline exactly when the first part has an entry and the second
+-- opens with a free comment
 unfoldable pub between : (first second : List ℕ) → List ℕ
 between [] ks = []
 between (j ∷ js) ks = elim (isFree (firstEntry ks)) [ true ↦ Byte.lineFeed ∷ [] | false ↦ [] ]
@@ -123,9 +128,11 @@ pub record View : Type 1 where
   pub errors : (s : List ℕ) → Reading s → Errors
   pub Text : (s : List ℕ) → Reading s → (junk : Bool) → List ℕ → Type 0
 
--- A source s cut at the byte k, with readings of the whole and of each part as a file of its own. The conditions and the exception go by the bytes, by what is
+-- A source s cut at the byte k, with readings of the whole and of each part as a file of its own. The conditions and
+-- the exception go by the bytes, by what is
 -- lent and by the definition of the reading, not by what a reading leaves.
-module _ (view : View) (s : List ℕ) (k : ℕ) (whole : view .Reading s) (first : view .Reading (take k s)) (second : view .Reading (drop k s)) where
+module _ (view : View) (s : List ℕ) (k : ℕ) (whole : view .Reading s) (first : view .Reading (take k s))
+    (second : view .Reading (drop k s)) where
   -- the conditions
   pub record Fit : Type 0 where
     pub within : k ≤ length s

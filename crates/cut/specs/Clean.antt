@@ -12,7 +12,8 @@ use Rattle.syntax.specs.Reader.{Out, ok, bad, deep}
 use Rattle.syntax.specs.Helper.{skipBlankBlock}
 use Rattle.syntax.specs.Pattern.{Inside, usedBy}
 use Rattle.syntax.specs.Expression.{level}
-use Rattle.syntax.specs.Core.{Entry, getEntry, junkEnd, Error, upError, Reading, read, refused, following, isNamed, count, kindOfEntry, entries, parse}
+use Rattle.syntax.specs.Core.{Entry, getEntry, junkEnd, Error, upError, Reading, read, refused, following, isNamed}
+use Rattle.syntax.specs.Core.{count, kindOfEntry, entries, parse}
 use Rattle.laws.specs.Bytes.{clash}
 use Rattle.laws.specs.Moving.{map-append}
 use Rattle.laws.specs.Entries.{following-read}
@@ -24,7 +25,8 @@ without-right x [] js w = w
 without-right x (k ∷ ks) js w = without-right x ks js (w .1)
 
 -- what follows marks and k bytes
-rest-without : (ms : List Mark) (k : ℕ) (ns : List Mark) → Without Kind.junk (map kindOf (ms ++ moveUp k ns)) → Without Kind.junk (map kindOf ns)
+rest-without : (ms : List Mark) (k : ℕ) (ns : List Mark) → Without Kind.junk (map kindOf (ms ++ moveUp k ns))
+    → Without Kind.junk (map kindOf ns)
 rest-without ms k ns w =
     subst (Without Kind.junk) (kinds-up k ns)
     (without-right Kind.junk (map kindOf ms) (map kindOf (moveUp k ns)) (subst (Without Kind.junk) (map-append kindOf ms (moveUp k ns)) w))
@@ -32,7 +34,8 @@ rest-without ms k ns w =
 no-errors : (k : ℕ) (es fs : List Error) → es ≡ [] → map (upError k) es ≡ fs → fs ≡ []
 no-errors k es fs e h = sym h ∙ ap (map (upError k)) e
 
-clean-entries : (n : ℕ) (sub : Inside) (s : List ℕ) (ms : List Mark) (es : List Error) → entries n sub s ≡ read ms es → Without Kind.junk (map kindOf ms) → es ≡ []
+clean-entries : (n : ℕ) (sub : Inside) (s : List ℕ) (ms : List Mark) (es : List Error) → entries n sub s ≡ read ms es
+    → Without Kind.junk (map kindOf ms) → es ≡ []
 unfolding entries following textNode
 clean-entries zero sub s ms es h w = let z : _≡_ {A = ℕ} 0 1 = cc in absurd (omega arith)
 clean-entries (suc n) sub [] ms es h w = cc
@@ -47,7 +50,8 @@ clean-entries (suc n) sub (b ∷ bs) ms es h w = go (getEntry sub (b ∷ bs)) (�
       | bad f k ↦
           let j = junkEnd k (b ∷ bs) in
           let gap = skipBlankBlock (drop j (b ∷ bs)) in
-          following (textNode Kind.junk 0 j) (record { fault = f; junkFrom = 0; junkTill = j } ∷ []) (j + usedBy gap) (entries n sub (drop (j + usedBy gap) (b ∷ bs)))
+          following (textNode Kind.junk 0 j) (record { fault = f; junkFrom = 0; junkTill = j } ∷ []) (j + usedBy gap)
+          (entries n sub (drop (j + usedBy gap) (b ∷ bs)))
       | deep k ↦ refused k
     ]
 
@@ -58,13 +62,18 @@ clean-entries (suc n) sub (b ∷ bs) ms es h w = go (getEntry sub (b ∷ bs)) (�
     after-junk k j f (read ns fs) e = junk j (moveUp k ns) cc
     after-junk k j f (refused i) e = let z : _≡_ {A = ℕ} 0 1 = cc in absurd (omega arith)
 
-    go : (o : Out Entry) → ((r : List ℕ) (ns : List Mark) (fs : List Error) → entries n sub r ≡ read ns fs → Without Kind.junk (map kindOf ns) → fs ≡ []) → body o ≡ read ms es → es ≡ []
+    go : (o : Out Entry)
+        → ((r : List ℕ) (ns : List Mark) (fs : List Error) → entries n sub r ≡ read ns fs
+        → Without Kind.junk (map kindOf ns) → fs ≡ [])
+        → body o ≡ read ms es → es ≡ []
     go (ok e ns k) f g =
         let gap = skipBlankBlock (drop k (b ∷ bs)) in
         let rest = drop (k + usedBy gap) (b ∷ bs) in
         let own = node (kindOfEntry e (ltb (count gap) 2 && isNamed (getEntry sub rest))) ns in
         let (mr, er, r, m, x) = following-read own (k + usedBy gap) (entries n sub rest) ms es g in
-        no-errors (k + usedBy gap) er es (f rest mr er r (rest-without own (k + usedBy gap) mr (subst (λ l. Without Kind.junk (map kindOf l)) (sym m) w))) x
+        no-errors (k + usedBy gap) er es
+        (f rest mr er r
+        (rest-without own (k + usedBy gap) mr (subst (λ l. Without Kind.junk (map kindOf l)) (sym m) w))) x
     go (bad f k) r g =
         let j = junkEnd k (b ∷ bs) in
         let gap = skipBlankBlock (drop j (b ∷ bs)) in
@@ -76,4 +85,6 @@ unfolding parse
 clean n s ms es h w =
     let k = usedBy (skipBlankBlock s) in
     let (mr, er, r, m, x) = following-read [] k (entries (suc (length s)) (level n) (drop k s)) ms es h in
-    no-errors k er es (clean-entries (suc (length s)) (level n) (drop k s) mr er r (rest-without [] k mr (subst (λ l. Without Kind.junk (map kindOf l)) (sym m) w))) x
+    no-errors k er es
+    (clean-entries (suc (length s)) (level n) (drop k s) mr er r
+    (rest-without [] k mr (subst (λ l. Without Kind.junk (map kindOf l)) (sym m) w))) x

@@ -31,9 +31,12 @@ pub record Slices : Type 0 where
 unfoldable pub kindsOf : Core.Reading → List ℕ
 kindsOf r = map kindOf (marksOf r)
 
--- a reading by the definition of what is read, by the answer for a source and the lengths of the slices, and by the words that it leaves in both. Its normal
+-- a reading by the definition of what is read, by the answer for a source and the lengths of the slices, and by the
+-- words that it leaves in both. Its normal
 -- text is what the definition of the writer makes of the tree that is left
-abbrev pub defined : (parse : List ℕ → Core.Reading) (answer : List ℕ → ℕ → ℕ → Answer) (treeAfter errorsAfter : (source tree errors : List ℕ) → List ℕ) → View
+abbrev pub defined : (parse : List ℕ → Core.Reading) (answer : List ℕ → ℕ → ℕ → Answer)
+    (treeAfter errorsAfter : (source tree errors : List ℕ) → List ℕ)
+    → View
 defined parse answer treeAfter errorsAfter = record {
   kinds = λ s. kindsOf (parse s);
   Reading = λ s. Slices;

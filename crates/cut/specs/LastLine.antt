@@ -20,7 +20,9 @@ newline-before : (i : ℕ) (s : List ℕ) → lineStartsAt (suc i) s ≡ true �
 unfolding lineStartsAt
 newline-before i [] h = clash h refl
 newline-before zero (b ∷ bs) h = omega (arith, lineRun-here b bs h)
-newline-before (suc i) (b ∷ bs) h = byCase (eqb b 10) (λ q. omega (arith, lineRun-here b bs q)) (λ q. omega (arith, lineRun-on b bs q, newline-before i bs h))
+newline-before (suc i) (b ∷ bs) h =
+    byCase (eqb b 10) (λ q. omega (arith, lineRun-here b bs q))
+    (λ q. omega (arith, lineRun-on b bs q, newline-before i bs h))
 
 pub lastLine-at : (i : ℕ) (s : List ℕ) → lineStartsAt i s ≡ true → OneLine (drop i s) → lastLine s ≡ drop i s
 unfolding lastLine oneLine lineStartsAt
@@ -40,14 +42,17 @@ unfolding lineStartsAt
 line-exists b [] w = (0, refl, omega (arith, lineRun-here b [] (eq-eqb b 10 w)))
 line-exists b (c ∷ cs) w = by (line-exists c cs w)
   where
-    by : (i : ℕ) × (lineStartsAt i (c ∷ cs) ≡ true) × OneLine (drop i (c ∷ cs)) → (i : ℕ) × (lineStartsAt i (b ∷ c ∷ cs) ≡ true) × OneLine (drop i (b ∷ c ∷ cs))
+    by : (i : ℕ) × (lineStartsAt i (c ∷ cs) ≡ true) × OneLine (drop i (c ∷ cs)) → (i : ℕ)
+        × (lineStartsAt i (b ∷ c ∷ cs) ≡ true) × OneLine (drop i (b ∷ c ∷ cs))
     by t = go (t .0) (t .1) (t .2)
       where
-        go : (i : ℕ) → lineStartsAt i (c ∷ cs) ≡ true → OneLine (drop i (c ∷ cs)) → (i : ℕ) × (lineStartsAt i (b ∷ c ∷ cs) ≡ true) × OneLine (drop i (b ∷ c ∷ cs))
+        go : (i : ℕ) → lineStartsAt i (c ∷ cs) ≡ true → OneLine (drop i (c ∷ cs)) → (i : ℕ)
+            × (lineStartsAt i (b ∷ c ∷ cs) ≡ true) × OneLine (drop i (b ∷ c ∷ cs))
         go zero h o = byCase (eqb b 10) (λ q. (1, q, o)) (λ q. (0, refl, omega (arith, lineRun-on b (c ∷ cs) q)))
         go (suc i) h o = (suc (suc i), h, o)
 
-pub lastLine-drop : (k : ℕ) (s : List ℕ) → lineStartsAt k s ≡ true → Whole (drop k s) → 0 < length (drop k s) → lastLine s ≡ lastLine (drop k s)
+pub lastLine-drop : (k : ℕ) (s : List ℕ) → lineStartsAt k s ≡ true → Whole (drop k s) → 0 < length (drop k s)
+    → lastLine s ≡ lastLine (drop k s)
 lastLine-drop k s h w l = go (drop k s) refl w l
   where
     go : (r : List ℕ) → drop k s ≡ r → Whole r → 0 < length r → lastLine s ≡ lastLine (drop k s)
@@ -56,7 +61,8 @@ lastLine-drop k s h w l = go (drop k s) refl w l
         let (i, ls, o) = line-exists b bs v in
         let ls′ : lineStartsAt i (drop k s) ≡ true = rw e ls in
         let o′ : OneLine (drop i (drop k s)) = rw e o in
-        lastLine-at (k + i) s (starts-add k i s h ls′) (rw (← drop-drop i k s) o′) ∙ sym (drop-drop i k s) ∙ sym (lastLine-at i (drop k s) ls′ o′)
+        lastLine-at (k + i) s (starts-add k i s h ls′) (rw (← drop-drop i k s) o′) ∙ sym (drop-drop i k s)
+        ∙ sym (lastLine-at i (drop k s) ls′ o′)
 
 whole-take : (i : ℕ) (s : List ℕ) → lineStartsAt i s ≡ true → Whole (take i s)
 unfolding lineStartsAt

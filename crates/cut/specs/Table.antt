@@ -85,12 +85,50 @@ given r =
     let ta = serialize a false (tree a) in
     let tb = serialize b false (tree b) in
     let t = serialize (a ++ b) false (tree (a ++ b)) in
-    elim (sameMarks (tree (a ++ b)) (tree a ++ Marks.moveUp (length a) (tree b))) [ true ↦ some (take (length t - length ta - length tb) (drop (length ta) t)) | false ↦ none ]
+    elim
+    (sameMarks (tree (a ++ b)) (tree a ++ Marks.moveUp (length a) (tree b))) [
+      | true ↦ some
+          (take (length t - length ta - length tb) (drop (length ta) t))
+      | false ↦ none
+    ]
 
 unfoldable pub expected : Join → Option (List ℕ)
 expected differ = none
 expected (equal t) = some (ascii t)
 
 pub cuts-hold : map given rows ≡ map (λ (r : Row). expected (r .join)) rows
-unfolding given expected tree sameMarks Bytes.startsWith Bytes.starts Bytes.second Bytes.isUpper Bytes.isLetter Bytes.isDigit Bytes.isNamePart Bytes.isHex Bytes.isCalleePart Bytes.run Bytes.all Bytes.eol Bytes.spaces Bytes.firstWidth Bytes.lineRun Marks.moveUp Marks.node Marks.textNode Reader.after Reader.next Reader._>>=_ Reader._>>_ Reader.pure Reader.fail Reader.wrap Reader.inNode Reader.turnOf Reader.loop Reader.repeat Helper.skipBlankInline Helper.skipEol Helper.blankTurn Helper.skipBlank Helper.blockTurn Helper.skipBlankBlock Helper.takeByteIf Helper.expectByte Helper.skipDigits Helper.fraction Helper.number Helper.asText Helper.getNumberLiteral Helper.getIdentifier Helper.skipUnicodeEscapeSequence Comment.lineLength Comment.levelOf Comment.lineEndUsed Comment.lineRead Comment.lineTurn Comment.commentTurn Comment.getComment Pattern.isTextByte Pattern.isBlank Pattern.endsInCr Pattern.lineSlice Pattern.sliceBy Pattern.getTextSlice Pattern.isLineStart Pattern.roleAfter Pattern.isLineFeed Pattern.leastIndent Pattern.isContinuation Pattern.withPlaceable Pattern.commonAfter Pattern.isElement Pattern.withText Pattern.goesOn Pattern.lineTurn Pattern.textTurn Pattern.patternTurn Pattern.trimmed Pattern.dedented Pattern.textMarks Pattern.elementMarks Pattern.finish Pattern.stateAt Pattern.usedBy Pattern.firstState Pattern.getPattern Expression.inlineKind Expression.asInline Expression.escapeTurn Expression.stringTurn Expression.stringLiteral Expression.asString Expression.numberLiteral Expression.callArguments Expression.getCallArguments Expression.getAttributeAccessor Expression.termReference Expression.variableReference Expression.messageReference Expression.functionReference Expression.referenceBy Expression.reference Expression.nestedPlaceable Expression.noInline Expression.nonLiteral Expression.getInlineExpression Expression.sameBytes Expression.isAmong Expression.isNone Expression.separator Expression.positional Expression.namedValue Expression.namedArgument Expression.afterReference Expression.pastBlank Expression.argumentBy Expression.argumentTurn Expression.parenthesised Expression.keyText Expression.getVariantKey Expression.needsValue Expression.variant Expression.variantKind Expression.endVariants Expression.variantWith Expression.afterStar Expression.turnAfter Expression.variantTurn Expression.getVariants Expression.selector Expression.alone Expression.needsLineEnd Expression.selectFrom Expression.afterInline Expression.inSelect Expression.inlineOrSelect Expression.getExpression Expression.braced Expression.tooDeep Expression.level Core.getAttribute Core.attributeBy Core.attributeTurn Core.getAttributes Core.fields Core.termFields Core.asMessage Core.asTerm Core.asComment Core.getEntry Core.toNextEntry Core.lineStartsAt Core.junkEnd Core.upError Core.following Core.isNamed Core.count Core.kindOfEntry Core.entries Core.parse Serializer.nodesFrom Serializer.nodes Serializer.lastOf Serializer._⊕_ Serializer.empty Serializer.literal Serializer.newline Serializer.indented Serializer.star Serializer.each Serializer.if Serializer.between Serializer.textOf Serializer.first Serializer.hasKind Serializer.isEmpty Serializer.ofKind Serializer.name Serializer.blankLine Serializer.commentLine Serializer.comment Serializer.isSelect Serializer.hasNewline Serializer.multilineElement Serializer.isMultiline Serializer.leadingDot Serializer.reference Serializer.attribute Serializer.attributes Serializer.message Serializer.freeComment Serializer.entry Serializer.wroteBy Serializer.resource Serializer.serialize Serializer.pattern Reading.marksOf
+unfolding given expected tree sameMarks Bytes.startsWith Bytes.starts Bytes.second Bytes.isUpper Bytes.isLetter
+    Bytes.isDigit Bytes.isNamePart Bytes.isHex Bytes.isCalleePart Bytes.run Bytes.all Bytes.eol Bytes.spaces
+    Bytes.firstWidth Bytes.lineRun Marks.moveUp Marks.node Marks.textNode Reader.after Reader.next Reader._>>=_
+    Reader._>>_ Reader.pure Reader.fail Reader.wrap Reader.inNode Reader.turnOf Reader.loop Reader.repeat
+    Helper.skipBlankInline Helper.skipEol Helper.blankTurn Helper.skipBlank Helper.blockTurn Helper.skipBlankBlock
+    Helper.takeByteIf Helper.expectByte Helper.skipDigits Helper.fraction Helper.number Helper.asText
+    Helper.getNumberLiteral Helper.getIdentifier Helper.skipUnicodeEscapeSequence Comment.lineLength Comment.levelOf
+    Comment.lineEndUsed Comment.lineRead Comment.lineTurn Comment.commentTurn Comment.getComment Pattern.isTextByte
+    Pattern.isBlank Pattern.endsInCr Pattern.lineSlice Pattern.sliceBy Pattern.getTextSlice Pattern.isLineStart
+    Pattern.roleAfter Pattern.isLineFeed Pattern.leastIndent Pattern.isContinuation Pattern.withPlaceable
+    Pattern.commonAfter Pattern.isElement Pattern.withText Pattern.goesOn Pattern.lineTurn Pattern.textTurn
+    Pattern.patternTurn Pattern.trimmed Pattern.dedented Pattern.textMarks Pattern.elementMarks Pattern.finish
+    Pattern.stateAt Pattern.usedBy Pattern.firstState Pattern.getPattern Expression.inlineKind Expression.asInline
+    Expression.escapeTurn Expression.stringTurn Expression.stringLiteral Expression.asString Expression.numberLiteral
+    Expression.callArguments Expression.getCallArguments Expression.getAttributeAccessor Expression.termReference
+    Expression.variableReference Expression.messageReference Expression.functionReference Expression.referenceBy
+    Expression.reference Expression.nestedPlaceable Expression.noInline Expression.nonLiteral
+    Expression.getInlineExpression Expression.sameBytes Expression.isAmong Expression.isNone Expression.separator
+    Expression.positional Expression.namedValue Expression.namedArgument Expression.afterReference Expression.pastBlank
+    Expression.argumentBy Expression.argumentTurn Expression.parenthesised Expression.keyText Expression.getVariantKey
+    Expression.needsValue Expression.variant Expression.variantKind Expression.endVariants Expression.variantWith
+    Expression.afterStar Expression.turnAfter Expression.variantTurn Expression.getVariants Expression.selector
+    Expression.alone Expression.needsLineEnd Expression.selectFrom Expression.afterInline Expression.inSelect
+    Expression.inlineOrSelect Expression.getExpression Expression.braced Expression.tooDeep Expression.level
+    Core.getAttribute Core.attributeBy Core.attributeTurn Core.getAttributes Core.fields Core.termFields Core.asMessage
+    Core.asTerm Core.asComment Core.getEntry Core.toNextEntry Core.lineStartsAt Core.junkEnd Core.upError Core.following
+    Core.isNamed Core.count Core.kindOfEntry Core.entries Core.parse Serializer.nodesFrom Serializer.nodes
+    Serializer.lastOf Serializer._⊕_ Serializer.empty Serializer.literal Serializer.newline Serializer.indented
+    Serializer.star Serializer.each Serializer.if Serializer.between Serializer.textOf Serializer.first
+    Serializer.hasKind Serializer.isEmpty Serializer.ofKind Serializer.name Serializer.blankLine Serializer.commentLine
+    Serializer.comment Serializer.isSelect Serializer.hasNewline Serializer.multilineElement Serializer.isMultiline
+    Serializer.leadingDot Serializer.reference Serializer.attribute Serializer.attributes Serializer.message
+    Serializer.freeComment Serializer.entry Serializer.wroteBy Serializer.resource Serializer.serialize
+    Serializer.pattern Reading.marksOf
 cuts-hold = refl

@@ -1,4 +1,5 @@
--- Demand 3 holds: the claim on a file cut in two, for every view whose accepted readings leave what `parse` reads, and so for the reading call as it is
+-- Demand 3 holds: the claim on a file cut in two, for every view whose accepted readings leave what `parse` reads, and
+-- so for the reading call as it is
 -- defined, for every source, cut and slices.
 use Prim.Native.Nat.{ℕ}
 use native.Mathlib.Omega.{arith}
@@ -77,7 +78,8 @@ module _ {n : ℕ} {view : View} (s : List ℕ) (k : ℕ) {w : view .Reading s} 
   joined = first .marks ++ moveUp k (second .marks)
 
   joined-is : join (view .tree (take k s) f) (moveTree k (view .tree (drop k s) g)) ≡ ofMarks joined
-  joined-is = ap₂ (λ a b. join a (moveTree k b)) (first .tree) (second .tree) ∙ join-marks k (first .marks) (second .marks) (proper n (drop k s) (second .marks) (second .list) (second .reads))
+  joined-is = ap₂ (λ a b. join a (moveTree k b)) (first .tree) (second .tree)
+      ∙ join-marks k (first .marks) (second .marks) (proper n (drop k s) (second .marks) (second .list) (second .reads))
 
   -- the marks that the theorem on marks speaks of
   moved : first .marks ++ moveUp (length (take k s)) (second .marks) ≡ joined
@@ -89,21 +91,28 @@ module _ {n : ℕ} {view : View} (s : List ℕ) (k : ℕ) {w : view .Reading s} 
   told : SameTree view s k w f g → whole .marks ≡ joined
   told e =
       marks-same (whole .marks) joined (proper n s (whole .marks) (whole .list) (whole .reads))
-      (proper-append (first .marks) (moveUp k (second .marks)) (proper n (take k s) (first .marks) (first .list) (first .reads)) (proper-up k (second .marks) (proper n (drop k s) (second .marks) (second .list) (second .reads))))
+      (proper-append (first .marks) (moveUp k (second .marks))
+      (proper n (take k s) (first .marks) (first .list) (first .reads))
+      (proper-up k (second .marks) (proper n (drop k s) (second .marks) (second .list) (second .reads))))
       (sym (whole .tree) ∙ e ∙ joined-is)
 
   errors-moved : view .errors s w ≡ moveErrors k (view .errors (drop k s) g)
   errors-moved =
-      whole .errors ∙ ap ofErrors (trees .errors ∙ ap (λ j. map (upError j) (second .list)) part-length) ∙ sym (move-errors k (second .list))
+      whole .errors ∙ ap ofErrors (trees .errors ∙ ap (λ j. map (upError j) (second .list)) part-length)
+      ∙ sym (move-errors k (second .list))
       ∙ ap (moveErrors k) (sym (second .errors))
 
-  texts-join : SameTree view s k w f g → (junk : Bool) (t a b : List ℕ) → view .Text s w junk t → view .Text (take k s) f junk a → view .Text (drop k s) g junk b
+  texts-join : SameTree view s k w f g → (junk : Bool) (t a b : List ℕ) → view .Text s w junk t
+      → view .Text (take k s) f junk a → view .Text (drop k s) g junk b
       → t ≡ a ++ (between (view .kinds (take k s)) (view .kinds (drop k s)) ++ b)
   texts-join e junk t a b x y z =
       whole .text junk t x
       ∙ ap (λ r. serialize r junk (whole .marks)) (sym (take-append-drop k s))
-      ∙ cut-text n (take k s) (drop k s) (first .marks) (second .marks) (whole .marks) (second .list) (whole .list) readings (told e ∙ sym moved) junk
-      ∙ ap₂ (λ (p q : List ℕ). p ++ q) (sym (first .text junk a y)) (ap₂ (λ (p q : List ℕ). p ++ q) (ap₂ between (sym (first .kinds)) (sym (second .kinds))) (sym (second .text junk b z)))
+      ∙ cut-text n (take k s) (drop k s) (first .marks) (second .marks) (whole .marks) (second .list)
+      (whole .list) readings (told e ∙ sym moved) junk
+      ∙ ap₂ (λ (p q : List ℕ). p ++ q) (sym (first .text junk a y))
+      (ap₂ (λ (p q : List ℕ). p ++ q) (ap₂ between (sym (first .kinds)) (sym (second .kinds)))
+      (sym (second .text junk b z)))
 
   claim : Claim view s k w f g
   claim = record {
@@ -115,12 +124,17 @@ module _ {n : ℕ} {view : View} (s : List ℕ) (k : ℕ) {w : view .Reading s} 
 
 -- such a view's claim holds
 pub holds : (n : ℕ) (view : View) → Faithful n view → Demand3 view
-holds n view shows s k w f g fit = claim s k fit (shows s w (fit .wholeRead)) (shows (take k s) f (fit .firstRead)) (shows (drop k s) g (fit .secondRead))
+holds n view shows s k w f g fit =
+    claim s k fit (shows s w (fit .wholeRead)) (shows (take k s) f (fit .firstRead))
+    (shows (drop k s) g (fit .secondRead))
 
 -- the first part's list of errors is empty, so that the whole's is that of both parts joined
-pub none-first : (n : ℕ) (view : View) → Faithful n view → (s : List ℕ) (k : ℕ) (w : view .Reading s) (f : view .Reading (take k s)) (g : view .Reading (drop k s))
+pub none-first : (n : ℕ) (view : View) → Faithful n view
+    → (s : List ℕ) (k : ℕ) (w : view .Reading s) (f : view .Reading (take k s)) (g : view .Reading (drop k s))
     → Fit view s k w f g → view .errors (take k s) f ≡ record { count = 0; kinds = []; groups = [] }
-none-first n view shows s k w f g fit = first-errors s k fit (shows s w (fit .wholeRead)) (shows (take k s) f (fit .firstRead)) (shows (drop k s) g (fit .secondRead))
+none-first n view shows s k w f g fit =
+    first-errors s k fit (shows s w (fit .wholeRead)) (shows (take k s) f (fit .firstRead))
+    (shows (drop k s) g (fit .secondRead))
 
 -- ---- the reading call, as it is defined
 
@@ -134,7 +148,9 @@ reading-shows s l h =
       list = d .errors;
       reads = d .reads;
       kinds = ap kindsOf (d .reads);
-      tree = ap treeIn (d .tree) ∙ tree-in (treeCapacity (length s)) (d .marks) (drop (treeLayout (length s)) (l .tree)) (omega (arith, u .0 .room));
+      tree = ap treeIn (d .tree)
+          ∙ tree-in (treeCapacity (length s)) (d .marks) (drop (treeLayout (length s)) (l .tree))
+          (omega (arith, u .0 .room));
       errors = ap errorsIn (d .list) ∙ errors-in (length s) (d .errors) (drop (errorLayout (length s)) (l .errors)) (u .1);
       text = λ junk t e. e ∙ ap (serialize s junk) (marks-left s (l .tree) (l .errors) h);
     }

@@ -71,20 +71,35 @@ module _ (n : ℕ) (A B : List ℕ) (ma mb mab : List Mark) (eb eab : List Error
   unfolding parse usedBy
   second-part =
       let z : usedBy (skipBlankBlock B) ≡ 0 = ap usedBy (block-fresh B (r .fresh)) in
-      let (mb′, eb′, e, m, x) = following-read [] 0 (entries (suc (length B)) (level n) B) mb eb (ap (λ k. following [] [] k (entries (suc (length B)) (level n) (drop k B))) (sym z) ∙ r .second) in
+      let (mb′, eb′, e, m, x) =
+      following-read [] 0 (entries (suc (length B)) (level n) B) mb eb
+      (ap (λ k. following [] [] k (entries (suc (length B)) (level n) (drop k B))) (sym z) ∙ r .second) in
       e ∙ ap₂ read (sym (moveUp-zero mb′) ∙ m) (sym (upErrors-zero eb′) ∙ x)
 
-  uncut-part : (mab′ : List Mark) × (eab′ : List Error) × (entries (suc (length A) + suc (length B)) (level n) (from-start ++ B) ≡ read mab′ eab′) × (moveUp start mab′ ≡ mab) × (map (upError start) eab′ ≡ eab)
+  uncut-part : (mab′ : List Mark) × (eab′ : List Error)
+      × (entries (suc (length A) + suc (length B)) (level n) (from-start ++ B) ≡ read mab′ eab′)
+      × (moveUp start mab′ ≡ mab) × (map (upError start) eab′ ≡ eab)
   unfolding parse start from-start
   uncut-part =
       let z : usedBy (skipBlankBlock (A ++ B)) ≡ start = ap usedBy (block-same fresh tt A B (r .whole) (start-le, r .fresh)) in
       let (mab′, eab′, e, m, x) = following-read [] start (entries (suc (length (A ++ B))) (level n) (drop start A ++ B)) mab eab
-      (ap (λ s. following [] [] start (entries (suc (length (A ++ B))) (level n) s)) (sym (drop-app start A B start-le)) ∙ ap (λ k. following [] [] k (entries (suc (length (A ++ B))) (level n) (drop k (A ++ B)))) (sym z) ∙ r .uncut) in
-      (mab′, eab′, entries-more (level n) (suc (length (A ++ B))) (suc (length A) + suc (length B)) (drop start A ++ B) mab′ eab′ (omega (arith, length-append A B)) e, m, x)
+      (ap (λ s. following [] [] start (entries (suc (length (A ++ B))) (level n) s)) (sym (drop-app start A B start-le))
+      ∙ ap (λ k. following [] [] k (entries (suc (length (A ++ B))) (level n) (drop k (A ++ B)))) (sym z)
+      ∙ r .uncut) in (
+        mab′,
+        eab′,
+        entries-more (level n) (suc (length (A ++ B))) (suc (length A) + suc (length B)) (drop start A ++ B) mab′ eab′
+            (omega (arith, length-append A B)) e,
+        m,
+        x,
+      )
 
-  joint : Joint (level n) (level-law n) B (r .fresh) (suc (length B)) mb eb second-part from-start (first-part .0) (entries (suc (length A) + suc (length B)) (level n) (from-start ++ B))
+  joint : Joint (level n) (level-law n) B (r .fresh) (suc (length B)) mb eb second-part from-start (first-part .0)
+      (entries (suc (length A) + suc (length B)) (level n) (from-start ++ B))
   unfolding from-start
-  joint = join (level n) (level-law n) B (r .fresh) (suc (length B)) mb eb second-part (suc (length A)) (drop start A) (first-part .0) (whole-drop start A (r .whole)) (first-part .1)
+  joint =
+      join (level n) (level-law n) B (r .fresh) (suc (length B)) mb eb second-part (suc (length A)) (drop start A)
+      (first-part .0) (whole-drop start A (r .whole)) (first-part .1)
 
   same-line : 0 < length from-start → lastLine A ≡ lastLine from-start
   unfolding start from-start usedBy
@@ -94,46 +109,94 @@ module _ (n : ℕ) (A B : List ℕ) (ma mb mab : List Mark) (eb eab : List Error
       lands = let (c, gs, u, g) = sure-ok (skipBlankBlock A) (block-sure A) in
           subst (λ k. lineStartsAt k A ≡ true) (sym (ap usedBy g)) (subst (Holds (λ a ms k. lineStartsAt k A ≡ true)) g (block-lands A))
 
-  to : Exception A B (map kindOf mb) → (startsWith 35 (lastLine from-start) ≡ true) × Joins (hashes (lastLine from-start)) (getEntry (level n) B)
+  to : Exception A B (map kindOf mb) → (startsWith 35 (lastLine from-start) ≡ true)
+      × Joins (hashes (lastLine from-start)) (getEntry (level n) B)
   unfolding start
   to x = byCase (ltb 0 (length from-start))
-      (λ q. let e = same-line (ltb-true 0 (length from-start) q) in (subst (λ z. startsWith 35 z ≡ true) e (x .line), subst (λ z. Joins (hashes z) (getEntry (level n) B)) e (joins-entry n B mb eb second-part (hashes (lastLine A)) (x .joins))))
+      (λ q. let e = same-line (ltb-true 0 (length from-start) q) in (
+        subst (λ z. startsWith 35 z ≡ true) e (x .line),
+        subst (λ z. Joins (hashes z) (getEntry (level n) B)) e
+            (joins-entry n B mb eb second-part (hashes (lastLine A)) (x .joins)),
+      ))
       (λ q. absurd (apart (tail-of A (r .whole) (x .line)) (ltb-false 0 (length from-start) q)))
     where
       apart : Tail A → length from-start ≤ 0 → ⊥
-      apart t h = omega (arith, from-length, subst (λ z. usedBy (skipBlankBlock z) ≤ length (t .front)) (sym (t .split)) (block-within (t .front) (t .back) (t .whole) (t .stop)), ap length (t .split), length-append (t .front) (t .back), t .some)
+      apart t h =
+          omega (
+            arith,
+            from-length,
+            subst (λ z. usedBy (skipBlankBlock z) ≤ length (t .front)) (sym (t .split))
+                (block-within (t .front) (t .back) (t .whole) (t .stop)),
+            ap length (t .split),
+            length-append (t .front) (t .back),
+            t .some,
+          )
 
-  from : (startsWith 35 (lastLine from-start) ≡ true) × Joins (hashes (lastLine from-start)) (getEntry (level n) B) → Exception A B (map kindOf mb)
+  from : (startsWith 35 (lastLine from-start) ≡ true) × Joins (hashes (lastLine from-start)) (getEntry (level n) B)
+      → Exception A B (map kindOf mb)
   unfolding from-start
   from x = byCase (ltb 0 (length from-start))
-      (λ q. let e = sym (same-line (ltb-true 0 (length from-start) q)) in record { line = subst (λ z. startsWith 35 z ≡ true) e (x .0); joins = entry-joins n B mb eb second-part (hashes (lastLine A)) (subst (λ z. Joins (hashes z) (getEntry (level n) B)) e (x .1)) })
-      (λ q. absurd (no-exc (level n) (level-law n) B (r .fresh) (suc (length B)) mb eb second-part (subst (λ z. (startsWith 35 (lastLine z) ≡ true) × Joins (hashes (lastLine z)) (getEntry (level n) B)) (drop-of-length-le A {i = start} (omega (arith, length-drop start A, ltb-false 0 (length from-start) q))) x)))
+      (λ q. let e = sym (same-line (ltb-true 0 (length from-start) q)) in
+      record {
+        line = subst (λ z. startsWith 35 z ≡ true) e (x .0);
+        joins =
+            entry-joins n B mb eb second-part (hashes (lastLine A))
+            (subst (λ z. Joins (hashes z) (getEntry (level n) B)) e (x .1));
+      })
+      (λ q. absurd
+      (no-exc (level n) (level-law n) B (r .fresh) (suc (length B)) mb eb second-part
+      (subst (λ z. (startsWith 35 (lastLine z) ≡ true) × Joins (hashes (lastLine z)) (getEntry (level n) B))
+      (drop-of-length-le A {i = start} (omega (arith, length-drop start A, ltb-false 0 (length from-start) q))) x)))
 
   both : (uncut-part .0 ≡ joint .mab) × (uncut-part .1 ≡ map (upError (length from-start)) eb)
-  both = read-read (entries (suc (length A) + suc (length B)) (level n) (from-start ++ B)) (uncut-part .0) (joint .mab) (uncut-part .1) (map (upError (length from-start)) eb) (uncut-part .2) (joint .reads)
+  both =
+      read-read (entries (suc (length A) + suc (length B)) (level n) (from-start ++ B)) (uncut-part .0) (joint .mab)
+      (uncut-part .1) (map (upError (length from-start)) eb) (uncut-part .2) (joint .reads)
 
   marks : moveUp start (joint .mab) ≡ mab
   marks = ap (moveUp start) (sym (both .0)) ∙ uncut-part .3
 
   joined : joint .mab ≡ first-part .0 ++ moveUp (length from-start) mb → mab ≡ ma ++ moveUp (length A) mb
-  joined e = sym marks ∙ ap (moveUp start) e ∙ moveUp-append start (first-part .0) (moveUp (length from-start) mb) ∙ ap₂ (λ a z. a ++ z) (first-part .2) (moveUp-twice start (length from-start) mb ∙ ap (λ k. moveUp k mb) from-length)
+  joined e = sym marks ∙ ap (moveUp start) e ∙ moveUp-append start (first-part .0) (moveUp (length from-start) mb)
+      ∙ ap₂ (λ a z. a ++ z) (first-part .2)
+      (moveUp-twice start (length from-start) mb ∙ ap (λ k. moveUp k mb) from-length)
 
   apart : (weight (joint .mab) ≡ weight (first-part .0) + weight mb → ⊥) → mab ≡ ma ++ moveUp (length A) mb → ⊥
-  apart d e = d (omega (arith, ap weight marks, weight-up start (joint .mab), ap weight e, weight-append ma (moveUp (length A) mb), weight-up (length A) mb, ap weight (first-part .2), weight-up start (first-part .0)))
+  apart d e =
+      d
+      (omega (
+        arith,
+        ap weight marks,
+        weight-up start (joint .mab),
+        ap weight e,
+        weight-append ma (moveUp (length A) mb),
+        weight-up (length A) mb,
+        ap weight (first-part .2),
+        weight-up start (first-part .0),
+      ))
 
   pub cut-tree : CutTree n A B ma mb mab eb eab
   cut-tree = record {
-    errors = sym (uncut-part .4) ∙ ap (map (upError start)) (both .1) ∙ upErrors-twice start (length from-start) eb ∙ ap (λ k. map (upError k) eb) from-length;
+    errors = sym (uncut-part .4) ∙ ap (map (upError start)) (both .1) ∙ upErrors-twice start (length from-start) eb
+        ∙ ap (λ k. map (upError k) eb) from-length;
     differs = λ x. differ (joint .tree) x;
     equal = λ x. same (joint .tree) x;
   }
     where
-      differ : (((startsWith 35 (lastLine from-start) ≡ true) × Joins (hashes (lastLine from-start)) (getEntry (level n) B) → ⊥) × (joint .mab ≡ first-part .0 ++ moveUp (length from-start) mb)) ⊎ (((startsWith 35 (lastLine from-start) ≡ true) × Joins (hashes (lastLine from-start)) (getEntry (level n) B)) × (weight (joint .mab) ≡ weight (first-part .0) + weight mb → ⊥))
+      differ : (((startsWith 35 (lastLine from-start) ≡ true)
+          × Joins (hashes (lastLine from-start)) (getEntry (level n) B) → ⊥)
+          × (joint .mab ≡ first-part .0 ++ moveUp (length from-start) mb)) ⊎
+          (((startsWith 35 (lastLine from-start) ≡ true) × Joins (hashes (lastLine from-start)) (getEntry (level n) B))
+          × (weight (joint .mab) ≡ weight (first-part .0) + weight mb → ⊥))
           → Exception A B (map kindOf mb) → mab ≡ ma ++ moveUp (length A) mb → ⊥
       differ (inl (not-exc, e)) x = absurd (not-exc (to x))
       differ (inr (exc, d)) x = apart d
 
-      same : (((startsWith 35 (lastLine from-start) ≡ true) × Joins (hashes (lastLine from-start)) (getEntry (level n) B) → ⊥) × (joint .mab ≡ first-part .0 ++ moveUp (length from-start) mb)) ⊎ (((startsWith 35 (lastLine from-start) ≡ true) × Joins (hashes (lastLine from-start)) (getEntry (level n) B)) × (weight (joint .mab) ≡ weight (first-part .0) + weight mb → ⊥))
+      same : (((startsWith 35 (lastLine from-start) ≡ true)
+          × Joins (hashes (lastLine from-start)) (getEntry (level n) B) → ⊥)
+          × (joint .mab ≡ first-part .0 ++ moveUp (length from-start) mb)) ⊎
+          (((startsWith 35 (lastLine from-start) ≡ true) × Joins (hashes (lastLine from-start)) (getEntry (level n) B))
+          × (weight (joint .mab) ≡ weight (first-part .0) + weight mb → ⊥))
           → (Exception A B (map kindOf mb) → ⊥) → mab ≡ ma ++ moveUp (length A) mb
       same (inl (not-exc, e)) x = joined e
       same (inr (exc, d)) x = absurd (x (from exc))

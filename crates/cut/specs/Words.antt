@@ -103,7 +103,8 @@ groups-up : (n : ℕ) (es : List Error) → moveGroups n (map errorNumber es) (g
 unfolding moveGroups groups
 groups-up n [] = refl
 groups-up n (e ∷ es) =
-    ap₂ (λ (a b : List ℕ). a ++ b) (ap (moveGroup n (errorNumber e)) (take-at (group e) (groups es) groupSize (group-length e)) ∙ group-up n e)
+    ap₂ (λ (a b : List ℕ). a ++ b)
+    (ap (moveGroup n (errorNumber e)) (take-at (group e) (groups es) groupSize (group-length e)) ∙ group-up n e)
     (ap (moveGroups n (map errorNumber es)) (drop-at (group e) (groups es) groupSize (group-length e)) ∙ groups-up n es)
 
 pub move-errors : (n : ℕ) (es : List Error) → moveErrors n (ofErrors es) ≡ ofErrors (map (upError n) es)

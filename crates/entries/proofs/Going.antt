@@ -35,7 +35,15 @@ pub record Going (s ws ws′ : List ℕ) (at n : ℕ) : Type 0 where
 
 pub going-start : (s ws : List ℕ) {at : ℕ} → at ≡ firstPlace s → Going s ws ws at 0
 unfolding wordsOf
-going-start s ws {at} h = record { inside = omega (arith, first-within s); few = omega arith; done = []; count = refl; all = ap (entriesAfter s) h ∙ after-first s; words = refl }
+going-start s ws {at} h =
+    record {
+      inside = omega (arith, first-within s);
+      few = omega arith;
+      done = [];
+      count = refl;
+      all = ap (entriesAfter s) h ∙ after-first s;
+      words = refl;
+    }
 
 pub going-long : {s ws ws′ : List ℕ} {at n : ℕ} → Going s ws ws′ at n → length ws′ ≡ length ws
 going-long {ws = ws} g = ap length (g .words) ∙ length-sets ws 0 (wordsOf (g .done))
@@ -47,7 +55,8 @@ pub record Found (s : List ℕ) (at a e : ℕ) : Type 0 where
   pub within : e ≤ length s
   pub first : entriesAfter s at ≡ record { start = a; stop = e } ∷ entriesAfter s e
 
-module _ {s t ws ws′ : List ℕ} {at n : ℕ} {r : Next} (l : Lent s t ws) (g : Going s ws ws′ at n) (m : ℕ) (k : m ≡ length t) (h : r ≡ nextAnswer s at m) where
+module _ {s t ws ws′ : List ℕ} {at n : ℕ} {r : Next} (l : Lent s t ws) (g : Going s ws ws′ at n) (m : ℕ)
+    (k : m ≡ length t) (h : r ≡ nextAnswer s at m) where
   told : Answered s at m
   told = answered s at m (omega (arith, l .source, l .tree))
 
@@ -60,7 +69,12 @@ module _ {s t ws ws′ : List ℕ} {at n : ℕ} {r : Next} (l : Lent s t ws) (g 
         go (finds {a = b} {e = f} p x i j w) =
             let y : b ≡ a = cc in
             let z : f ≡ e = cc in
-            record { before = omega arith; some = omega arith; within = omega arith; first = x ∙ λ k. record { start = y k; stop = z k } ∷ entriesAfter s (z k) }
+            record {
+              before = omega arith;
+              some = omega arith;
+              within = omega arith;
+              first = x ∙ λ k. record { start = y k; stop = z k } ∷ entriesAfter s (z k);
+            }
 
     -- it is listed
     pub going-next : Going s ws (set (set ws′ (2 * n) a) (2 * n + 1) e) e (n + 1)
@@ -77,7 +91,8 @@ module _ {s t ws ws′ : List ℕ} {at n : ℕ} {r : Next} (l : Lent s t ws) (g 
           done = d ++ (x ∷ []);
           count = omega (arith, g .count, length-append d (x ∷ []));
           all = append-assoc d (x ∷ []) (entriesAfter s e) ∙ ap (λ xs. d ++ xs) (sym (found .first)) ∙ g .all;
-          words = ap (λ z. set (set z (2 * n) a) (2 * n + 1) e) (g .words) ∙ ap₂ (λ u v. set (set (sets ws 0 w) u a) v e) i j ∙ sets-append ws 0 w (a ∷ e ∷ [])
+          words = ap (λ z. set (set z (2 * n) a) (2 * n + 1) e) (g .words)
+              ∙ ap₂ (λ u v. set (set (sets ws 0 w) u a) v e) i j ∙ sets-append ws 0 w (a ∷ e ∷ [])
               ∙ ap (sets ws 0) (sym (words-append d (x ∷ [])));
         }
 

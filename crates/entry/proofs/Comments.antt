@@ -81,9 +81,11 @@ module _ {s : List ℕ} {at i : ℕ} (p : Passed s at (eol (drop at s)) i) where
 
   module _ {r : Bool} (t : Tests (startsWith Byte.hash) s i r) where
     pub used-comment : r ≡ true → Passed s at (lineEndUsed (drop at s)) i
-    used-comment h = let e = used-hash (drop at s) (drop i s) rest (by (t .is) h) in record { end = omega (arith, p .end); within = p .within }
+    used-comment h = let e = used-hash (drop at s) (drop i s) rest (by (t .is) h) in
+        record { end = omega (arith, p .end); within = p .within }
 
-    pub used-feed : isEol (drop at s) ≡ true → at ≤ length s → (i ≡ length s → ⊥) → r ≡ false → Passed s at (lineEndUsed (drop at s)) (i - 1)
+    pub used-feed : isEol (drop at s) ≡ true → at ≤ length s → (i ≡ length s → ⊥) → r ≡ false
+        → Passed s at (lineEndUsed (drop at s)) (i - 1)
     used-feed g a n h =
         let w = p .within in
         let some = feed-some g a n in
@@ -102,17 +104,20 @@ module _ (level l : ℕ) where
   line-empty [] h n = absurd (not-suc-le-zero n)
   line-empty (b ∷ x) h n = rw (h, lineTurn)
 
-  line-text : (x : List ℕ) → isEol x ≡ false → startsWith Byte.space x ≡ true → lineTurn level l x ≡ lineRead l (l + 1) (lineLength (drop 1 x)) (drop (lineLength (drop 1 x)) (drop 1 x))
+  line-text : (x : List ℕ) → isEol x ≡ false → startsWith Byte.space x ≡ true
+      → lineTurn level l x ≡ lineRead l (l + 1) (lineLength (drop 1 x)) (drop (lineLength (drop 1 x)) (drop 1 x))
   unfolding lineTurn isEol startsWith
   line-text [] f h = clash h refl
   line-text (b ∷ x) f h = rw (f, lineTurn, h)
 
-  line-fails : (x : List ℕ) → isEol x ≡ false → startsWith Byte.space x ≡ false → level ≡ 0 → lineTurn level l x ≡ done (after [] l (fail (ExpectedToken Byte.space) x))
+  line-fails : (x : List ℕ) → isEol x ≡ false → startsWith Byte.space x ≡ false → level ≡ 0
+      → lineTurn level l x ≡ done (after [] l (fail (ExpectedToken Byte.space) x))
   unfolding lineTurn isEol startsWith
   line-fails [] f h e = clash refl f
   line-fails (b ∷ x) f h e = rw (f, lineTurn, h, e)
 
-  line-other : (x : List ℕ) → isEol x ≡ false → startsWith Byte.space x ≡ false → (level ≡ 0 → ⊥) → lineTurn level l x ≡ done (ok level [] 0)
+  line-other : (x : List ℕ) → isEol x ≡ false → startsWith Byte.space x ≡ false → (level ≡ 0 → ⊥)
+      → lineTurn level l x ≡ done (ok level [] 0)
   unfolding lineTurn isEol startsWith
   line-other [] f h e = clash refl f
   line-other (b ∷ x) f h e = rw (f, lineTurn, h, ne-eqb level 0 e)
@@ -123,7 +128,8 @@ abbrev over : ℕ → ℕ → Bool
 over level l = eqb l 0 || (not (eqb level 0) && not (eqb l level))
 
 -- a line whose text goes from a to e
-line-made : {s : List ℕ} {at l a e k : ℕ} {t : Turn ℕ ℕ} → t ≡ lineRead l (a - at) (e - a) (drop e s) → at ≤ a → a ≤ e → Passed s e (lineEndUsed (drop e s)) k → LineAt s at t l a e k
+line-made : {s : List ℕ} {at l a e k : ℕ} {t : Turn ℕ ℕ} → t ≡ lineRead l (a - at) (e - a) (drop e s) → at ≤ a → a ≤ e
+    → Passed s e (lineEndUsed (drop e s)) k → LineAt s at t l a e k
 unfolding lineRead
 line-made {s} {at} {l} {a} {e} {k} h o x p =
     let till : a - at + (e - a) ≡ e - at = omega arith in
@@ -154,7 +160,9 @@ module _ {s : List ℕ} {at : ℕ} (level l : ℕ) (p : Passed s at (levelOf (dr
         record { turn = goes ∙ line-none level l _ (drop-of-length-le s g) ∙ rw z; onward = omega arith; within = p .within }
 
     module _ {b : Bool} (u : b ≡ isEol (drop (at + l) s)) where
-      pub turn-empty : {k : ℕ} → b ≡ true → (at + l ≡ length s → ⊥) → Passed s (at + l) (lineEndUsed (drop (at + l) s)) k → LineAt s at (commentTurn level (drop at s)) l (at + l) (at + l) k
+      pub turn-empty : {k : ℕ} → b ≡ true → (at + l ≡ length s → ⊥)
+          → Passed s (at + l) (lineEndUsed (drop (at + l) s)) k
+          → LineAt s at (commentTurn level (drop at s)) l (at + l) (at + l) k
       turn-empty e n q =
           let w = p .within in
           let z : at + l - at ≡ l = omega arith in
@@ -162,22 +170,29 @@ module _ {s : List ℕ} {at : ℕ} (level l : ℕ) (p : Passed s at (levelOf (dr
           line-made (goes ∙ line-empty level l _ (by u e) (omega (arith, length-drop (at + l) s)) ∙ rw (z, y)) (omega arith) (omega arith) q
 
       module _ {d : Bool} (v : Tests (startsWith Byte.space) s (at + l) d) (e : b ≡ false) where
-        pub turn-text : {i k : ℕ} → d ≡ true → Passed s (at + l + 1) (lineLength (drop (at + l + 1) s)) i → Passed s i (lineEndUsed (drop i s)) k → LineAt s at (commentTurn level (drop at s)) l (at + l + 1) i k
+        pub turn-text : {i k : ℕ} → d ≡ true → Passed s (at + l + 1) (lineLength (drop (at + l + 1) s)) i
+            → Passed s i (lineEndUsed (drop i s)) k → LineAt s at (commentTurn level (drop at s)) l (at + l + 1) i k
         turn-text {i} g m q =
             let z : at + l + 1 - at ≡ l + 1 = omega arith in
             let y : lineLength (drop (at + l + 1) s) ≡ i - (at + l + 1) = omega (arith, m .end) in
             let x : at + l + 1 + (i - (at + l + 1)) ≡ i = omega (arith, m .end) in
-            line-made (goes ∙ line-text level l _ (by u e) (by (v .is) g) ∙ rw (drop-drop 1 (at + l) s, drop-drop, y, x, z)) (omega arith) (omega (arith, m .end)) q
+            line-made
+            (goes ∙ line-text level l _ (by u e) (by (v .is) g) ∙ rw (drop-drop 1 (at + l) s, drop-drop, y, x, z))
+            (omega arith) (omega (arith, m .end)) q
 
         module _ (g : d ≡ false) where
-          pub turn-fails : {f : ParserError} → level ≡ 0 → f ≡ faultAt (ExpectedToken Byte.space) (at + l) → BadAt s at (commentTurn level (drop at s)) f (at + l)
+          pub turn-fails : {f : ParserError} → level ≡ 0 → f ≡ faultAt (ExpectedToken Byte.space) (at + l)
+              → BadAt s at (commentTurn level (drop at s)) f (at + l)
           unfolding after fail
           turn-fails n q =
               let z : at + l - at ≡ l + 0 = omega arith in
               record {
                 fault = upFault l (faultAt (ExpectedToken Byte.space) 0);
                 turn = goes ∙ line-fails level l _ (by u e) (by (v .is) g) n ∙ rw z;
-                moved = q ∙ sym (upFault-twice at l (faultAt (ExpectedToken Byte.space) 0) ∙ fault-here (ExpectedToken Byte.space) (at + l) refl);
+                moved = q
+                    ∙ sym
+                    (upFault-twice at l (faultAt (ExpectedToken Byte.space) 0)
+                    ∙ fault-here (ExpectedToken Byte.space) (at + l) refl);
                 onward = omega arith;
                 within = p .within;
               }
@@ -194,7 +209,8 @@ pub record Commenting (s : List ℕ) (at cap n : ℕ) (t₀ t : List ℕ) (level
   pub inside : place ≤ length s
   pub spent : m ≤ 8 * place + 1
   pub long : length t ≡ length t₀
-  pub rest : (t₂ : List ℕ) (r : ReadEntry) → Did commenting cap place m t t₂ r (repeat commentTurn level (drop place s)) → Did commenting cap at n t₀ t₂ r (getComment (drop at s))
+  pub rest : (t₂ : List ℕ) (r : ReadEntry) → Did commenting cap place m t t₂ r (repeat commentTurn level (drop place s))
+      → Did commenting cap at n t₀ t₂ r (getComment (drop at s))
 
 pub commenting-none : {s : List ℕ} {at cap n : ℕ} {t : List ℕ} → Entered s t cap at n → Commenting s at cap n t t 0 at n
 unfolding getComment
@@ -205,7 +221,8 @@ module _ {s : List ℕ} {at cap n : ℕ} {t₀ t : List ℕ} {level place m : �
     pub line-moves : place < k
     line-moves = let o = turn-moves commentTurn-moves level (drop place s) (h .turn) .0 in omega arith
 
-    pub commenting-line : {t′ : List ℕ} {m′ : ℕ} → Step cap m t t′ (word 8 a ∷ word 108 e ∷ []) → m′ ≡ m + 2 → Commenting s at cap n t₀ t′ l k m′
+    pub commenting-line : {t′ : List ℕ} {m′ : ℕ} → Step cap m t t′ (word 8 a ∷ word 108 e ∷ []) → m′ ≡ m + 2
+        → Commenting s at cap n t₀ t′ l k m′
     unfolding textNode
     commenting-line {t′} {m′} p c =
         let from : a ≡ place + (a - place) = omega (arith, h .opens) in
@@ -215,17 +232,24 @@ module _ {s : List ℕ} {at cap n : ℕ} {t₀ t : List ℕ} {level place m : �
           inside = h .within;
           spent = omega (arith, g .spent);
           long = p .long ∙ g .long;
-          rest = λ t₂ r d. g .rest t₂ r (did-again commentTurn-moves s level (h .turn) (omega arith) c (rw (text-placed place a e _ _ 8 from till) p) d);
+          rest =
+              λ t₂ r d. g .rest t₂ r
+              (did-again commentTurn-moves s level (h .turn) (omega arith) c
+              (rw (text-placed place a e _ _ 8 from till) p) d);
         }
 
-  pub commenting-end : {l k : ℕ} → EndAt s place (commentTurn level (drop place s)) l k → Did commenting cap at n t₀ t (Comment l k m) (getComment (drop at s))
+  pub commenting-end : {l k : ℕ} → EndAt s place (commentTurn level (drop place s)) l k
+      → Did commenting cap at n t₀ t (Comment l k m) (getComment (drop at s))
   commenting-end {l} {k} h =
       let e : k ≡ place + (k - place) = omega (arith, h .onward) in
       g .rest t (Comment l k m)
-      (rw (repeat-done commentTurn level (drop place s) (h .turn)) (record { answers = ap₂ (Comment l) e (sym (add-zero m)); wrote = rw words-none (step-none cap m t) }))
+      (rw (repeat-done commentTurn level (drop place s) (h .turn))
+      (record { answers = ap₂ (Comment l) e (sym (add-zero m)); wrote = rw words-none (step-none cap m t) }))
 
-  pub commenting-bad : {f : ParserError} {k : ℕ} → BadAt s place (commentTurn level (drop place s)) f k → Did commenting cap at n t₀ t (Bad f k) (getComment (drop at s))
+  pub commenting-bad : {f : ParserError} {k : ℕ} → BadAt s place (commentTurn level (drop place s)) f k
+      → Did commenting cap at n t₀ t (Bad f k) (getComment (drop at s))
   commenting-bad {f} {k} h =
       let e : k ≡ place + (k - place) = omega (arith, h .onward) in
       g .rest t (Bad f k)
-      (rw (repeat-done commentTurn level (drop place s) (h .turn)) (record { answers = ap₂ Bad (h .moved) e; wrote = rw words-none (step-none cap m t) }))
+      (rw (repeat-done commentTurn level (drop place s) (h .turn))
+      (record { answers = ap₂ Bad (h .moved) e; wrote = rw words-none (step-none cap m t) }))

@@ -56,55 +56,76 @@ unfolding level tooDeep
 braces-deep {cap} {at} {n} {t} zero x e = did-far reading far-here (step-none cap n t)
 braces-deep (suc d) x e = absurd (omega arith)
 
-pub braces-open : {cap at n : ℕ} {t t₁ : List ℕ} {r : Read} (d : ℕ) (x : List ℕ) → (d ≡ 0 → ⊥) → Did reading cap at n t t₁ r (braced (level (d - 1)) x) → Did reading cap at n t t₁ r (level d .braced x)
+pub braces-open : {cap at n : ℕ} {t t₁ : List ℕ} {r : Read} (d : ℕ) (x : List ℕ) → (d ≡ 0 → ⊥)
+    → Did reading cap at n t t₁ r (braced (level (d - 1)) x) → Did reading cap at n t t₁ r (level d .braced x)
 unfolding level
 braces-open zero x e h = absurd (e refl)
-braces-open {cap} {at} {n} {t} {t₁} {r} (suc d) x e h = subst (λ (k : ℕ). Did reading cap at n t t₁ r (braced (level k) x)) (sub-one (suc d)) h
+braces-open {cap} {at} {n} {t} {t₁} {r} (suc d) x e h =
+    subst (λ (k : ℕ). Did reading cap at n t t₁ r (braced (level k) x)) (sub-one (suc d)) h
 
 pub calls-deep : {cap at n : ℕ} {t : List ℕ} (d : ℕ) (x : List ℕ) → d ≡ 0 → Did reading cap at n t t (Deep at) (level d .parenthesised x)
 unfolding level tooDeep
 calls-deep {cap} {at} {n} {t} zero x e = did-far reading far-here (step-none cap n t)
 calls-deep (suc d) x e = absurd (omega arith)
 
-pub calls-open : {cap at n : ℕ} {t t₁ : List ℕ} {r : Read} (d : ℕ) (x : List ℕ) → (d ≡ 0 → ⊥) → Did reading cap at n t t₁ r (parenthesised (level (d - 1)) x) → Did reading cap at n t t₁ r (level d .parenthesised x)
+pub calls-open : {cap at n : ℕ} {t t₁ : List ℕ} {r : Read} (d : ℕ) (x : List ℕ) → (d ≡ 0 → ⊥)
+    → Did reading cap at n t t₁ r (parenthesised (level (d - 1)) x)
+    → Did reading cap at n t t₁ r (level d .parenthesised x)
 unfolding level
 calls-open zero x e h = absurd (e refl)
-calls-open {cap} {at} {n} {t} {t₁} {r} (suc d) x e h = subst (λ (k : ℕ). Did reading cap at n t t₁ r (parenthesised (level k) x)) (sub-one (suc d)) h
+calls-open {cap} {at} {n} {t} {t₁} {r} (suc d) x e h =
+    subst (λ (k : ℕ). Did reading cap at n t t₁ r (parenthesised (level k) x)) (sub-one (suc d)) h
 
 -- ---- an identifier with its marks, from the loop over what follows its first letter
-unfoldable pub found-name : {cap at n n′ e : ℕ} {t t₁ : List ℕ} (s : List ℕ) → starts isLetter (drop at s) ≡ true → Passed s (at + 1) (run isNamePart (drop (at + 1) s)) e → n′ ≡ n + 2 → Step cap n t t₁ (word 9 at ∷ word 109 e ∷ [])
+unfoldable pub found-name : {cap at n n′ e : ℕ} {t t₁ : List ℕ} (s : List ℕ) → starts isLetter (drop at s) ≡ true
+    → Passed s (at + 1) (run isNamePart (drop (at + 1) s)) e → n′ ≡ n + 2
+    → Step cap n t t₁ (word 9 at ∷ word 109 e ∷ [])
     → Found cap at n e n′ t t₁ (getIdentifier 9 (drop at s))
 found-name {at = at} {e = e} s h p c w =
     let l = letter-here s at h in
     found-text (identifier-some 9 (drop at s) h) (omega (arith, p .end, run-name s at l h)) c w
 
 -- ---- call arguments
-pub call-none : {cap at n a : ℕ} {t : List ℕ} {v : Bool} (sub : Inside) (s : List ℕ) → Went s at (skipBlank (drop at s)) tt a → v ≡ startsWith Byte.openParenthesis (drop a s) → v ≡ false → Did reading cap at n t t (Ok a n) (getCallArguments sub (drop at s))
+pub call-none : {cap at n a : ℕ} {t : List ℕ} {v : Bool} (sub : Inside) (s : List ℕ)
+    → Went s at (skipBlank (drop at s)) tt a → v ≡ startsWith Byte.openParenthesis (drop a s) → v ≡ false
+    → Did reading cap at n t t (Ok a n) (getCallArguments sub (drop at s))
 unfolding getCallArguments callArguments
-call-none {cap} {at} {n} {a} {t} sub s w e h = did-then s skipBlank (callArguments sub) (went w) (rw (sym e ∙ h, callArguments) (record { answers = ap₂ Ok (sym (add-zero a)) (sym (add-zero n)); wrote = rw words-none (step-none cap n t) }))
+call-none {cap} {at} {n} {a} {t} sub s w e h =
+    did-then s skipBlank (callArguments sub) (went w)
+    (rw (sym e ∙ h, callArguments)
+    (record { answers = ap₂ Ok (sym (add-zero a)) (sym (add-zero n)); wrote = rw words-none (step-none cap n t) }))
 
-pub call-some : {cap at n a : ℕ} {t t₁ : List ℕ} {r : Read} {v : Bool} (sub : Inside) (s : List ℕ) → Went s at (skipBlank (drop at s)) tt a → v ≡ startsWith Byte.openParenthesis (drop a s) → v ≡ true → Did reading cap a n t t₁ r (sub .parenthesised (drop a s))
+pub call-some : {cap at n a : ℕ} {t t₁ : List ℕ} {r : Read} {v : Bool} (sub : Inside) (s : List ℕ)
+    → Went s at (skipBlank (drop at s)) tt a → v ≡ startsWith Byte.openParenthesis (drop a s) → v ≡ true
+    → Did reading cap a n t t₁ r (sub .parenthesised (drop a s))
     → Did reading cap at n t t₁ r (getCallArguments sub (drop at s))
 unfolding getCallArguments callArguments
-call-some {a = a} sub s w e h d = did-then s skipBlank (callArguments sub) (went w) (rw (sym e ∙ h, callArguments) (did-valued true (sub .parenthesised) (drop a s) d))
+call-some {a = a} sub s w e h d =
+    did-then s skipBlank (callArguments sub) (went w)
+    (rw (sym e ∙ h, callArguments) (did-valued true (sub .parenthesised) (drop a s) d))
 
 -- the name's bytes
-pub name-take : (s : List ℕ) (at e : ℕ) → starts isLetter (drop at s) ≡ true → Passed s (at + 1) (run isNamePart (drop (at + 1) s)) e → take (e - at) (drop at s) ≡ take (run isNamePart (drop at s)) (drop at s)
+pub name-take : (s : List ℕ) (at e : ℕ) → starts isLetter (drop at s) ≡ true
+    → Passed s (at + 1) (run isNamePart (drop (at + 1) s)) e
+    → take (e - at) (drop at s) ≡ take (run isNamePart (drop at s)) (drop at s)
 name-take s at e h p =
     let l = letter-here s at h in
     let i : e - at ≡ run isNamePart (drop at s) = omega (arith, p .end, run-name s at l h) in
     ap (λ (k : ℕ). take k (drop at s)) i
 
-pub passed-two : {s : List ℕ} {e : ℕ} (at : ℕ) (p : ℕ → Bool) → Passed s (at + 2) (run p (drop (at + 2) s)) e → Passed s (at + 1 + 1) (run p (drop (at + 1 + 1) s)) e
+pub passed-two : {s : List ℕ} {e : ℕ} (at : ℕ) (p : ℕ → Bool) → Passed s (at + 2) (run p (drop (at + 2) s)) e
+    → Passed s (at + 1 + 1) (run p (drop (at + 1 + 1) s)) e
 passed-two {s} {e} at p w = let i : at + 2 ≡ at + 1 + 1 = omega arith in subst (λ (k : ℕ). Passed s k (run p (drop k s)) e) i w
 
 -- what stands in braces lies where it lies
-pub braces-bounded : (d : ℕ) (s : List ℕ) (at : ℕ) → startsWith Byte.openBrace (drop at s) ≡ true → Bounded d (λ _. 20) (drop at s) (level d .braced (drop at s))
+pub braces-bounded : (d : ℕ) (s : List ℕ) (at : ℕ) → startsWith Byte.openBrace (drop at s) ≡ true
+    → Bounded d (λ _. 20) (drop at s) (level d .braced (drop at s))
 braces-bounded d s at h = go (drop at s) h
   where
     go : (x : List ℕ) → startsWith Byte.openBrace x ≡ true → Bounded d (λ _. 20) x (level d .braced x)
     go [] e = let z : true ≡ false = sym e ∙ (unfold startsWith in refl) in let y : _≡_ {A = ℕ} 0 1 = cc in absurd (omega arith)
     go (b ∷ bs) e = level-bounds d .braced b bs
 
-pub name-end : (s : List ℕ) (at e : ℕ) → starts isLetter (drop at s) ≡ true → Passed s (at + 1) (run isNamePart (drop (at + 1) s)) e → e ≡ at + run isNamePart (drop at s)
+pub name-end : (s : List ℕ) (at e : ℕ) → starts isLetter (drop at s) ≡ true
+    → Passed s (at + 1) (run isNamePart (drop (at + 1) s)) e → e ≡ at + run isNamePart (drop at s)
 name-end s at e h p = let l = letter-here s at h in omega (arith, p .end, run-name s at l h)

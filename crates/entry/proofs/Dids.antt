@@ -53,16 +53,23 @@ pub words-none : (at : ℕ) → wordsAt at [] ≡ []
 unfolding wordsAt moveUp
 words-none at = refl
 
-pub answer-after : {A R : Type 0} (w : Says A R) (at n k : ℕ) (ms : List Mark) (o : Out A) → answer w at n (after ms k o) ≡ answer w (at + k) (n + length ms) o
+pub answer-after : {A R : Type 0} (w : Says A R) (at n k : ℕ) (ms : List Mark) (o : Out A)
+    → answer w at n (after ms k o) ≡ answer w (at + k) (n + length ms) o
 unfolding after
-answer-after w at n k ms (ok a ns j) = ap₂ (w .yes a) (sym (add-assoc at k j)) (ap (λ (i : ℕ). n + i) (length-append ms (moveUp k ns) ∙ ap (λ (i : ℕ). length ms + i) (moved-length k ns)) ∙ sym (add-assoc n (length ms) (length ns)))
+answer-after w at n k ms (ok a ns j) =
+    ap₂ (w .yes a) (sym (add-assoc at k j))
+    (ap (λ (i : ℕ). n + i) (length-append ms (moveUp k ns) ∙ ap (λ (i : ℕ). length ms + i) (moved-length k ns))
+    ∙ sym (add-assoc n (length ms) (length ns)))
 answer-after w at n k ms (bad f j) = ap₂ (w .no) (fault-up at k f) (sym (add-assoc at k j))
 answer-after w at n k ms (deep j) = ap (w .far) (sym (add-assoc at k j))
 
-pub did-after : {A R : Type 0} {w : Says A R} {cap at n : ℕ} {t t₁ t₂ : List ℕ} {r : R} (ms : List Mark) (k : ℕ) (o : Out A) → Step cap n t t₁ (wordsAt at ms) → Did w cap (at + k) (n + length ms) t₁ t₂ r o
+pub did-after : {A R : Type 0} {w : Says A R} {cap at n : ℕ} {t t₁ t₂ : List ℕ} {r : R} (ms : List Mark) (k : ℕ)
+    (o : Out A)
+    → Step cap n t t₁ (wordsAt at ms) → Did w cap (at + k) (n + length ms) t₁ t₂ r o
     → Did w cap at n t t₂ r (after ms k o)
 unfolding after
-did-after {A} {R} {w} {cap} {at} {n} {t} {t₁} {t₂} {r} ms k o s d = record { answers = d .answers ∙ sym (answer-after w at n k ms o); wrote = go o (d .wrote) }
+did-after {A} {R} {w} {cap} {at} {n} {t} {t₁} {t₂} {r} ms k o s d =
+    record { answers = d .answers ∙ sym (answer-after w at n k ms o); wrote = go o (d .wrote) }
   where
     len : n + length ms ≡ n + length (wordsAt at ms)
     len = ap (λ (i : ℕ). n + i) (sym (words-length at ms))
@@ -73,8 +80,11 @@ did-after {A} {R} {w} {cap} {at} {n} {t} {t₁} {t₂} {r} ms k o s d = record {
     go (deep j) v = rw words-none (step-cut (step-then s len v))
 
 -- a turn of a loop that goes on, then the loop from there
-pub did-again : {S A R : Type 0} {w : Says A R} {cap at n a n′ : ℕ} {t t₁ t₂ : List ℕ} {r : R} {turn : S → List ℕ → Turn S A} (m : Moves turn) (s : List ℕ) (st : S) {st′ : S} {ms : List Mark} {k : ℕ}
-    → turn st (drop at s) ≡ again st′ ms k → a ≡ at + k → n′ ≡ n + length ms → Step cap n t t₁ (wordsAt at ms) → Did w cap a n′ t₁ t₂ r (repeat turn st′ (drop a s))
+pub did-again : {S A R : Type 0} {w : Says A R} {cap at n a n′ : ℕ} {t t₁ t₂ : List ℕ} {r : R} {turn : S → List ℕ
+    → Turn S A}
+    (m : Moves turn) (s : List ℕ) (st : S) {st′ : S} {ms : List Mark} {k : ℕ}
+    → turn st (drop at s) ≡ again st′ ms k → a ≡ at + k → n′ ≡ n + length ms → Step cap n t t₁ (wordsAt at ms)
+    → Did w cap a n′ t₁ t₂ r (repeat turn st′ (drop a s))
     → Did w cap at n t t₂ r (repeat turn st (drop at s))
 did-again {w = w} {cap} {at} {n} {t₁ = t₁} {t₂} {r} {turn} m s st {st′} {ms} {k} h e c o d =
     let d′ : Did w cap (at + k) (n + length ms) t₁ t₂ r (repeat turn st′ (drop (at + k) s)) = rw (e, c) at d in
@@ -103,13 +113,17 @@ pub record Far {A : Type 0} (at j : ℕ) (o : Out A) : Type 0 where
   pub place : j ≡ at + k
 
 -- ---- made of what was found
-pub did-found : {A R : Type 0} (w : Says A R) {cap at n a n′ : ℕ} {t t₁ : List ℕ} {o : Out A} (f : Found cap at n a n′ t t₁ o) → Did w cap at n t t₁ (w .yes (f .value) a n′) o
+pub did-found : {A R : Type 0} (w : Says A R) {cap at n a n′ : ℕ} {t t₁ : List ℕ} {o : Out A}
+    (f : Found cap at n a n′ t t₁ o)
+    → Did w cap at n t t₁ (w .yes (f .value) a n′) o
 did-found w f = rw (f .is) (record { answers = ap₂ (w .yes (f .value)) (f .place) (f .count); wrote = f .wrote })
 
-pub did-lost : {A R : Type 0} (w : Says A R) {cap at n j : ℕ} {t t₁ : List ℕ} {f : ParserError} {o : Out A} → Lost at f j o → Step cap n t t₁ [] → Did w cap at n t t₁ (w .no f j) o
+pub did-lost : {A R : Type 0} (w : Says A R) {cap at n j : ℕ} {t t₁ : List ℕ} {f : ParserError} {o : Out A}
+    → Lost at f j o → Step cap n t t₁ [] → Did w cap at n t t₁ (w .no f j) o
 did-lost w {at = at} l s = rw (l .is) (record { answers = ap₂ (w .no) (l .moved) (l .place); wrote = rw words-none s })
 
-pub did-far : {A R : Type 0} (w : Says A R) {cap at n j : ℕ} {t t₁ : List ℕ} {o : Out A} → Far at j o → Step cap n t t₁ [] → Did w cap at n t t₁ (w .far j) o
+pub did-far : {A R : Type 0} (w : Says A R) {cap at n j : ℕ} {t t₁ : List ℕ} {o : Out A} → Far at j o
+    → Step cap n t t₁ [] → Did w cap at n t t₁ (w .far j) o
 did-far w {at = at} l s = rw (l .is) (record { answers = ap (w .far) (l .place); wrote = rw words-none s })
 
 -- ---- a result type that tells the three apart
@@ -130,23 +144,27 @@ clear-reading = record {
 }
 
 -- ---- taken apart
-pub lost : {A R : Type 0} {w : Says A R} {cap at n j : ℕ} {t t₁ : List ℕ} {r : R} {f : ParserError} → Clear w → (o : Out A) → Did w cap at n t t₁ r o → r ≡ w .no f j → Lost at f j o
+pub lost : {A R : Type 0} {w : Says A R} {cap at n j : ℕ} {t t₁ : List ℕ} {r : R} {f : ParserError} → Clear w
+    → (o : Out A) → Did w cap at n t t₁ r o → r ≡ w .no f j → Lost at f j o
 lost {w = w} c (ok x ms k) d e = absurd (c .yes-no _ _ _ _ _ (sym (d .answers) ∙ e))
 lost {w = w} c (bad g k) d e =
     let q = c .no-same _ _ _ _ (sym (d .answers) ∙ e) in
     record { fault = g; k = k; is = refl; moved = sym (q .0); place = sym (q .1) }
 lost {w = w} c (deep k) d e = absurd (c .no-far _ _ _ (sym e ∙ d .answers))
 
-pub far : {A R : Type 0} {w : Says A R} {cap at n j : ℕ} {t t₁ : List ℕ} {r : R} → Clear w → (o : Out A) → Did w cap at n t t₁ r o → r ≡ w .far j → Far at j o
+pub far : {A R : Type 0} {w : Says A R} {cap at n j : ℕ} {t t₁ : List ℕ} {r : R} → Clear w → (o : Out A)
+    → Did w cap at n t t₁ r o → r ≡ w .far j → Far at j o
 far c (ok x ms k) d e = absurd (c .yes-far _ _ _ _ (sym (d .answers) ∙ e))
 far c (bad g k) d e = absurd (c .no-far _ _ _ (sym (d .answers) ∙ e))
 far c (deep k) d e = record { k = k; is = refl; place = sym (c .far-same _ _ (sym (d .answers) ∙ e)) }
 
 -- what failed has no marks
-pub failed-wrote : {A R : Type 0} {w : Says A R} {cap at n : ℕ} {t t₁ : List ℕ} {r : R} {o : Out A} → Did w cap at n t t₁ r o → Step cap n t t₁ []
+pub failed-wrote : {A R : Type 0} {w : Says A R} {cap at n : ℕ} {t t₁ : List ℕ} {r : R} {o : Out A}
+    → Did w cap at n t t₁ r o → Step cap n t t₁ []
 failed-wrote d = step-cut (d .wrote)
 
-pub found : {A : Type 0} {cap at n a n′ : ℕ} {t t₁ : List ℕ} {r : Read} (o : Out A) → Did reading cap at n t t₁ r o → r ≡ Ok a n′ → Found cap at n a n′ t t₁ o
+pub found : {A : Type 0} {cap at n a n′ : ℕ} {t t₁ : List ℕ} {r : Read} (o : Out A) → Did reading cap at n t t₁ r o
+    → r ≡ Ok a n′ → Found cap at n a n′ t t₁ o
 found (ok x ms k) d e =
     let q = d .answers in
     record { value = x; ms = ms; k = k; is = refl; place = cc; count = cc; wrote = d .wrote }
@@ -164,7 +182,9 @@ not-ok r h a b e = ⊎-elim (λ p. zero-one (sym (ap (tagOf the-type) e) ∙ p))
     zero-two p = omega arith
 
 -- ---- sequences: what follows, what failed
-did-next : {A B R : Type 0} {w : Says B R} {cap at n a n′ : ℕ} {t t₁ t₂ : List ℕ} {r : R} (s : List ℕ) (q : A → Reader B) {o : Out A} (f : Found cap at n a n′ t t₁ o) → Did w cap a n′ t₁ t₂ r (q (f .value) (drop a s))
+did-next : {A B R : Type 0} {w : Says B R} {cap at n a n′ : ℕ} {t t₁ t₂ : List ℕ} {r : R} (s : List ℕ)
+    (q : A → Reader B) {o : Out A} (f : Found cap at n a n′ t t₁ o)
+    → Did w cap a n′ t₁ t₂ r (q (f .value) (drop a s))
     → Did w cap at n t t₂ r (next (drop at s) q o)
 unfolding next
 did-next {w = w} {cap} {at} {n} {a} {n′} {t} {t₁} {t₂} {r} s q f d =
@@ -172,7 +192,8 @@ did-next {w = w} {cap} {at} {n} {a} {n′} {t} {t₁} {t₂} {r} s q f d =
     rw (f .is, drop-drop) (did-after (f .ms) (f .k) (q (f .value) (drop (at + f .k) s)) (f .wrote) d′)
 
 module _ {A B R : Type 0} {w : Says B R} {cap at n a n′ : ℕ} {t t₁ t₂ : List ℕ} {r : R} (s : List ℕ) where
-  pub did-bind : (p : Reader A) (q : A → Reader B) (f : Found cap at n a n′ t t₁ (p (drop at s))) → Did w cap a n′ t₁ t₂ r (q (f .value) (drop a s))
+  pub did-bind : (p : Reader A) (q : A → Reader B) (f : Found cap at n a n′ t t₁ (p (drop at s)))
+      → Did w cap a n′ t₁ t₂ r (q (f .value) (drop a s))
       → Did w cap at n t t₂ r ((p >>= q) (drop at s))
   unfolding _>>=_
   did-bind p q f d = did-next s q f d
@@ -197,7 +218,8 @@ module _ {A B : Type 0} {at j : ℕ} (x : List ℕ) where
 
 -- the first reader failed, and so does the whole, with the same result
 module _ {A B : Type 0} {cap at n : ℕ} {t t₁ : List ℕ} {r : Read} (x : List ℕ) where
-  pub stop-bind : (p : Reader A) (q : A → Reader B) → Did reading cap at n t t₁ r (p x) → ((a b : ℕ) → r ≡ Ok a b → ⊥) → Did reading cap at n t t₁ r ((p >>= q) x)
+  pub stop-bind : (p : Reader A) (q : A → Reader B) → Did reading cap at n t t₁ r (p x) → ((a b : ℕ) → r ≡ Ok a b → ⊥)
+      → Did reading cap at n t t₁ r ((p >>= q) x)
   unfolding _>>=_ next
   stop-bind p q d h = go (p x) d
     where
@@ -206,41 +228,78 @@ module _ {A B : Type 0} {cap at n : ℕ} {t t₁ : List ℕ} {r : Read} (x : Lis
       go (bad f j) e = record { answers = e .answers; wrote = e .wrote }
       go (deep j) e = record { answers = e .answers; wrote = e .wrote }
 
-  pub stop-then : (p : Reader A) (q : Reader B) → Did reading cap at n t t₁ r (p x) → ((a b : ℕ) → r ≡ Ok a b → ⊥) → Did reading cap at n t t₁ r ((p >> q) x)
+  pub stop-then : (p : Reader A) (q : Reader B) → Did reading cap at n t t₁ r (p x) → ((a b : ℕ) → r ≡ Ok a b → ⊥)
+      → Did reading cap at n t t₁ r ((p >> q) x)
   unfolding _>>_ _>>=_
   stop-then p q d h = stop-bind p (λ _. q) d h
 
 -- ---- the plain readers
-pub did-pure : {A R : Type 0} {w : Says A R} {cap at n : ℕ} {t : List ℕ} (x : A) (s : List ℕ) → Did w cap at n t t (w .yes x at n) (pure x s)
+pub did-pure : {A R : Type 0} {w : Says A R} {cap at n : ℕ} {t : List ℕ} (x : A) (s : List ℕ)
+    → Did w cap at n t t (w .yes x at n) (pure x s)
 unfolding pure
-did-pure {w = w} {cap} {at} {n} {t} x s = record { answers = ap₂ (w .yes x) (sym (add-zero at)) (sym (add-zero n)); wrote = rw words-none (step-none cap n t) }
+did-pure {w = w} {cap} {at} {n} {t} x s =
+    record {
+      answers = ap₂ (w .yes x) (sym (add-zero at)) (sym (add-zero n));
+      wrote = rw words-none (step-none cap n t);
+    }
 
-pub lost-fail : {A : Type 0} {at : ℕ} {e : ParserError} {kind : ErrorKind} (x : List ℕ) → upKind at kind ≡ kind → e ≡ faultAt kind at → Lost at e at (fail {A = A} kind x)
+pub lost-fail : {A : Type 0} {at : ℕ} {e : ParserError} {kind : ErrorKind} (x : List ℕ) → upKind at kind ≡ kind
+    → e ≡ faultAt kind at → Lost at e at (fail {A = A} kind x)
 unfolding fail
-lost-fail {at = at} {kind = kind} x u h = record { fault = faultAt kind 0; k = 0; is = refl; moved = h ∙ sym (fault-here kind at u); place = sym (add-zero at) }
+lost-fail {at = at} {kind = kind} x u h =
+    record {
+      fault = faultAt kind 0;
+      k = 0;
+      is = refl;
+      moved = h ∙ sym (fault-here kind at u);
+      place = sym (add-zero at);
+    }
 
 pub far-here : {A : Type 0} {at : ℕ} → Far {A = A} at at (deep 0)
 far-here {at = at} = record { k = 0; is = refl; place = sym (add-zero at) }
 
 -- a reader without marks
-unfoldable pub quiet : {A : Type 0} {cap at n a : ℕ} {t : List ℕ} {o : Out A} {x : A} {k : ℕ} → o ≡ ok x [] k → a ≡ at + k → Found cap at n a n t t o
-quiet {cap = cap} {at} {n} {t = t} {x = x} {k = k} e h = record { value = x; ms = []; k = k; is = e; place = h; count = sym (add-zero n); wrote = rw words-none (step-none cap n t) }
+unfoldable pub quiet : {A : Type 0} {cap at n a : ℕ} {t : List ℕ} {o : Out A} {x : A} {k : ℕ} → o ≡ ok x [] k
+    → a ≡ at + k → Found cap at n a n t t o
+quiet {cap = cap} {at} {n} {t = t} {x = x} {k = k} e h =
+    record {
+      value = x;
+      ms = [];
+      k = k;
+      is = e;
+      place = h;
+      count = sym (add-zero n);
+      wrote = rw words-none (step-none cap n t);
+    }
 
 -- ---- texts and nodes
-pub text-placed : (at a e from till kind : ℕ) → a ≡ at + from → e ≡ at + till → wordsAt at (textNode kind from till) ≡ word kind a ∷ word (closing kind) e ∷ []
+pub text-placed : (at a e from till kind : ℕ) → a ≡ at + from → e ≡ at + till
+    → wordsAt at (textNode kind from till) ≡ word kind a ∷ word (closing kind) e ∷ []
 unfolding wordsAt moveUp textNode
 text-placed at a e from till kind p q = rw (p, q)
 
-unfoldable pub found-text : {A : Type 0} {cap at n n′ a k kind : ℕ} {t t₁ : List ℕ} {o : Out A} {x : A} → o ≡ ok x (textNode kind 0 k) k → a ≡ at + k → n′ ≡ n + 2 → Step cap n t t₁ (word kind at ∷ word (closing kind) a ∷ []) → Found cap at n a n′ t t₁ o
+unfoldable pub found-text : {A : Type 0} {cap at n n′ a k kind : ℕ} {t t₁ : List ℕ} {o : Out A} {x : A}
+    → o ≡ ok x (textNode kind 0 k) k → a ≡ at + k → n′ ≡ n + 2
+    → Step cap n t t₁ (word kind at ∷ word (closing kind) a ∷ []) → Found cap at n a n′ t t₁ o
 unfolding textNode
-found-text {at = at} {a = a} {k} {kind} {x = x} e h c s = record { value = x; ms = textNode kind 0 k; k = k; is = e; place = h; count = c; wrote = rw (text-placed at at a 0 k kind (sym (add-zero at)) h) s }
+found-text {at = at} {a = a} {k} {kind} {x = x} e h c s =
+    record {
+      value = x;
+      ms = textNode kind 0 k;
+      k = k;
+      is = e;
+      place = h;
+      count = c;
+      wrote = rw (text-placed at at a 0 k kind (sym (add-zero at)) h) s;
+    }
 
 pub node-words : (at kind : ℕ) (ms : List Mark) → wordsAt at (node kind ms) ≡ word kind 0 ∷ (wordsAt at ms ++ (word (closing kind) 0 ∷ []))
 unfolding wordsAt moveUp node
 node-words at kind ms = ap (λ (l : List Word). word kind 0 ∷ l) (words-append at ms (plain (closing kind) ∷ []))
 
 -- an opening mark, what stands in the node, and the closing mark
-unfoldable pub found-wrap : {A : Type 0} {cap at n n₁ m m′ a : ℕ} {t t₁ t₂ t₃ : List ℕ} (kind : ℕ) {o : Out A} → Step cap n t t₁ (word kind 0 ∷ []) → n₁ ≡ n + 1 → Found cap at n₁ a m t₁ t₂ o
+unfoldable pub found-wrap : {A : Type 0} {cap at n n₁ m m′ a : ℕ} {t t₁ t₂ t₃ : List ℕ} (kind : ℕ) {o : Out A}
+    → Step cap n t t₁ (word kind 0 ∷ []) → n₁ ≡ n + 1 → Found cap at n₁ a m t₁ t₂ o
     → Step cap m t₂ t₃ (word (closing kind) 0 ∷ []) → m′ ≡ m + 1 → Found cap at n a m′ t t₃ (wrap kind o)
 unfolding wrap node
 found-wrap {cap = cap} {at} {n} {n₁} {m} {m′} {a} {t} {t₁} {t₂} {t₃} kind {o} s e f z g =
@@ -248,12 +307,21 @@ found-wrap {cap = cap} {at} {n} {n₁} {m} {m′} {a} {t} {t₁} {t₂} {t₃} k
     let len : length (f .ms ++ (plain (closing kind) ∷ [])) ≡ length (f .ms) + 1 = length-append (f .ms) (plain (closing kind) ∷ []) in
     let l = words-length at (f .ms) in
     let u = step-then s e (step-then (f .wrote) (count ∙ ap (λ (i : ℕ). n₁ + i) (sym l)) z) in
-    record { value = f .value; ms = node kind (f .ms); k = f .k; is = rw (f .is); place = f .place; count = omega arith; wrote = rw (node-words at kind (f .ms)) u }
+    record {
+      value = f .value;
+      ms = node kind (f .ms);
+      k = f .k;
+      is = rw (f .is);
+      place = f .place;
+      count = omega arith;
+      wrote = rw (node-words at kind (f .ms)) u;
+    }
 
 pub lost-wrap : {A : Type 0} {at j : ℕ} {f : ParserError} (kind : ℕ) {o : Out A} → Lost at f j o → Lost at f j (wrap kind o)
 unfolding wrap
 lost-wrap kind l = record { fault = l .fault; k = l .k; is = rw (l .is); moved = l .moved; place = l .place }
 
 -- a failure after an opening mark leaves no mark
-pub step-failed : {cap n n₁ : ℕ} {t t₁ t₂ : List ℕ} {ws : List Word} → Step cap n t t₁ ws → n₁ ≡ n + length ws → Step cap n₁ t₁ t₂ [] → Step cap n t t₂ []
+pub step-failed : {cap n n₁ : ℕ} {t t₁ t₂ : List ℕ} {ws : List Word} → Step cap n t t₁ ws → n₁ ≡ n + length ws
+    → Step cap n₁ t₁ t₂ [] → Step cap n t t₂ []
 step-failed s e r = step-cut (step-then s e r)

@@ -26,7 +26,8 @@ use Rattle.entry.proofs.Settle.{line-word, other-word}
 pub provisional-append : (at : ℕ) (es fs : List Element) → provisional at (es ++ fs) ≡ provisional at es ++ provisional at fs
 unfolding provisional
 provisional-append at [] fs = refl
-provisional-append at (e ∷ es) fs = rw (provisional-append at es fs) (sym (append-assoc (provisionalOf at e) (provisional at es) (provisional at fs)))
+provisional-append at (e ∷ es) fs =
+    rw (provisional-append at es fs) (sym (append-assoc (provisionalOf at e) (provisional at es) (provisional at fs)))
 
 -- ---- elements that are settled and not trimmed
 abbrev settledOf : Option ℕ → Element → List Mark
@@ -44,8 +45,12 @@ low-append (m ∷ ms) ns p q = (p .0, low-append ms ns (p .1) q)
 settle-low : (s : List ℕ) (common at : ℕ) (ms : List Mark) → Low ms → map (settleWord s common) (wordsAt at ms) ≡ wordsAt at ms
 unfolding wordsAt moveUp
 settle-low s common at [] l = refl
-settle-low s common at (plain k ∷ ms) l = ap₂ (λ (w : Word) (ws : List Word). w ∷ ws) (other-word s common k 0 (λ e. omega (arith, l .0))) (settle-low s common at ms (l .1))
-settle-low s common at (placed k p ∷ ms) l = ap₂ (λ (w : Word) (ws : List Word). w ∷ ws) (other-word s common k (at + p) (λ e. omega (arith, l .0))) (settle-low s common at ms (l .1))
+settle-low s common at (plain k ∷ ms) l =
+    ap₂ (λ (w : Word) (ws : List Word). w ∷ ws) (other-word s common k 0 (λ e. omega (arith, l .0)))
+    (settle-low s common at ms (l .1))
+settle-low s common at (placed k p ∷ ms) l =
+    ap₂ (λ (w : Word) (ws : List Word). w ∷ ws) (other-word s common k (at + p) (λ e. omega (arith, l .0)))
+    (settle-low s common at ms (l .1))
 
 dedent : (s : List ℕ) (c : Option ℕ) (common at a i : ℕ) → Common s c common → i ≡ spaces (drop a (drop at s))
     → at + a + min (spaces (drop (at + a) s)) common ≡ at + dedented c a i true
@@ -66,9 +71,12 @@ unfolding provisionalOf opening wordsAt moveUp node textNode
 settle-element s c common at (placeable ms) h l =
     settle-low s common at (node Kind.placeable ms) (omega arith, low-append ms (plain 113 ∷ []) l (omega arith, tt))
 settle-element s c common at (text a e i true) h l =
-    ap₂ (λ (w v : Word). w ∷ v ∷ []) (line-word s common 200 (at + a) refl ∙ ap (word 12) (dedent s c common at a i h (l .2 refl))) (other-word s common 112 (at + e) (λ q. omega arith))
+    ap₂ (λ (w v : Word). w ∷ v ∷ [])
+    (line-word s common 200 (at + a) refl ∙ ap (word 12) (dedent s c common at a i h (l .2 refl)))
+    (other-word s common 112 (at + e) (λ q. omega arith))
 settle-element s c common at (text a e i false) h l = unfold dedented in
-    ap₂ (λ (w v : Word). w ∷ v ∷ []) (other-word s common 12 (at + a) (λ q. omega arith)) (other-word s common 112 (at + e) (λ q. omega arith))
+    ap₂ (λ (w v : Word). w ∷ v ∷ []) (other-word s common 12 (at + a) (λ q. omega arith))
+    (other-word s common 112 (at + e) (λ q. omega arith))
 
 settle-elements : (s : List ℕ) (c : Option ℕ) (common at : ℕ) (es : List Element) → Common s c common → Sound (drop at s) es
     → map (settleWord s common) (provisional at es) ≡ wordsAt at (settled c es)
@@ -86,7 +94,8 @@ trim-cons s w [] h = absurd (omega arith)
 trim-cons s w (v ∷ []) h = absurd (omega arith)
 trim-cons s (word k a) (word j e ∷ u ∷ ws) h = refl
 
-within-cons : (s : List ℕ) (w : Word) (ws : List Word) → 2 ≤ length ws → (Within s ws → Within s (w ∷ ws)) × (Within s (w ∷ ws) → Within s ws)
+within-cons : (s : List ℕ) (w : Word) (ws : List Word) → 2 ≤ length ws → (Within s ws → Within s (w ∷ ws))
+    × (Within s (w ∷ ws) → Within s ws)
 unfolding Within
 within-cons s w [] h = absurd (omega arith)
 within-cons s w (v ∷ []) h = absurd (omega arith)
@@ -106,7 +115,8 @@ pub trim-append : (s : List ℕ) (xs ws : List Word) → 2 ≤ length ws → tri
 trim-append s [] ws h = refl
 trim-append s (x ∷ xs) ws h = trim-cons s x (xs ++ ws) (longer xs ws h) ∙ ap (λ (l : List Word). x ∷ l) (trim-append s xs ws h)
 
-pub within-append : (s : List ℕ) (xs ws : List Word) → 2 ≤ length ws → (Within s ws → Within s (xs ++ ws)) × (Within s (xs ++ ws) → Within s ws)
+pub within-append : (s : List ℕ) (xs ws : List Word) → 2 ≤ length ws → (Within s ws → Within s (xs ++ ws))
+    × (Within s (xs ++ ws) → Within s ws)
 within-append s [] ws h = (λ q. q, λ q. q)
 within-append s (x ∷ xs) ws h =
     let one = within-cons s x (xs ++ ws) (longer xs ws h) in
@@ -118,13 +128,15 @@ trim-other : (s : List ℕ) (xs : List Word) (j p : ℕ) → (j ≡ 112 → ⊥)
 unfolding trimWords
 trim-other s [] j p f = refl
 trim-other s (word k a ∷ []) j p f = rw (trimWords, ne-eqb j 112 f)
-trim-other s (x ∷ y ∷ xs) j p f = trim-cons s x (y ∷ (xs ++ (word j p ∷ []))) (rw length-append (omega arith)) ∙ ap (λ (l : List Word). x ∷ l) (trim-other s (y ∷ xs) j p f)
+trim-other s (x ∷ y ∷ xs) j p f = trim-cons s x (y ∷ (xs ++ (word j p ∷ []))) (rw length-append (omega arith))
+    ∙ ap (λ (l : List Word). x ∷ l) (trim-other s (y ∷ xs) j p f)
 
 within-other : (s : List ℕ) (xs : List Word) (j p : ℕ) → (j ≡ 112 → ⊥) → Within s (xs ++ (word j p ∷ []))
 unfolding Within
 within-other s [] j p f = tt
 within-other s (word k a ∷ []) j p f = λ e. absurd (f e)
-within-other s (x ∷ y ∷ xs) j p f = within-cons s x (y ∷ (xs ++ (word j p ∷ []))) (rw length-append (omega arith)) .0 (within-other s (y ∷ xs) j p f)
+within-other s (x ∷ y ∷ xs) j p f =
+    within-cons s x (y ∷ (xs ++ (word j p ∷ []))) (rw length-append (omega arith)) .0 (within-other s (y ∷ xs) j p f)
 
 pub node-words : (at kind : ℕ) (ms : List Mark) → wordsAt at (node kind ms) ≡ (word kind 0 ∷ wordsAt at ms) ++ (word (100 + kind) 0 ∷ [])
 unfolding node wordsAt moveUp
@@ -144,8 +156,10 @@ end-at s at a e = let q : at + e - (at + a) ≡ e - a = omega arith in rw (q, dr
 trim-last : (s : List ℕ) (c : Option ℕ) (at : ℕ) (e : Element) (es : List Element)
     → trimWords s (wordsAt at (settled c (e ∷ []))) ≡ wordsAt at (elementMarks (drop at s) c 1 (e ∷ es))
 unfolding elementMarks textMarks
-trim-last s c at (placeable ms) es = rw (append-nil, node-words at 13 ms) (trim-other s (word 13 0 ∷ wordsAt at ms) 113 0 (λ e. omega arith))
-trim-last s c at (text a e i l) es = unfold trimWords textNode wordsAt moveUp in (ap (λ (p : ℕ). word 12 (at + dedented c a i l) ∷ word 112 p ∷ []) (end-at s at (dedented c a i l) e))
+trim-last s c at (placeable ms) es =
+    rw (append-nil, node-words at 13 ms) (trim-other s (word 13 0 ∷ wordsAt at ms) 113 0 (λ e. omega arith))
+trim-last s c at (text a e i l) es = unfold trimWords textNode wordsAt moveUp in
+    (ap (λ (p : ℕ). word 12 (at + dedented c a i l) ∷ word 112 p ∷ []) (end-at s at (dedented c a i l) e))
 
 -- an element that is not the last
 inner-marks : (x : List ℕ) (c : Option ℕ) (n : ℕ) (e : Element) (es : List Element)
@@ -166,14 +180,17 @@ trim-elements s c at (suc n) (e ∷ f ∷ es) h =
     ∙ sym (words-append at (settledOf c e) (elementMarks (drop at s) c (suc n) (f ∷ es)))
     ∙ ap (wordsAt at) (sym (inner-marks (drop at s) c n e (f ∷ es)))
 
-within-elements : (s : List ℕ) (c : Option ℕ) (at : ℕ) (es : List Element) → at ≤ length s → Sound (drop at s) es → Within s (wordsAt at (settled c es))
+within-elements : (s : List ℕ) (c : Option ℕ) (at : ℕ) (es : List Element) → at ≤ length s → Sound (drop at s) es
+    → Within s (wordsAt at (settled c es))
 within-elements s c at [] h l = unfold Within wordsAt moveUp in tt
-within-elements s c at (placeable ms ∷ []) h l = rw (append-nil, node-words at 13 ms) (within-other s (word 13 0 ∷ wordsAt at ms) 113 0 (λ e. omega arith))
+within-elements s c at (placeable ms ∷ []) h l =
+    rw (append-nil, node-words at 13 ms) (within-other s (word 13 0 ∷ wordsAt at ms) 113 0 (λ e. omega arith))
 within-elements s c at (text a e i v ∷ []) h l = unfold Within textNode wordsAt moveUp in
     (λ q. let d = dedented-le c a i v in let z = length-drop at s in (omega (arith, l .0 .0), omega (arith, l .0 .1)))
 within-elements s c at (e ∷ f ∷ es) h l =
     rw (words-append at (settledOf c e) (settled c (f ∷ es)))
-    (within-append s (wordsAt at (settledOf c e)) (wordsAt at (settled c (f ∷ es))) (two-words c at f es) .0 (within-elements s c at (f ∷ es) h (l .1)))
+    (within-append s (wordsAt at (settledOf c e)) (wordsAt at (settled c (f ∷ es))) (two-words c at f es) .0
+    (within-elements s c at (f ∷ es) h (l .1)))
 
 -- ---- the first k elements of a pattern, settled and trimmed, are the definition's marks; and the last of them lies in the source
 sound-take : (x : List ℕ) (k : ℕ) (es : List Element) → Sound x es → Sound x (take k es)
@@ -185,7 +202,9 @@ module _ (s : List ℕ) (c : Option ℕ) (common at k : ℕ) (es : List Element)
   settled-words : map (settleWord s common) (provisional at (take k es)) ≡ wordsAt at (settled c (take k es))
   settled-words = settle-elements s c common at (take k es) h (sound-take (drop at s) k es l)
 
-  pub kept-marks : k ≤ length es → trimWords s (map (settleWord s common) (provisional at (take k es))) ≡ wordsAt at (elementMarks (drop at s) c k es)
+  pub kept-marks : k ≤ length es
+      → trimWords s (map (settleWord s common) (provisional at (take k es)))
+      ≡ wordsAt at (elementMarks (drop at s) c k es)
   kept-marks i = ap (trimWords s) settled-words ∙ go k i
     where
       go : (k : ℕ) → k ≤ length es → trimWords s (wordsAt at (settled c (take k es))) ≡ wordsAt at (elementMarks (drop at s) c k es)

@@ -58,19 +58,22 @@ module _ {A : Type 0} (q : Reader A) (s : List ℕ) where
   ended-stop (Bad f k) h = refl
   ended-stop (Deep k) h = refl
 
-  pub ended-at : {a b m : ℕ} (r : Read) → ((y : List ℕ) → marksOf (q y) ≡ []) → r ≡ Ok a m → {p : Place} → Places.Found s a (q (drop a s)) p → p ≡ places.At b → Ok b m ≡ endedBy q s r
+  pub ended-at : {a b m : ℕ} (r : Read) → ((y : List ℕ) → marksOf (q y) ≡ []) → r ≡ Ok a m → {p : Place}
+      → Places.Found s a (q (drop a s)) p → p ≡ places.At b → Ok b m ≡ endedBy q s r
   ended-at {a} {b} {m} r h e f g =
       let z = found-at f g in
       let n : z .ms ≡ [] = sym (ap marksOf (z .is)) ∙ h (drop a s) in
       rw (e, z .is, n, add-zero) (ap₂ Ok (z .place) refl)
 
-  pub ended-bad : {a j m : ℕ} {e : ParserError} (r : Read) → r ≡ Ok a m → {p : Place} → Places.Found s a (q (drop a s)) p → p ≡ places.Bad e j → Bad e j ≡ endedBy q s r
+  pub ended-bad : {a j m : ℕ} {e : ParserError} (r : Read) → r ≡ Ok a m → {p : Place}
+      → Places.Found s a (q (drop a s)) p → p ≡ places.Bad e j → Bad e j ≡ endedBy q s r
   ended-bad r h f g = let z = found-bad f g in rw (h, z .is) (ap₂ Bad (z .error) (z .place))
 
   pub ended-went : {a b m : ℕ} (r : Read) {x : A} → r ≡ Ok a m → Went s a (q (drop a s)) x b → Ok b m ≡ endedBy q s r
   ended-went {a} {b} {m} r e w = rw (e, w .answers, add-zero) (ap₂ Ok (omega (arith, w .onward)) refl)
 
-pub placeable-found : {s : List ℕ} {at i : ℕ} {p : Place} → Passed s at (spaces (drop at s)) i → Places.Found s i (expectByte Byte.closeBrace (drop i s)) p → Places.Found s at (placeableEnd (drop at s)) p
+pub placeable-found : {s : List ℕ} {at i : ℕ} {p : Place} → Passed s at (spaces (drop at s)) i
+    → Places.Found s i (expectByte Byte.closeBrace (drop i s)) p → Places.Found s at (placeableEnd (drop at s)) p
 unfolding placeableEnd _>>_ skipBlankInline
 placeable-found w f = found-next (λ _. expectByte Byte.closeBrace) refl (w .end) f
 
@@ -101,4 +104,9 @@ no-attribute x h e t = let z : true ≡ false = sym t ∙ sym (ap isAttributeOfT
 
 pub callee-bounds : (name : List ℕ) → Bounds 0 (λ _. 0) (functionReference name)
 unfolding functionReference pure fail
-callee-bounds name = record { on = λ y. byCase (all isCalleePart name) (λ q. rw (q, functionReference) (used (uses-nil 0 (omega arith) (omega arith)))) (λ q. rw (q, functionReference) (stopped 0 (omega arith))) }
+callee-bounds name =
+    record {
+      on =
+          λ y. byCase (all isCalleePart name) (λ q. rw (q, functionReference) (used (uses-nil 0 (omega arith) (omega arith))))
+          (λ q. rw (q, functionReference) (stopped 0 (omega arith)));
+    }

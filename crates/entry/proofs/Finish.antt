@@ -23,7 +23,8 @@ use Rattle.entry.proofs.Dids.{words-length, words-none}
 use Rattle.entry.proofs.Elements.{provisional-append, trim-append, trim-length, node-words, within-append, kept-marks, kept-within}
 
 -- ---- the last two marks of a step are trimmed
-module _ (s : List ℕ) {cap n : ℕ} (m : ℕ) {t t₁ : List ℕ} (u : Word) (ws : List Word) (two : 2 ≤ length ws) (w : Step cap n t t₁ (u ∷ ws)) (em : m + 2 ≡ n + 1 + length ws) where
+module _ (s : List ℕ) {cap n : ℕ} (m : ℕ) {t t₁ : List ℕ} (u : Word) (ws : List Word) (two : 2 ≤ length ws)
+    (w : Step cap n t t₁ (u ∷ ws)) (em : m + 2 ≡ n + 1 + length ws) where
   split : take (length ws - 2) ws ++ drop (length ws - 2) ws ≡ ws
   split = take-append-drop (length ws - 2) ws
 
@@ -50,7 +51,10 @@ module _ (s : List ℕ) {cap n : ℕ} (m : ℕ) {t t₁ : List ℕ} (u : Word) (
       rw e (step-over (u ∷ take (length ws - 2) ws) (drop (length ws - 2) ws) parted start (rw last-two at h))
 
   pub last-within : Within s ws → Within s (drop m (marksIn cap (m + 2) t₁))
-  last-within h = rw last-two (within-append s (take (length ws - 2) ws) (drop (length ws - 2) ws) (let b = behind in omega arith) .1 (rw split h))
+  last-within h =
+      rw last-two
+      (within-append s (take (length ws - 2) ws) (drop (length ws - 2) ws) (let b = behind in omega arith) .1
+      (rw split h))
 
 -- ---- the marks that are kept
 some-words : (at : ℕ) (e : Element) (es : List Element) → 2 ≤ length (provisional at (e ∷ es))
@@ -70,23 +74,31 @@ kept-two at (suc k) (e ∷ es) f = some-words at e (take k es)
 
 -- what settling and trimming do
 abbrev Settled : List ℕ → ℕ → ℕ → List ℕ → List ℕ → Reading → Type 0
-Settled s cap n t t₁ st = Step cap (n + 1) t t₁ (map (settleWord s (st .«common_indent»)) (drop (n + 1) (marksIn cap (st .«last_non_blank») t)))
+Settled s cap n t t₁ st =
+    Step cap (n + 1) t t₁
+    (map (settleWord s (st .«common_indent»)) (drop (n + 1) (marksIn cap (st .«last_non_blank») t)))
 
 abbrev Trimmed : List ℕ → ℕ → List ℕ → List ℕ → Reading → Type 0
 Trimmed s cap t₁ t₂ st =
-    Step cap (st .«last_non_blank» - 2) t₁ t₂ (trimWords s (drop (st .«last_non_blank» - 2) (marksIn cap (st .«last_non_blank» - 2 + 2) t₁)))
+    Step cap (st .«last_non_blank» - 2) t₁ t₂
+    (trimWords s (drop (st .«last_non_blank» - 2) (marksIn cap (st .«last_non_blank» - 2 + 2) t₁)))
 
 module _ {s : List ℕ} {cap at n : ℕ} {t₀ t : List ℕ} {st : Reading} {d : State} (h : Holds s cap at n t₀ t st d) where
   kept-split : provisional at (d .elements) ≡ provisional at (take (d .kept) (d .elements)) ++ provisional at (drop (d .kept) (d .elements))
-  kept-split = ap (provisional at) (sym (take-append-drop (d .kept) (d .elements))) ∙ provisional-append at (take (d .kept) (d .elements)) (drop (d .kept) (d .elements))
+  kept-split = ap (provisional at) (sym (take-append-drop (d .kept) (d .elements)))
+      ∙ provisional-append at (take (d .kept) (d .elements)) (drop (d .kept) (d .elements))
 
   pub last-le : (n + 1 ≤ st .«last_non_blank») × (st .«last_non_blank» ≤ st .n)
   last-le =
-      let e = ap length kept-split ∙ length-append (provisional at (take (d .kept) (d .elements))) (provisional at (drop (d .kept) (d .elements))) in
+      let e = ap length kept-split
+      ∙ length-append (provisional at (take (d .kept) (d .elements)))
+      (provisional at (drop (d .kept) (d .elements))) in
       (omega (arith, h .kept), omega (arith, h .kept, h .count))
 
   kept-step : Step cap n t₀ t (word 11 0 ∷ provisional at (take (d .kept) (d .elements)))
-  kept-step = step-prefix (word 11 0 ∷ provisional at (take (d .kept) (d .elements))) (provisional at (drop (d .kept) (d .elements))) (rw kept-split at (h .wrote))
+  kept-step =
+      step-prefix (word 11 0 ∷ provisional at (take (d .kept) (d .elements)))
+      (provisional at (drop (d .kept) (d .elements))) (rw kept-split at (h .wrote))
 
   -- settled, and with no text trimmed yet
   abbrev now-settled : List Word
@@ -148,7 +160,8 @@ module _ {s : List ℕ} {cap at n : ℕ} {t₀ t : List ℕ} {st : Reading} {d :
         counted : m ≡ n + length (node 11 marks)
         counted = unfold node in (let q = marks-length in let z = length-append marks (plain 111 ∷ []) in omega (arith, h .kept, p .0))
 
-  none-did : {end : ℕ} → st .«last_non_blank» ≡ n + 1 → at ≤ end → Did reading cap at n t₀ t (Ok end n) (finish (drop at s) (ok d [] (end - at)))
+  none-did : {end : ℕ} → st .«last_non_blank» ≡ n + 1 → at ≤ end
+      → Did reading cap at n t₀ t (Ok end n) (finish (drop at s) (ok d [] (end - at)))
   unfolding finish
   none-did {end} e l =
       let k : d .kept ≡ 0 = kept-none at (d .kept) (d .elements) (h .few) (omega (arith, h .kept)) in

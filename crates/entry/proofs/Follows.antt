@@ -13,14 +13,18 @@ use Rattle.syntax.specs.Marks.{moveUp}
 use Rattle.syntax.specs.Reader.{Out, ok, Reader, after, next, _>>_, pure, fail}
 use Rattle.syntax.specs.Helper.{skipBlank}
 use Rattle.syntax.specs.Pattern.{Inside}
-use Rattle.syntax.specs.Expression.{Inline, string, number, variable, function, inner, message, term, alone, afterInline, selectFrom, getVariants}
+use Rattle.syntax.specs.Expression.{Inline, string, number, variable, function, inner, message, term, alone}
+use Rattle.syntax.specs.Expression.{afterInline, selectFrom, getVariants}
 use Rattle.laws.specs.Bytes.{byCase}
 use Rattle.laws.specs.Moving.{after-after, moveUp-nil}
 use Rattle.entry.specs.Place.{Went}
 use Rattle.entry.specs.Did.{reading, answer}
 use Rattle.entry.specs.Shape.{shapeAt, isAttributeOfTerm, isArrow, aloneAt, Followed, followedBy}
 use Rattle.entry.specs.declared.expression.Expression.{Expression}
-use Rattle.entry.specs.declared.expression.Expression.the-variants.{StringLiteral, NumberLiteral, VariableReference, FunctionReference, MessageReference, TermReference, Placeable, Select}
+use Rattle.entry.specs.declared.expression.Expression.the-variants.{StringLiteral, NumberLiteral}
+use Rattle.entry.specs.declared.expression.Expression.the-variants.{VariableReference, FunctionReference}
+use Rattle.entry.specs.declared.expression.Expression.the-variants.{MessageReference, TermReference, Placeable}
+use Rattle.entry.specs.declared.expression.Expression.the-variants.{Select}
 use Rattle.entry.specs.declared.expression.AfterInline.{AfterInline}
 use Rattle.entry.specs.declared.expression.AfterInline.the-variants as follows
 use Rattle.entry.specs.declared.marks.Read.the-variants.{Bad}
@@ -73,9 +77,14 @@ module _ {s : List ℕ} {at e : ℕ} (x : Expression) (w : Went s at (skipBlank 
   unfolding followedBy _>>_ next
   opened sub i = let l = w .onward in let j : at + (e - at) ≡ e = omega arith in rw (w .answers, drop-drop, j)
 
-  here : isArrow (drop e s) ≡ false → (sub : Inside) (b : ℕ) (i : Inline) → x ≡ shapeAt b i → followedBy sub i (drop at s) ≡ after [] (e - at) (aloneBy (isAttributeOfTerm x) (drop e s))
+  here : isArrow (drop e s) ≡ false → (sub : Inside) (b : ℕ) (i : Inline) → x ≡ shapeAt b i
+      → followedBy sub i (drop at s) ≡ after [] (e - at) (aloneBy (isAttributeOfTerm x) (drop e s))
   unfolding afterInline isArrow
-  here h sub b i q = opened sub i ∙ ap (after [] (e - at)) ((rw (h, afterInline)) ∙ ap (λ (r : Reader Bool). r (drop e s)) (alone-by b i ∙ ap (λ (y : Expression). aloneBy (isAttributeOfTerm y)) (sym q)))
+  here h sub b i q = opened sub i
+      ∙ ap (after [] (e - at))
+      ((rw (h, afterInline))
+      ∙ ap (λ (r : Reader Bool). r (drop e s))
+      (alone-by b i ∙ ap (λ (y : Expression). aloneBy (isAttributeOfTerm y)) (sym q)))
 
   pub alone-followed : isArrow (drop e s) ≡ false → Followed followedBy s at x (aloneAt e x)
   unfolding after pure fail
@@ -85,9 +94,12 @@ module _ {s : List ℕ} {at e : ℕ} (x : Expression) (w : Went s at (skipBlank 
       yes t = rw t (
         w .within,
         λ sub b i q.
-            let o : followedBy sub i (drop at s) ≡ after [] (e - at) (fail TermAttributeAsPlaceable (drop e s)) = here h sub b i q ∙ (rw t) in
+            let o : followedBy sub i (drop at s) ≡ after [] (e - at) (fail TermAttributeAsPlaceable (drop e s)) =
+            here h sub b i q
+            ∙ (rw t) in
             let j : at + (e - at) ≡ e = omega (arith, w .onward) in
-            let g : upFault (at + (e - at)) (faultAt TermAttributeAsPlaceable 0) ≡ faultAt TermAttributeAsPlaceable e = (rw j (fault-here TermAttributeAsPlaceable e refl)) in
+            let g : upFault (at + (e - at)) (faultAt TermAttributeAsPlaceable 0) ≡ faultAt TermAttributeAsPlaceable e =
+            (rw j (fault-here TermAttributeAsPlaceable e refl)) in
             ap (answer reading at 0) o ∙ ap₂ Bad (fault-up at (e - at) (faultAt TermAttributeAsPlaceable 0) ∙ g) (omega (arith, w .onward)),
       )
 
@@ -105,9 +117,22 @@ module _ {s : List ℕ} {at e : ℕ} (x : Expression) (w : Went s at (skipBlank 
 
       go : (r : AfterInline) → Followed selectFrom s e x r → Followed followedBy s at x r
       go (follows.Alone a) g =
-          let k : e - at + (a - e) ≡ a - at = omega (arith, w .onward, g .0) in
-          (omega (arith, w .onward, g .0), g .1, g .2, λ sub b i q. first sub i ∙ ap (after [] (e - at)) (g .3 sub b i q) ∙ ended (e - at) (a - e) ∙ ap (ok false []) k)
+          let k : e - at + (a - e) ≡ a - at = omega (arith, w .onward, g .0) in (
+            omega (arith, w .onward, g .0),
+            g .1,
+            g .2,
+            λ sub b i q. first sub i
+                ∙ ap (after [] (e - at)) (g .3 sub b i q) ∙ ended (e - at) (a - e) ∙ ap (ok false []) k,
+          )
       go (follows.Select a) g =
-          let k : e - at + (a - e) ≡ a - at = omega (arith, w .onward, g .0) in
-          (omega (arith, w .onward, g .0), g .1, λ sub b i q. first sub i ∙ ap (after [] (e - at)) (g .2 sub b i q) ∙ twice (e - at) (a - e) _ ∙ ap (λ (n : ℕ). after [] n ((getVariants sub >> pure true) (drop a s))) k)
-      go (follows.Bad c k) g = (g .0, λ sub b i q. ap (answer reading at 0) (first sub i) ∙ answer-after reading at 0 (e - at) [] _ ∙ (rw (j, add-zero) (g .1 sub b i q)))
+          let k : e - at + (a - e) ≡ a - at = omega (arith, w .onward, g .0) in (
+            omega (arith, w .onward, g .0),
+            g .1,
+            λ sub b i q. first sub i ∙ ap (after [] (e - at)) (g .2 sub b i q)
+                ∙ twice (e - at) (a - e) _ ∙ ap (λ (n : ℕ). after [] n ((getVariants sub >> pure true) (drop a s))) k,
+          )
+      go (follows.Bad c k) g = (
+        g .0,
+        λ sub b i q. ap (answer reading at 0) (first sub i) ∙ answer-after reading at 0 (e - at) [] _
+            ∙ (rw (j, add-zero) (g .1 sub b i q)),
+      )

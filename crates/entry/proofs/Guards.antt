@@ -41,7 +41,8 @@ entered s t {at} {n} h =
     }
 
 -- its answer, told as that of a try
-pub tried : {cap at n : ℕ} {t t′ : List ℕ} {r : ReadEntry} (o : Out Core.Entry) → Did entrying cap at n t t′ r o → Did trying cap at n t t′ (Entry r) o
+pub tried : {cap at n : ℕ} {t t′ : List ℕ} {r : ReadEntry} (o : Out Core.Entry) → Did entrying cap at n t t′ r o
+    → Did trying cap at n t t′ (Entry r) o
 tried (ok e ms k) d = record { answers = ap Entry (d .answers); wrote = d .wrote }
 tried (bad f k) d = record { answers = ap Entry (d .answers); wrote = d .wrote }
 tried (deep k) d = record { answers = ap Entry (d .answers); wrote = d .wrote }

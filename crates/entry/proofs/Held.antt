@@ -11,7 +11,8 @@ use lib.ListN.{length, take, drop, length-append, length-drop}
 use lib.Seq.{drop-drop, take-append-le, take-all}
 use Rattle.syntax.specs.Bytes.{spaces}
 use Rattle.syntax.specs.Marks.{Mark, plain, placed, moveUp}
-use Rattle.syntax.specs.Pattern.{continuation, Slice, Element, placeable, text, State, isLineStart, isLineFeed, roleAfter, leastIndent, commonAfter, isElement}
+use Rattle.syntax.specs.Pattern.{continuation, Slice, Element, placeable, text, State, isLineStart, isLineFeed}
+use Rattle.syntax.specs.Pattern.{roleAfter, leastIndent, commonAfter, isElement}
 use Rattle.entry.specs.declared.text.TextElementTermination.{TextElementTermination}
 use Rattle.entry.specs.declared.text.TextElementTermination.the-variants.{LineFeed, Crlf, PlaceableStart, Eof}
 use Rattle.entry.specs.declared.pattern.TextElementPosition.{TextElementPosition}
@@ -21,7 +22,8 @@ use Rattle.entry.specs.declared.pattern.Reading.{Reading}
 use Rattle.entry.specs.Tree.{Word, word, wordsAt, Step}
 use Rattle.entry.specs.Elements.{provisionalOf, provisional, Low, SoundOne, Sound, Common}
 use Rattle.entry.specs.Slice.{endingOf, sliceOf, crlfWidth, widthOf}
-use Rattle.entry.specs.Texts.{roleOf, startsLine, isFeed, positionAfter, leastOf, isPart, partWords, countAfter, lastAfter, leastAfter, textWords, afterText, afterPlaceable, Holds}
+use Rattle.entry.specs.Texts.{roleOf, startsLine, isFeed, positionAfter, leastOf, isPart, partWords, countAfter}
+use Rattle.entry.specs.Texts.{lastAfter, leastAfter, textWords, afterText, afterPlaceable, Holds}
 use Rattle.entry.proofs.Steps.{step-then}
 use Rattle.entry.proofs.Dids.{words-up, words-length}
 use Rattle.entry.proofs.Elements.{provisional-append, node-words}
@@ -74,7 +76,9 @@ common-same : (s : List ℕ) (d : State) (p : TextElementPosition) (common i : �
     → Common s (d .common) common
     → Common s (commonAfter d i (sliceOf x)) (leastAfter (isPart (startsLine p) x) (x .blank) (startsLine p) i common)
 unfolding commonAfter isPart
-common-same s d p common i x e h g = rw (Common, line-is d p e) (common-by s (d .common) common i (ltb 0 (x .size)) (startsLine p) (x .blank) (isFeed (x .ending)) h g)
+common-same s d p common i x e h g =
+    rw (Common, line-is d p e)
+    (common-by s (d .common) common i (ltb 0 (x .size)) (startsLine p) (x .blank) (isFeed (x .ending)) h g)
 
 -- ---- one more element
 module _ (at : ℕ) (es : List Element) (e : Element) where
@@ -82,7 +86,8 @@ module _ (at : ℕ) (es : List Element) (e : Element) where
   unfolding provisional
   add-words = provisional-append at es (e ∷ []) ∙ ap (λ (l : List Word). provisional at es ++ l) (append-nil (provisionalOf at e))
 
-  add-count : (n : ℕ) {m : ℕ} → m ≡ n + 1 + length (provisional at es) → m + length (provisionalOf at e) ≡ n + 1 + length (provisional at (es ++ (e ∷ [])))
+  add-count : (n : ℕ) {m : ℕ} → m ≡ n + 1 + length (provisional at es)
+      → m + length (provisionalOf at e) ≡ n + 1 + length (provisional at (es ++ (e ∷ [])))
   add-count n h = rw (add-words, length-append) (omega arith)
 
   add-wrote : {cap n m : ℕ} {t t₁ t₂ : List ℕ} {w : Word} → Step cap n t t₁ (w ∷ provisional at es) → m ≡ n + 1 + length (provisional at es)
@@ -109,7 +114,13 @@ abbrev pub textState : State → ℕ → Slice → ℕ → State
 textState d i t k =
     record {
       role = roleAfter (t .ending);
-      elements = elim (isElement d t) [ true ↦ d .elements ++ (text (d .used) (d .used + i + t .size) i (isLineStart (d .role)) ∷ []) | false ↦ d .elements ];
+      elements =
+          elim
+          (isElement d t) [
+            | true ↦ d .elements
+                ++ (text (d .used) (d .used + i + t .size) i (isLineStart (d .role)) ∷ [])
+            | false ↦ d .elements
+          ];
       kept = elim (isElement d t && not (t .blank)) [ true ↦ suc (length (d .elements)) | false ↦ d .kept ];
       common = commonAfter d i t;
       used = d .used + (i + k);
@@ -140,13 +151,18 @@ stateBy d i x v b =
       used = d .used + (i + widthOf x);
     }
 
-module _ {s : List ℕ} {cap at n : ℕ} {t t₁ : List ℕ} {st : Reading} {d : State} (i : ℕ) (x : TextSlice) (h : Holds s cap at n t t₁ st d) (inside : st .at + i + x .size ≤ length s)
+module _ {s : List ℕ} {cap at n : ℕ} {t t₁ : List ℕ} {st : Reading} {d : State} (i : ℕ) (x : TextSlice)
+    (h : Holds s cap at n t t₁ st d) (inside : st .at + i + x .size ≤ length s)
     (spaced : startsLine (st .role) ≡ true → i ≡ spaces (drop (st .at) s)) where
   part-sound : SoundOne (drop at s) (partOf d i x)
   part-sound =
       let z = length-drop at s in
-      let p = h .place in
-      (omega arith, omega arith, λ l. spaced (sym (line-is d (st .role) (h .role)) ∙ l) ∙ ap (λ (k : ℕ). spaces (drop k s)) p ∙ ap spaces (sym (drop-drop (d .used) at s)))
+      let p = h .place in (
+        omega arith,
+        omega arith,
+        λ l. spaced (sym (line-is d (st .role) (h .role)) ∙ l)
+            ∙ ap (λ (k : ℕ). spaces (drop k s)) p ∙ ap spaces (sym (drop-drop (d .used) at s)),
+      )
 
   part-words : provisionalOf at (partOf d i x) ≡ partWords true (startsLine (st .role)) (st .at) (st .at + i + x .size)
   unfolding provisionalOf
@@ -188,7 +204,8 @@ module _ {s : List ℕ} {cap at n : ℕ} {t t₁ : List ℕ} {st : Reading} {d :
       let p = h .place in
       let g : Step cap (st .n) t₁ t₂ (provisionalOf at (partOf d i x)) = rw part-words w in
       let l : length (provisionalOf at (partOf d i x)) ≡ 2 = rw part-words in
-      let q : st .n + 2 ≡ n + 1 + length (provisional at (d .elements ++ (partOf d i x ∷ []))) = rw l at (add-count at (d .elements) (partOf d i x) n (h .count)) in
+      let q : st .n + 2 ≡ n + 1 + length (provisional at (d .elements ++ (partOf d i x ∷ []))) =
+      rw l at (add-count at (d .elements) (partOf d i x) n (h .count)) in
       record {
         role = role-same (x .ending);
         place = omega arith;
@@ -200,7 +217,8 @@ module _ {s : List ℕ} {cap at n : ℕ} {t t₁ : List ℕ} {st : Reading} {d :
         sound = sound-add (drop at s) (d .elements) (partOf d i x) (h .sound) part-sound;
       }
 
-  pub holds-text : {t₂ : List ℕ} → Step cap (st .n) t₁ t₂ (textWords st i x) → Holds s cap at n t t₂ (afterText st i x) (textState d i (sliceOf x) (widthOf x))
+  pub holds-text : {t₂ : List ℕ} → Step cap (st .n) t₁ t₂ (textWords st i x)
+      → Holds s cap at n t t₂ (afterText st i x) (textState d i (sliceOf x) (widthOf x))
   holds-text w =
       let c = common-same s d (st .role) (st .«common_indent») i x (h .role) (omega arith) (h .common) in
       rw (part-same d (st .role) x (h .role)) (text-by (isPart (startsLine (st .role)) x) (x .blank) w c)
@@ -223,19 +241,23 @@ placedState d ms k =
       used = d .used + k;
     }
 
-common-placed : (s : List ℕ) (c : Option ℕ) (common : ℕ) (l : Bool) → Common s c common → Common s (elim l [ true ↦ some 0 | false ↦ c ]) (leastOf l 0 common)
+common-placed : (s : List ℕ) (c : Option ℕ) (common : ℕ) (l : Bool) → Common s c common
+    → Common s (elim l [ true ↦ some 0 | false ↦ c ]) (leastOf l 0 common)
 common-placed s c common true h = zero-min common
 common-placed s c common false h = h
 
-module _ {s : List ℕ} {cap at n : ℕ} {t t₁ t₂ : List ℕ} {st : Reading} {d : State} (h : Holds s cap at n t t₁ st d) (ms : List Mark) (low : Low ms)
+module _ {s : List ℕ} {cap at n : ℕ} {t t₁ t₂ : List ℕ} {st : Reading} {d : State} (h : Holds s cap at n t t₁ st d)
+    (ms : List Mark) (low : Low ms)
     (w : Step cap (st .n) t₁ t₂ ((word 13 0 ∷ wordsAt (st .at) ms) ++ (word 113 0 ∷ []))) where
   placed-words : provisionalOf at (placeable (moveUp (d .used) ms)) ≡ (word 13 0 ∷ wordsAt (st .at) ms) ++ (word 113 0 ∷ [])
   unfolding provisionalOf
   placed-words =
       node-words at 13 (moveUp (d .used) ms)
-      ∙ ap (λ (l : List Word). (word 13 0 ∷ l) ++ (word 113 0 ∷ [])) (words-up at (d .used) ms ∙ ap (λ (k : ℕ). wordsAt k ms) (sym (h .place)))
+      ∙ ap (λ (l : List Word). (word 13 0 ∷ l) ++ (word 113 0 ∷ []))
+      (words-up at (d .used) ms ∙ ap (λ (k : ℕ). wordsAt k ms) (sym (h .place)))
 
-  pub holds-placeable : (k : ℕ) {e m : ℕ} → e ≡ st .at + k → m ≡ st .n + 2 + length ms → Holds s cap at n t t₂ (afterPlaceable st e m) (placedState d ms k)
+  pub holds-placeable : (k : ℕ) {e m : ℕ} → e ≡ st .at + k → m ≡ st .n + 2 + length ms
+      → Holds s cap at n t t₂ (afterPlaceable st e m) (placedState d ms k)
   holds-placeable k {e} {m} ee em =
       let p = h .place in
       let es = d .elements in
@@ -251,6 +273,8 @@ module _ {s : List ℕ} {cap at n : ℕ} {t t₁ t₂ : List ℕ} {st : Reading}
         wrote = add-wrote at es o (h .wrote) (h .count) (rw placed-words w);
         kept = rw (add-new at es o) q;
         few = add-few at es o;
-        common = rw (Common, line-is d (st .role) (h .role)) (common-placed s (d .common) (st .«common_indent») (startsLine (st .role)) (h .common));
+        common =
+            rw (Common, line-is d (st .role) (h .role))
+            (common-placed s (d .common) (st .«common_indent») (startsLine (st .role)) (h .common));
         sound = sound-add (drop at s) es o (h .sound) (low-up (d .used) ms low);
       }

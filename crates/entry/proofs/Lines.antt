@@ -25,7 +25,8 @@ unfolding eol startsWith
 eol-none [] h g = refl
 eol-none (b ∷ x) h g = rw (h, g, eol)
 
-eol-return : (x : List ℕ) → startsWith Byte.lineFeed x ≡ false → startsWith Byte.carriageReturn x ≡ true → eol x ≡ elim (startsWith Byte.lineFeed (drop 1 x)) [ true ↦ 2 | false ↦ 0 ]
+eol-return : (x : List ℕ) → startsWith Byte.lineFeed x ≡ false → startsWith Byte.carriageReturn x ≡ true
+    → eol x ≡ elim (startsWith Byte.lineFeed (drop 1 x)) [ true ↦ 2 | false ↦ 0 ]
 unfolding eol startsWith
 eol-return [] h g = clash g refl
 eol-return (b ∷ x) h g = rw (h, g, eol)
@@ -52,7 +53,9 @@ unfolding isEol
 ends-here s i h = let l : length s ≤ i = omega arith in rw (drop-of-length-le s l)
 
 pub ends-by : (s : List ℕ) (i j : ℕ) → i < length s → j ≡ i + eol (drop i s) → ltb i j ≡ isEol (drop i s)
-ends-by s i j l h = byCase (ltb i j) (λ q. q ∙ sym (test (lt-ltb 0 (eol (drop i s)) (omega (arith, ltb-true i j q))))) (λ q. q ∙ sym (test (le-ltb 0 (eol (drop i s)) (omega (arith, ltb-false i j q)))))
+ends-by s i j l h =
+    byCase (ltb i j) (λ q. q ∙ sym (test (lt-ltb 0 (eol (drop i s)) (omega (arith, ltb-true i j q)))))
+    (λ q. q ∙ sym (test (le-ltb 0 (eol (drop i s)) (omega (arith, ltb-false i j q)))))
   where
     some : isEol (drop i s) ≡ ltb 0 (eol (drop i s))
     some = unfold isEol in rw (drop-cons s i 0 l)

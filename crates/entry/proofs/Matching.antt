@@ -31,7 +31,8 @@ lengths-differ [] (b ∷ y) h = refl
 lengths-differ (a ∷ x) [] h = refl
 lengths-differ (a ∷ x) (b ∷ y) h = ap (λ (v : Bool). eqb a b && v) (lengths-differ x y (λ e. h (ap suc e))) ∙ and-false (eqb a b)
 
-pub parts-differ : (s : List ℕ) (a b c d : ℕ) → b ≤ length s → d ≤ length s → (b - a ≡ d - c → ⊥) → sameBytes (part s a b) (part s c d) ≡ false
+pub parts-differ : (s : List ℕ) (a b c d : ℕ) → b ≤ length s → d ≤ length s → (b - a ≡ d - c → ⊥)
+    → sameBytes (part s a b) (part s c d) ≡ false
 parts-differ s a b c d l m h = lengths-differ _ _ (λ e. h (sym (part-length s a b l) ∙ e ∙ part-length s c d m))
 
 -- up to i and j the parts from a to b and from c to d are the same
@@ -45,12 +46,20 @@ pub matching-none : (s : List ℕ) (a b c d : ℕ) → a ≤ b → b ≤ length 
 matching-none s a b c d h l k m e = record { inside = (h, l); other = m; level = omega arith; sofar = refl }
 
 module _ {s : List ℕ} {a b c d i j : ℕ} (g : Matching s a b c d i j) where
-  first-bytes : i < b → sameBytes (part s i b) (part s j d) ≡ eqb (getD s i 0) (getD s j 0) && sameBytes (part s (i + 1) b) (part s (j + 1) d)
+  first-bytes : i < b
+      → sameBytes (part s i b) (part s j d) ≡ eqb (getD s i 0) (getD s j 0)
+      && sameBytes (part s (i + 1) b) (part s (j + 1) d)
   unfolding sameBytes
   first-bytes h = rw (part-first s i b h (g .inside .1), part-first s j d (omega (arith, g .level)) (g .other))
 
   pub matching-more : i < b → getD s i 0 ≡ getD s j 0 → Matching s a b c d (i + 1) (j + 1)
-  matching-more h e = record { inside = (omega arith, g .inside .1); other = g .other; level = omega arith; sofar = g .sofar ∙ first-bytes h ∙ rw (eq-eqb (getD s i 0) (getD s j 0) e) }
+  matching-more h e =
+      record {
+        inside = (omega arith, g .inside .1);
+        other = g .other;
+        level = omega arith;
+        sofar = g .sofar ∙ first-bytes h ∙ rw (eq-eqb (getD s i 0) (getD s j 0) e);
+      }
 
   pub matching-fails : i < b → (getD s i 0 ≡ getD s j 0 → ⊥) → sameBytes (part s a b) (part s c d) ≡ false
   matching-fails h e = g .sofar ∙ first-bytes h ∙ rw (ne-eqb (getD s i 0) (getD s j 0) e)

@@ -25,11 +25,14 @@ use Rattle.entry.proofs.Matching.{part}
 from-drop : (cap i n : ℕ) (t : List ℕ) → i ≤ n → marksFrom cap i (n - i) t ≡ drop i (marksIn cap n t)
 from-drop cap i n t h =
     let e : i + (n - i) ≡ n = omega arith in
-    sym (drop-at (marksIn cap i t) _ i (marks-length cap i t)) ∙ ap (drop i) (sym (marks-split cap i (n - i) t) ∙ ap (λ (k : ℕ). marksIn cap k t) e)
+    sym (drop-at (marksIn cap i t) _ i (marks-length cap i t))
+    ∙ ap (drop i) (sym (marks-split cap i (n - i) t) ∙ ap (λ (k : ℕ). marksIn cap k t) e)
 
-from-step : {cap n : ℕ} {t t′ : List ℕ} {ws : List Word} (i : ℕ) → i ≤ n → Step cap n t t′ ws → marksFrom cap i (n + length ws - i) t′ ≡ marksFrom cap i (n - i) t ++ ws
+from-step : {cap n : ℕ} {t t′ : List ℕ} {ws : List Word} (i : ℕ) → i ≤ n → Step cap n t t′ ws
+    → marksFrom cap i (n + length ws - i) t′ ≡ marksFrom cap i (n - i) t ++ ws
 from-step {cap} {n} {t} {t′} {ws} i h s =
-    from-drop cap i (n + length ws) t′ (omega arith) ∙ ap (drop i) (s .marks) ∙ drop-append-le i (marksIn cap n t) ws (rw (marks-length cap n t) h)
+    from-drop cap i (n + length ws) t′ (omega arith) ∙ ap (drop i) (s .marks)
+    ∙ drop-append-le i (marksIn cap n t) ws (rw (marks-length cap n t) h)
     ∙ ap (λ (l : List Word). l ++ ws) (sym (from-drop cap i n t h))
 
 -- after a mark that opens a node, or closes one
@@ -52,7 +55,8 @@ pub names-none : (s t : List ℕ) (cap n : ℕ) → n ≤ cap → 2 + 2 * cap �
 unfolding marksFrom
 names-none s t cap n h l = let e : n - n ≡ 0 = omega arith in record { order = omega arith; room = h; layout = l; row = rw e none }
 
-pub names-more : {s t t′ : List ℕ} {cap i n : ℕ} {names : List (List ℕ)} (a e at : ℕ) (ms : List Mark) → Names s t cap i n names → a ≤ e → e ≤ length s → Levels 0 ms → n + (4 + length ms) ≤ cap
+pub names-more : {s t t′ : List ℕ} {cap i n : ℕ} {names : List (List ℕ)} (a e at : ℕ) (ms : List Mark)
+    → Names s t cap i n names → a ≤ e → e ≤ length s → Levels 0 ms → n + (4 + length ms) ≤ cap
     → Step cap n t t′ (namedWords a e (wordsAt at ms)) → Names s t′ cap i (n + (4 + length ms)) (take (e - a) (drop a s) ∷ names)
 unfolding wordsAt moveUp
 names-more {s} {t} {t′} {cap} {i} {n} {names} a e at ms g h l b r w =
@@ -66,7 +70,8 @@ names-more {s} {t} {t′} {cap} {i} {n} {names} a e at ms g h l b r w =
     }
 
 -- marks are kept by what is written after them
-pub names-cut : {s t t′ : List ℕ} {cap i n : ℕ} {names : List (List ℕ)} {ws : List Word} → Names s t cap i n names → Step cap n t t′ ws → Names s t′ cap i n names
+pub names-cut : {s t t′ : List ℕ} {cap i n : ℕ} {names : List (List ℕ)} {ws : List Word} → Names s t cap i n names
+    → Step cap n t t′ ws → Names s t′ cap i n names
 names-cut {s} {t} {t′} {cap} {i} {n} {names} g w =
     let e = from-step i (g .order) (step-cut w) in
     let q : marksFrom cap i (n - i) t′ ≡ marksFrom cap i (n - i) t = rw (add-zero, append-nil) at e in
@@ -82,36 +87,44 @@ names-some {s} {t} {cap} {i} {n} g = go (g .row) refl
 
     go : {ws : List Word} {names : List (List ℕ)} → NamedRow s ws names → ws ≡ marksFrom cap i (n - i) t → isNone names ≡ not (ltb i n)
     go none e = rw (le-ltb i n (omega (arith, ap length e, long i (n - i))))
-    go (more {ws = ws} a z inner h l b r) e = rw (lt-ltb i n (omega (arith, length-append ws (namedWords a z inner), ap length e, long i (n - i))))
+    go (more {ws = ws} a z inner h l b r) e =
+        rw (lt-ltb i n (omega (arith, length-append ws (namedWords a z inner), ap length e, long i (n - i))))
 
 -- ---- the walk
 
 -- the marks that are left where d nodes are open, with the names in them, the first first
 data Left (s : List ℕ) : ℕ → List Word → List (List ℕ) → Type 0 where
   over : Left s 0 [] []
-  named : {ws : List Word} {names : List (List ℕ)} (a e : ℕ) → a ≤ e → e ≤ length s → Left s 1 (word 9 a ∷ word 109 e ∷ ws) names → Left s 0 (word 26 0 ∷ word 9 a ∷ word 109 e ∷ ws) (part s a e ∷ names)
-  opens : {d k p : ℕ} {ws : List Word} {names : List (List ℕ)} → k < 100 → Left s (suc (suc d)) ws names → Left s (suc d) (word k p ∷ ws) names
+  named : {ws : List Word} {names : List (List ℕ)} (a e : ℕ) → a ≤ e → e ≤ length s
+      → Left s 1 (word 9 a ∷ word 109 e ∷ ws) names
+      → Left s 0 (word 26 0 ∷ word 9 a ∷ word 109 e ∷ ws) (part s a e ∷ names)
+  opens : {d k p : ℕ} {ws : List Word} {names : List (List ℕ)} → k < 100 → Left s (suc (suc d)) ws names
+      → Left s (suc d) (word k p ∷ ws) names
   closes : {d k p : ℕ} {ws : List Word} {names : List (List ℕ)} → 100 ≤ k → Left s d ws names → Left s (suc d) (word k p ∷ ws) names
 
 -- the value of a named argument is passed
-left-inner : {s : List ℕ} {vs : List Word} {names : List (List ℕ)} (d : ℕ) (ws : List Word) → Nested d ws → Left s 1 vs names → Left s (suc d) (ws ++ vs) names
+left-inner : {s : List ℕ} {vs : List Word} {names : List (List ℕ)} (d : ℕ) (ws : List Word) → Nested d ws
+    → Left s 1 vs names → Left s (suc d) (ws ++ vs) names
 left-inner {s} {vs} {names} d [] l r = subst (λ (k : ℕ). Left s (suc k) vs names) (sym l) r
 left-inner {s} {vs} {names} d (word k p ∷ ws) l r = by (ltb k 100) refl l (λ i g. left-inner i ws g r)
   where
-    by : (v : Bool) → v ≡ ltb k 100 → NestedBy v d ws → ((i : ℕ) → Nested i ws → Left s (suc i) (ws ++ vs) names) → Left s (suc d) (word k p ∷ (ws ++ vs)) names
+    by : (v : Bool) → v ≡ ltb k 100 → NestedBy v d ws → ((i : ℕ) → Nested i ws → Left s (suc i) (ws ++ vs) names)
+        → Left s (suc d) (word k p ∷ (ws ++ vs)) names
     by true e l f = opens (ltb-true k 100 (sym e)) (f (suc d) l)
     by false e l f =
         let z : suc (d - 1) ≡ d = omega (arith, l .0) in
         closes (ltb-false k 100 (sym e)) (subst (λ (k : ℕ). Left s k (ws ++ vs) names) z (f (d - 1) (l .1)))
 
-row-left : {s : List ℕ} {ws vs : List Word} {names rest : List (List ℕ)} → NamedRow s ws names → Left s 0 vs rest → Left s 0 (ws ++ vs) (reverseAux names rest)
+row-left : {s : List ℕ} {ws vs : List Word} {names rest : List (List ℕ)} → NamedRow s ws names → Left s 0 vs rest
+    → Left s 0 (ws ++ vs) (reverseAux names rest)
 row-left none r = r
 row-left {s} {vs = vs} {rest = rest} (more {ws} {names} a e inner h l b g) r =
     let q = left-inner 0 inner b (closes {k = 126} {p = 0} (omega arith) r) in
     let n = named a e h l (opens {k = 9} (omega arith) (closes {k = 109} (omega arith) q)) in
     subst (λ (l : List Word). Left s 0 l (reverseAux names (part s a e ∷ rest))) (sym (joined ws a e inner vs)) (row-left g n)
   where
-    joined : (ws : List Word) (a e : ℕ) (inner vs : List Word) → (ws ++ namedWords a e inner) ++ vs ≡ ws ++ (word 26 0 ∷ word 9 a ∷ word 109 e ∷ (inner ++ (word 126 0 ∷ vs)))
+    joined : (ws : List Word) (a e : ℕ) (inner vs : List Word)
+        → (ws ++ namedWords a e inner) ++ vs ≡ ws ++ (word 26 0 ∷ word 9 a ∷ word 109 e ∷ (inner ++ (word 126 0 ∷ vs)))
     joined ws a e inner vs = simp append-assoc
 
 among-onto : (x : List ℕ) (names rest : List (List ℕ)) → isAmong x (reverseAux names rest) ≡ isAmong x names || isAmong x rest
@@ -155,7 +168,9 @@ passed : (d : ℕ) (y : Bool) → eqb (suc d) 0 && y ≡ false
 passed d y = rw (ne-eqb (suc d) 0 (λ e. omega arith))
 
 module _ {s t : List ℕ} (x : List ℕ) (cap n i : ℕ) (room : n ≤ cap) (layout : 2 + 2 * cap ≤ length t) (h : i < n) where
-  name-turn : (ws : List Word) (names : List (List ℕ)) (a e : ℕ) → a ≤ e → e ≤ length s → Left s 1 (word 9 a ∷ word 109 e ∷ ws) names → First cap n i t (word 26 0) (word 9 a ∷ word 109 e ∷ ws) → Turn s t x cap n i 0 (part s a e ∷ names)
+  name-turn : (ws : List Word) (names : List (List ℕ)) (a e : ℕ) → a ≤ e → e ≤ length s
+      → Left s 1 (word 9 a ∷ word 109 e ∷ ws) names → First cap n i t (word 26 0) (word 9 a ∷ word 109 e ∷ ws)
+      → Turn s t x cap n i 0 (part s a e ∷ names)
   unfolding isAmong
   name-turn ws names a e o m g f =
       let f₁ = first-of cap n (i + 1) t (f .next) in
@@ -173,15 +188,29 @@ module _ {s t : List ℕ} (x : List ℕ) (cap n i : ℕ) (room : n ≤ cap) (lay
         found = rw (p, q);
       }
 
-  open-turn : (d k p : ℕ) (ws : List Word) (names : List (List ℕ)) → k < 100 → Left s (suc (suc d)) ws names → First cap n i t (word k p) ws → Turn s t x cap n i (suc d) names
+  open-turn : (d k p : ℕ) (ws : List Word) (names : List (List ℕ)) → k < 100 → Left s (suc (suc d)) ws names
+      → First cap n i t (word k p) ws → Turn s t x cap n i (suc d) names
   open-turn d k p ws names b g f =
       let e : getD t (i + 2) 0 ≡ k = cc (f .here) in
-      record { tail = names; name = λ z. absurd (omega arith); opened = λ b. rw (← f .next) (subst (λ z. Left s z ws names) (sym (add-one (suc d))) g); closed = λ c. absurd (omega arith); found = rw (passed d (sameBytes x (nameAt s t cap i))) }
+      record {
+        tail = names;
+        name = λ z. absurd (omega arith);
+        opened = λ b. rw (← f .next) (subst (λ z. Left s z ws names) (sym (add-one (suc d))) g);
+        closed = λ c. absurd (omega arith);
+        found = rw (passed d (sameBytes x (nameAt s t cap i)));
+      }
 
-  close-turn : (d k p : ℕ) (ws : List Word) (names : List (List ℕ)) → 100 ≤ k → Left s d ws names → First cap n i t (word k p) ws → Turn s t x cap n i (suc d) names
+  close-turn : (d k p : ℕ) (ws : List Word) (names : List (List ℕ)) → 100 ≤ k → Left s d ws names
+      → First cap n i t (word k p) ws → Turn s t x cap n i (suc d) names
   close-turn d k p ws names b g f =
       let e : getD t (i + 2) 0 ≡ k = cc (f .here) in
-      record { tail = names; name = λ z. absurd (omega arith); opened = λ c. absurd (omega arith); closed = λ b. (omega arith, rw (← f .next) (subst (λ z. Left s z ws names) (sym (sub-one (suc d))) g)); found = rw (passed d (sameBytes x (nameAt s t cap i))) }
+      record {
+        tail = names;
+        name = λ z. absurd (omega arith);
+        opened = λ c. absurd (omega arith);
+        closed = λ b. (omega arith, rw (← f .next) (subst (λ z. Left s z ws names) (sym (sub-one (suc d))) g));
+        found = rw (passed d (sameBytes x (nameAt s t cap i)));
+      }
 
   turn-on : {d : ℕ} {vs : List Word} {rest : List (List ℕ)} → Left s d vs rest → vs ≡ marksFrom cap i (n - i) t → Turn s t x cap n i d rest
   turn-on over e = let q = e ∙ next-from cap i n t h in let y : _≡_ {A = ℕ} 0 1 = cc in absurd (omega arith)
@@ -207,7 +236,12 @@ looking-none {s} {t} {cap} {from} {n} x g =
     record {
       order = g .are .order;
       small = omega arith;
-      are = λ names h. record { rest = reverseAux names []; left = rw append-nil at (row-left (h .row) over); same = sym (among-onto x names [] ∙ none-more (isAmong x names)) };
+      are =
+          λ names h. record {
+            rest = reverseAux names [];
+            left = rw append-nil at (row-left (h .row) over);
+            same = sym (among-onto x names [] ∙ none-more (isAmong x names));
+          };
     }
   where
     none-more : (v : Bool) → v || isAmong x [] ≡ v
@@ -232,12 +266,24 @@ module _ {s t x : List ℕ} {cap from n i d : ℕ} (g : Looking s t x cap from n
     further f names a = g .are names a .same ∙ turn names a .found ∙ rw (sym e ∙ f)
 
     pub looking-open : r ≡ false → getD t (i + 2) 0 < 100 → Looking s t x cap from n (i + 1) (d + 1)
-    looking-open f b = record { order = omega arith; small = omega arith; are = λ names a. record { rest = turn names a .tail; left = turn names a .opened b; same = further f names a } }
+    looking-open f b =
+        record {
+          order = omega arith;
+          small = omega arith;
+          are = λ names a. record { rest = turn names a .tail; left = turn names a .opened b; same = further f names a };
+        }
 
     pub looking-close : r ≡ false → 100 ≤ getD t (i + 2) 0 → Looking s t x cap from n (i + 1) (d - 1)
-    looking-close f b = record { order = omega arith; small = omega arith; are = λ names a. record { rest = turn names a .tail; left = turn names a .closed b .1; same = further f names a } }
+    looking-close f b =
+        record {
+          order = omega arith;
+          small = omega arith;
+          are =
+              λ names a. record { rest = turn names a .tail; left = turn names a .closed b .1; same = further f names a };
+        }
 
-pub looking-end : {s t x : List ℕ} {cap from n i d : ℕ} → Looking s t x cap from n i d → n ≤ i → (names : List (List ℕ)) → Names s t cap from n names → false ≡ isAmong x names
+pub looking-end : {s t x : List ℕ} {cap from n i d : ℕ} → Looking s t x cap from n i d → n ≤ i → (names : List (List ℕ))
+    → Names s t cap from n names → false ≡ isAmong x names
 unfolding marksFrom isAmong
 looking-end {s} {t} {x} {cap} {n = n} {i} g h names a =
     let z : n - i ≡ 0 = omega arith in

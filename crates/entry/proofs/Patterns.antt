@@ -63,7 +63,8 @@ module _ (s : List ℕ) (at : ℕ) {a : ℕ} (p : Passed s at (spaces (drop at s
       let r : at + (e - at) ≡ e = omega (arith, p .end, q .end) in
       let d : drop (e - at) x ≡ drop e s = drop-drop (e - at) at s ∙ ap (λ (n : ℕ). drop n s) r in
       let u : usedBy (skipBlankBlock (drop (spaces x + eol (drop (spaces x) x)) x)) ≡ b - e =
-      ap (λ (n : ℕ). usedBy (skipBlankBlock (drop n x))) k ∙ ap (λ (y : List ℕ). usedBy (skipBlankBlock y)) d ∙ ap usedBy (w .answers) ∙ used-ok _ _ in
+      ap (λ (n : ℕ). usedBy (skipBlankBlock (drop n x))) k ∙ ap (λ (y : List ℕ). usedBy (skipBlankBlock y)) d
+      ∙ ap usedBy (w .answers) ∙ used-ok _ _ in
       rw (firstState, eol-at, z) (ap (λ (n : ℕ). stateAt n (roleOf LineStart)) (omega (arith, w .onward)))
 
 -- ---- the marks inside a placeable are none that is settled
@@ -77,7 +78,8 @@ known-low (m ∷ ms) k = (low (k .0) .0, known-low ms (k .1))
     low (textOpened j a l h i) = (omega arith, tt)
     low (textClosed j e l h i) = (omega arith, tt)
 
--- ---- the loop's invariant: the code's state holds one of the definition's, and what the loop gives from there on is what the pattern's reader gives
+-- ---- the loop's invariant: the code's state holds one of the definition's, and what the loop gives from there on is
+-- what the pattern's reader gives
 pub record Going (sub : Inside) (s : List ℕ) (cap at n : ℕ) (t t₁ : List ℕ) (st : Reading) : Type 0 where
   pub state : State
   pub holds : Holds s cap at n t t₁ st state
@@ -86,7 +88,8 @@ pub record Going (sub : Inside) (s : List ℕ) (cap at n : ℕ) (t t₁ : List �
   pub same : getPattern sub (drop at s) ≡ finish (drop at s) (after [] (state .used) (repeat (patternTurn sub) state (drop (st .at) s)))
 
 module _ {sub : Inside} {s : List ℕ} {cap at n : ℕ} {t t₁ : List ℕ} {st : Reading} where
-  pub going-start : {m : ℕ} → Room s t cap at n 2 → (m ≡ n + 1) × Step cap n t t₁ (word 11 0 ∷ []) → Started s at m st → Going sub s cap at n t t₁ st
+  pub going-start : {m : ℕ} → Room s t cap at n 2 → (m ≡ n + 1) × Step cap n t t₁ (word 11 0 ∷ []) → Started s at m st
+      → Going sub s cap at n t t₁ st
   unfolding getPattern stateAt provisional
   going-start {m} r w b =
       let e = b .state in
@@ -113,7 +116,9 @@ module _ {sub : Inside} {s : List ℕ} {cap at n : ℕ} {t t₁ : List ℕ} {st 
         };
         from = o;
         same = ap (λ (d : State). finish (drop at s) (after [] (d .used) (repeat (patternTurn sub) d (drop (d .used) (drop at s))))) e
-            ∙ ap (λ (x : List ℕ). finish (drop at s) (after [] (st .at - at) (repeat (patternTurn sub) (stateAt (st .at - at) (roleOf (st .role))) x)))
+            ∙ ap
+            (λ (x : List ℕ). finish (drop at s)
+            (after [] (st .at - at) (repeat (patternTurn sub) (stateAt (st .at - at) (roleOf (st .role))) x)))
             (drop-drop (st .at - at) at s ∙ ap (λ (k : ℕ). drop k s) p);
       }
 
@@ -164,7 +169,9 @@ module _ {sub : Inside} {s : List ℕ} {cap at n : ℕ} {t t₁ : List ℕ} {st 
   -- a turn that is the last
   turn-done : {o : Out State} → patternTurn sub (g .state) (drop (st .at) s) ≡ done o
       → getPattern sub (drop at s) ≡ finish (drop at s) (after [] (g .state .used) o)
-  turn-done e = g .same ∙ ap (λ (x : Out State). finish (drop at s) (after [] (g .state .used) x)) (repeat-done (patternTurn sub) (g .state) (drop (st .at) s) e)
+  turn-done e = g .same
+      ∙ ap (λ (x : Out State). finish (drop at s) (after [] (g .state .used) x))
+      (repeat-done (patternTurn sub) (g .state) (drop (st .at) s) e)
 
   -- a turn after which the loop goes on
   turn-again : {left : ℕ} {t₂ : List ℕ} {st′ : Reading} {d′ : State} → InsideBounds left sub
@@ -184,13 +191,16 @@ module _ {sub : Inside} {s : List ℕ} {cap at n : ℕ} {t t₁ : List ℕ} {st 
         room = r;
         from = omega arith;
         same = g .same
-            ∙ ap (λ (x : Out State). finish (drop at s) (after [] (d .used) x)) (repeat-again (moves (patternTurn-bounds law)) d (drop (st .at) s) e)
+            ∙ ap (λ (x : Out State). finish (drop at s) (after [] (d .used) x))
+            (repeat-again (moves (patternTurn-bounds law)) d (drop (st .at) s) e)
             ∙ ap (finish (drop at s)) (after-twice (d .used) k (repeat (patternTurn sub) d′ (drop k (drop (st .at) s))))
-            ∙ ap₂ (λ (i : ℕ) (x : List ℕ). finish (drop at s) (after [] i (repeat (patternTurn sub) d′ x))) u (drop-drop k (st .at) s ∙ ap (λ (i : ℕ). drop i s) z);
+            ∙ ap₂ (λ (i : ℕ) (x : List ℕ). finish (drop at s) (after [] i (repeat (patternTurn sub) d′ x))) u
+            (drop-drop k (st .at) s ∙ ap (λ (i : ℕ). drop i s) z);
       }
 
   -- the pattern ends at a place
-  end-did : {t₂ t₃ : List ℕ} {e : ℕ} {r : Read} → patternTurn sub (g .state) (drop (st .at) s) ≡ done (ok (g .state) [] (e - st .at)) → st .at ≤ e
+  end-did : {t₂ t₃ : List ℕ} {e : ℕ} {r : Read}
+      → patternTurn sub (g .state) (drop (st .at) s) ≡ done (ok (g .state) [] (e - st .at)) → st .at ≤ e
       → Holds s cap at n t t₂ st (g .state)
       → Ended s cap n t₂ t₃ st e r → Did reading cap at n t t₃ r (getPattern sub (drop at s))
   end-did {e = e} q l h w =
@@ -221,7 +231,8 @@ module _ {sub : Inside} {s : List ℕ} {cap at n : ℕ} {t t₁ : List ℕ} {st 
   pub exit-ends : Ends s t₁ cap n st
   exit-ends = ends-with (g .holds) refl
 
-  pub exit-did : {t₂ : List ℕ} {r : Read} → length s ≤ st .at → Ended s cap n t₁ t₂ st (st .at) r → Did reading cap at n t t₂ r (getPattern sub (drop at s))
+  pub exit-did : {t₂ : List ℕ} {r : Read} → length s ≤ st .at → Ended s cap n t₁ t₂ st (st .at) r
+      → Did reading cap at n t t₂ r (getPattern sub (drop at s))
   exit-did l w =
       let z : st .at - st .at ≡ 0 = omega arith in
       end-did (no-turn sub s (st .at) (g .state) l ∙ ap (λ (k : ℕ). done (ok (g .state) [] k)) (sym z)) (omega arith) (g .holds) w
@@ -238,7 +249,14 @@ module _ {sub : Inside} {s : List ℕ} {cap at n : ℕ} {t t₁ : List ℕ} {st 
         let o = rw e at (h .onward) in
         let r = g .room in
         turn-again law (text-turn sub s (st .at) (g .state) l b ∙ k .is .0) (k .is .1)
-        (record { inside = o .1; spent = omega (arith, r .spent, o); short = r .short; holds = r .holds; layout = rw (h .long) (r .layout) }) (omega (arith, o .0))
+        (record {
+          inside = o .1;
+          spent = omega (arith, r .spent, o);
+          short = r .short;
+          holds = r .holds;
+          layout = rw (h .long) (r .layout);
+        })
+        (omega (arith, o .0))
 
     pub text-less : (st′ : Reading) → w ≡ Next st′ → (st .at < st′ .at) × (st′ .at ≤ length s)
     text-less st′ e = let o = rw e at (h .onward) in (o .0, o .1)
@@ -246,7 +264,8 @@ module _ {sub : Inside} {s : List ℕ} {cap at n : ℕ} {t t₁ : List ℕ} {st 
     pub text-ends : (e : ℕ) → w ≡ End e → Ends s t₂ cap n st
     text-ends e q = ends-with ((rw q at turned) .1) (h .long)
 
-    pub text-end-did : {t₃ : List ℕ} {e : ℕ} {r : Read} → w ≡ End e → Ended s cap n t₂ t₃ st e r → Did reading cap at n t t₃ r (getPattern sub (drop at s))
+    pub text-end-did : {t₃ : List ℕ} {e : ℕ} {r : Read} → w ≡ End e → Ended s cap n t₂ t₃ st e r
+        → Did reading cap at n t t₃ r (getPattern sub (drop at s))
     text-end-did q v =
         let k = rw q at turned in
         let o = rw q at (h .onward) in
@@ -260,11 +279,18 @@ module _ {sub : Inside} {s : List ℕ} {cap at n : ℕ} {t t₁ : List ℕ} {st 
         let d = g .state in
         let f′ = k .0 .it in
         rw (turn-done (text-turn sub s (st .at) (g .state) l b ∙ k .0 .is .0) ∙ failed (drop at s) (d .used) f′ (e - st .at))
-        (record { answers = ap₂ reads.Bad (k .0 .is .1 ∙ ap (λ (i : ℕ). upFault i f′) p ∙ sym (fault-up at (d .used) f′)) (omega (arith, o .0)); wrote = rw words-none (k .1) })
+        (record {
+          answers =
+              ap₂ reads.Bad (k .0 .is .1 ∙ ap (λ (i : ℕ). upFault i f′) p ∙ sym (fault-up at (d .used) f′))
+              (omega (arith, o .0));
+          wrote = rw words-none (k .1);
+        })
 
   -- ---- at a placeable, after the mark that opens it
-  module _ (l : st .at < length s) (b : startsWith 123 (drop (st .at) s) ≡ true) {left : ℕ} (law : InsideBounds left sub) (formed : InsideFormed left sub) {m₁ : ℕ} {t₂ t₃ : List ℕ} {r : Read}
-      (p₁ : (m₁ ≡ st .n + 1) × Step cap (st .n) t₁ t₂ (word 13 0 ∷ [])) (h : Did reading cap (st .at) m₁ t₂ t₃ r (sub .braced (drop (st .at) s))) where
+  module _ (l : st .at < length s) (b : startsWith 123 (drop (st .at) s) ≡ true) {left : ℕ}
+      (law : InsideBounds left sub) (formed : InsideFormed left sub) {m₁ : ℕ} {t₂ t₃ : List ℕ} {r : Read}
+      (p₁ : (m₁ ≡ st .n + 1) × Step cap (st .n) t₁ t₂ (word 13 0 ∷ []))
+      (h : Did reading cap (st .at) m₁ t₂ t₃ r (sub .braced (drop (st .at) s))) where
     braced-bounds : Bounded left (λ _. 20) (drop (st .at) s) (sub .braced (drop (st .at) s))
     braced-bounds = rw (drop-cons s (st .at) 0 l) (law .braced (getD s (st .at) 0) (drop (suc (st .at)) s))
 
@@ -284,10 +310,16 @@ module _ {sub : Inside} {s : List ℕ} {cap at n : ℕ} {t t₁ : List ℕ} {st 
           let i = inner .place in
           let c = inner .count in
           let z = length-drop (st .at) s in
-          let u = uses in
-          (omega (arith, u .room), omega (arith, u .within), omega (arith, u .room, p₁ .0, g .room .spent), inner .wrote .long ∙ p₁ .1 .long)
+          let u = uses in (
+            omega (arith, u .room),
+            omega (arith, u .within),
+            omega (arith, u .room, p₁ .0, g .room .spent),
+            inner .wrote .long
+                ∙ p₁ .1 .long,
+          )
 
-      pub placeable-next : {m₃ : ℕ} {t₄ : List ℕ} {st′ : Reading} → (m₃ ≡ m₂ + 1) × Step cap m₂ t₃ t₄ (word 113 0 ∷ []) → st′ ≡ afterPlaceable st e m₃
+      pub placeable-next : {m₃ : ℕ} {t₄ : List ℕ} {st′ : Reading} → (m₃ ≡ m₂ + 1) × Step cap m₂ t₃ t₄ (word 113 0 ∷ [])
+          → st′ ≡ afterPlaceable st e m₃
           → Going sub s cap at n t t₄ st′
       placeable-next {m₃} {t₄} {st′} p₂ es =
           let i = inner .place in
@@ -300,9 +332,19 @@ module _ {sub : Inside} {s : List ℕ} {cap at n : ℕ} {t t₁ : List ℕ} {st 
           rw es
           (turn-again law
           (brace-turn sub s (st .at) (g .state) l b ∙ ap (withPlaceable (g .state)) (inner .is)
-          ∙ with-placeable (g .state) (inner .value) (inner .ms) (inner .k) ∙ ap (again (placedState (g .state) (inner .ms) (inner .k)) []) k)
-          (holds-placeable (g .holds) (inner .ms) (known-low (inner .ms) (braced-known formed (drop (st .at) s) (inner .is))) w (inner .k) i (omega (arith, p₁ .0, p₂ .0)))
-          (record { inside = o .1; spent = omega (arith, o, p₂ .0); short = r .short; holds = r .holds; layout = rw (p₂ .1 .long ∙ o .3) (r .layout) }) (omega (arith, o .0)))
+          ∙ with-placeable (g .state) (inner .value) (inner .ms) (inner .k)
+          ∙ ap (again (placedState (g .state) (inner .ms) (inner .k)) []) k)
+          (holds-placeable (g .holds) (inner .ms)
+          (known-low (inner .ms) (braced-known formed (drop (st .at) s) (inner .is))) w (inner .k) i
+          (omega (arith, p₁ .0, p₂ .0)))
+          (record {
+            inside = o .1;
+            spent = omega (arith, o, p₂ .0);
+            short = r .short;
+            holds = r .holds;
+            layout = rw (p₂ .1 .long ∙ o .3) (r .layout);
+          })
+          (omega (arith, o .0)))
 
     -- it failed
     pub placeable-failed : ((a m : ℕ) → r ≡ reads.Ok a m → ⊥) → Did reading cap at n t t₃ r (getPattern sub (drop at s))
@@ -324,7 +366,11 @@ module _ {sub : Inside} {s : List ℕ} {cap at n : ℕ} {t t₁ : List ℕ} {st 
         go (bad v k) e q =
             let p = g .holds .place in
             rw (is-done e (placeable-bad (g .state) v k) ∙ failed (drop at s) (g .state .used) v k)
-            (record { answers = q .answers ∙ ap₂ reads.Bad (ap (λ (i : ℕ). upFault i v) p ∙ sym (fault-up at (g .state .used) v)) (omega arith); wrote = rw words-none (wrote q) })
+            (record {
+              answers = q .answers
+                  ∙ ap₂ reads.Bad (ap (λ (i : ℕ). upFault i v) p ∙ sym (fault-up at (g .state .used) v)) (omega arith);
+              wrote = rw words-none (wrote q);
+            })
         go (deep k) e q =
             let p = g .holds .place in
             rw (is-done e (placeable-deep (g .state) k) ∙ too-deep (drop at s) (g .state .used) k)

@@ -28,17 +28,21 @@ passed j h e l = record { end = omega arith; within = l }
 pub went-ok : {A : Type 0} {s : List ℕ} {at r k : ℕ} {o : Out A} {a : A} → o ≡ ok a [] k → r ≡ at + k → r ≤ length s → Went s at o a r
 went-ok {k = k} {a = a} h e l = record { answers = h ∙ ap (ok a []) (omega arith); onward = omega arith; within = l }
 
-pub found-ok : {A : Type 0} {s : List ℕ} {at r k : ℕ} {o : Out A} {a : A} {ms : List Mark} → o ≡ ok a ms k → r ≡ at + k → r ≤ length s → Found s at o (At r)
+pub found-ok : {A : Type 0} {s : List ℕ} {at r k : ℕ} {o : Out A} {a : A} {ms : List Mark} → o ≡ ok a ms k → r ≡ at + k
+    → r ≤ length s → Found s at o (At r)
 found-ok h e l = record { answers = rw h (ap At e); shallow = rw h tt; within = l }
 
-pub found-fault : {A : Type 0} {s : List ℕ} {at j k : ℕ} {o : Out A} {e f : ParserError} → o ≡ bad f k → j ≡ at + k → j ≤ length s → e ≡ upFault at f → Found s at o (Bad e j)
+pub found-fault : {A : Type 0} {s : List ℕ} {at j k : ℕ} {o : Out A} {e f : ParserError} → o ≡ bad f k → j ≡ at + k
+    → j ≤ length s → e ≡ upFault at f → Found s at o (Bad e j)
 found-fault q p l h = record { answers = rw q (ap₂ Bad h p); shallow = rw q tt; within = l }
 
 -- an error at the place itself, of a kind without a span
-pub found-fail : {A : Type 0} {s : List ℕ} {at : ℕ} {o : Out A} {e : ParserError} (x : List ℕ) (kind : ErrorKind) → o ≡ fail kind x → at ≤ length s → upKind at kind ≡ kind
+pub found-fail : {A : Type 0} {s : List ℕ} {at : ℕ} {o : Out A} {e : ParserError} (x : List ℕ) (kind : ErrorKind)
+    → o ≡ fail kind x → at ≤ length s → upKind at kind ≡ kind
     → e ≡ faultAt kind at → Found s at o (Bad e at)
 unfolding fail
-found-fail {at = at} x kind q l u h = record { answers = rw (q, u, add-zero) (ap (λ (f : ParserError). Bad f at) h); shallow = rw q tt; within = l }
+found-fail {at = at} x kind q l u h =
+    record { answers = rw (q, u, add-zero) (ap (λ (f : ParserError). Bad f at) h); shallow = rw q tt; within = l }
 
 -- what the definitions answer, by the first byte
 pub take-yes : (b : ℕ) (x : List ℕ) → startsWith b x ≡ true → takeByteIf b x ≡ ok (startsWith b x) [] 1
@@ -65,7 +69,8 @@ pub digits-none : (x : List ℕ) → run isDigit x ≡ 0 → skipDigits x ≡ fa
 unfolding skipDigits
 digits-none x h = rw (eq-eqb (run isDigit x) 0 h, skipDigits)
 
-pub identifier-some : (kind : ℕ) (x : List ℕ) → starts isLetter x ≡ true → getIdentifier kind x ≡ ok (run isNamePart x) (textNode kind 0 (run isNamePart x)) (run isNamePart x)
+pub identifier-some : (kind : ℕ) (x : List ℕ) → starts isLetter x ≡ true
+    → getIdentifier kind x ≡ ok (run isNamePart x) (textNode kind 0 (run isNamePart x)) (run isNamePart x)
 unfolding getIdentifier
 identifier-some kind x h = rw (h, getIdentifier)
 
@@ -87,21 +92,37 @@ shallow-after k ms (ok a ns j) h = tt
 shallow-after k ms (bad f j) h = tt
 shallow-after k ms (deep j) h = h
 
-pub found-after : {A : Type 0} {s : List ℕ} {at i : ℕ} {r : Place} (k : ℕ) (ms : List Mark) (o : Out A) → i ≡ at + k → Found s i o r → Found s at (after ms k o) r
-found-after {at = at} {i} k ms o e f = record { answers = f .answers ∙ rw e (sym (placed-after at k ms o)); shallow = shallow-after k ms o (f .shallow); within = f .within }
+pub found-after : {A : Type 0} {s : List ℕ} {at i : ℕ} {r : Place} (k : ℕ) (ms : List Mark) (o : Out A) → i ≡ at + k
+    → Found s i o r → Found s at (after ms k o) r
+found-after {at = at} {i} k ms o e f =
+    record {
+      answers = f .answers ∙ rw e (sym (placed-after at k ms o));
+      shallow = shallow-after k ms o (f .shallow);
+      within = f .within;
+    }
 
-pub found-next : {A B : Type 0} {s : List ℕ} {at i k : ℕ} {r : Place} {o : Out A} {a : A} {ms : List Mark} (q : A → Reader B) → o ≡ ok a ms k → i ≡ at + k → Found s i (q a (drop i s)) r
+pub found-next : {A B : Type 0} {s : List ℕ} {at i k : ℕ} {r : Place} {o : Out A} {a : A} {ms : List Mark}
+    (q : A → Reader B)
+    → o ≡ ok a ms k → i ≡ at + k → Found s i (q a (drop i s)) r
     → Found s at (next (drop at s) q o) r
 unfolding next
 found-next {s = s} {at} {i} {k} {a = a} {ms} q h e f = rw (h, drop-drop) (found-after k ms (q a (drop (at + k) s)) refl (rw e at f))
 
-pub went-next : {A B : Type 0} {s : List ℕ} {at i : ℕ} {r : Place} {o : Out A} {a : A} (q : A → Reader B) → Went s at o a i → Found s i (q a (drop i s)) r → Found s at (next (drop at s) q o) r
+pub went-next : {A B : Type 0} {s : List ℕ} {at i : ℕ} {r : Place} {o : Out A} {a : A} (q : A → Reader B)
+    → Went s at o a i → Found s i (q a (drop i s)) r → Found s at (next (drop at s) q o) r
 went-next q w f = found-next q (w .answers) (omega (arith, w .onward)) f
 
 -- the first one failed
-pub found-stop : {A B : Type 0} {s : List ℕ} {at j : ℕ} {r : Place} {e : ParserError} {o : Out A} (x : List ℕ) (q : A → Reader B) → Found s at o r → r ≡ Bad e j → Found s at (next x q o) r
+pub found-stop : {A B : Type 0} {s : List ℕ} {at j : ℕ} {r : Place} {e : ParserError} {o : Out A} (x : List ℕ)
+    (q : A → Reader B)
+    → Found s at o r → r ≡ Bad e j → Found s at (next x q o) r
 unfolding next
-found-stop {A} {s = s} {at} {r = r} {o = o} x q f h = record { answers = go o (f .answers) (f .shallow) .0; shallow = go o (f .answers) (f .shallow) .1; within = f .within }
+found-stop {A} {s = s} {at} {r = r} {o = o} x q f h =
+    record {
+      answers = go o (f .answers) (f .shallow) .0;
+      shallow = go o (f .answers) (f .shallow) .1;
+      within = f .within;
+    }
   where
     go : (o : Out A) → r ≡ placed at o → Shallow o → (r ≡ placed at (next x q o)) × Shallow (next x q o)
     go (ok a ms k) p u = let z : _≡_ {A = ℕ} 0 1 = cc in absurd (omega arith)
@@ -132,7 +153,8 @@ pub record Failed {A : Type 0} (at : ℕ) (e : ParserError) (j : ℕ) (o : Out A
   pub error : e ≡ upFault at f
   pub place : j ≡ at + k
 
-pub found-bad : {A : Type 0} {s : List ℕ} {at j : ℕ} {r : Place} {e : ParserError} {o : Out A} → Found s at o r → r ≡ Bad e j → Failed at e j o
+pub found-bad : {A : Type 0} {s : List ℕ} {at j : ℕ} {r : Place} {e : ParserError} {o : Out A} → Found s at o r
+    → r ≡ Bad e j → Failed at e j o
 found-bad {A} {at = at} {j} {r} {e} {o} f h = go o (f .answers) (f .shallow)
   where
     go : (o : Out A) → r ≡ placed at o → Shallow o → Failed at e j o

@@ -20,7 +20,8 @@ unfolding run starts
 run-none p [] h = refl
 run-none p (b ∷ x) h = rw (h, run)
 
-pub run-more : (p : ℕ → Bool) (s : List ℕ) (i : ℕ) → i < length s → starts p (drop i s) ≡ true → run p (drop i s) ≡ suc (run p (drop (i + 1) s))
+pub run-more : (p : ℕ → Bool) (s : List ℕ) (i : ℕ) → i < length s → starts p (drop i s) ≡ true
+    → run p (drop i s) ≡ suc (run p (drop (i + 1) s))
 unfolding run
 run-more p s i l h =
     let t : p (getD s i 0) ≡ true = by (starts-at p s i l) h in
@@ -45,7 +46,8 @@ module _ {p : ℕ → Bool} {s : List ℕ} {at i : ℕ} {r : Bool} where
   going-end g t h = let e = run-none p (drop i s) (by (t .is) h) in record { end = omega arith; within = g .inside }
 
 -- an identifier's first byte is one of its bytes
-pub run-name : (s : List ℕ) (i : ℕ) → i < length s → starts isLetter (drop i s) ≡ true → run isNamePart (drop i s) ≡ suc (run isNamePart (drop (i + 1) s))
+pub run-name : (s : List ℕ) (i : ℕ) → i < length s → starts isLetter (drop i s) ≡ true
+    → run isNamePart (drop i s) ≡ suc (run isNamePart (drop (i + 1) s))
 run-name s i l h = run-more isNamePart s i l (starts-at isNamePart s i l ∙ named)
   where
     named : isNamePart (getD s i 0) ≡ true

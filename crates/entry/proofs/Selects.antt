@@ -30,10 +30,12 @@ use Rattle.entry.specs.declared.marks.Read.{Read}
 use Rattle.entry.specs.declared.marks.Read.the-variants.{Ok, Bad, Deep}
 use Rattle.entry.proofs.Steps.{step-none, step-cut, step-then}
 use Rattle.entry.proofs.Insert.{inserted-step}
-use Rattle.entry.proofs.Dids.{Found, Lost, did-bind, did-lost, stop-bind, words-none, words-up, words-append, words-length, node-words, fault-up}
+use Rattle.entry.proofs.Dids.{Found, Lost, did-bind, did-lost, stop-bind, words-none, words-up, words-append}
+use Rattle.entry.proofs.Dids.{words-length, node-words, fault-up}
 
 -- what fails is no select
-pub select-stop : {cap at n : ℕ} {t t₁ : List ℕ} {r : Read} (o : Out Bool) → Did reading cap at n t t₁ r o → ((a m : ℕ) → r ≡ Ok a m → ⊥) → Did reading cap at n t t₁ r (inSelect o)
+pub select-stop : {cap at n : ℕ} {t t₁ : List ℕ} {r : Read} (o : Out Bool) → Did reading cap at n t t₁ r o
+    → ((a m : ℕ) → r ≡ Ok a m → ⊥) → Did reading cap at n t t₁ r (inSelect o)
 unfolding inSelect
 select-stop (ok v ms k) d h = absurd (h _ _ (d .answers))
 select-stop (bad f k) d h = record { answers = d .answers; wrote = d .wrote }
@@ -44,25 +46,34 @@ told-lost (ok v ms k) e = let z : _≡_ {A = ℕ} 0 1 = cc in absurd (omega arit
 told-lost (bad g k) e = record { fault = g; k = k; is = refl; moved = cc; place = cc }
 told-lost (deep k) e = let z : _≡_ {A = ℕ} 0 1 = cc in absurd (omega arith)
 
-module _ {cap at n a m : ℕ} {t t₁ : List ℕ} (sub : Inside) (s : List ℕ) (f : Found cap at n a m t t₁ (getInlineExpression sub false (drop at s))) where
+module _ {cap at n a m : ℕ} {t t₁ : List ℕ} (sub : Inside) (s : List ℕ)
+    (f : Found cap at n a m t t₁ (getInlineExpression sub false (drop at s))) where
   opened : inlineOrSelect sub (drop at s) ≡ after (f .ms) (f .k) (followedBy sub (f .value) (drop a s))
   unfolding inlineOrSelect _>>=_ next followedBy
   opened = let p : at + f .k ≡ a = sym (f .place) in rw (f .is, drop-drop, p)
 
-  pub did-alone : {e : ℕ} → a ≤ e → followedBy sub (f .value) (drop a s) ≡ ok false [] (e - a) → Did reading cap at n t t₁ (Ok e m) (getExpression sub (drop at s))
+  pub did-alone : {e : ℕ} → a ≤ e → followedBy sub (f .value) (drop a s) ≡ ok false [] (e - a)
+      → Did reading cap at n t t₁ (Ok e m) (getExpression sub (drop at s))
   unfolding getExpression inSelect after
   did-alone {e} l h =
       let z : inlineOrSelect sub (drop at s) ≡ ok false (f .ms) (f .k + (e - a)) = opened ∙ (rw (h, moveUp-nil, append-nil)) in
       let i : e ≡ at + (f .k + (e - a)) = omega (arith, f .place) in
       rw z (record { answers = ap₂ Ok i (f .count); wrote = f .wrote })
 
-  pub did-refused : {j : ℕ} {e : ParserError} → answer reading a 0 (followedBy sub (f .value) (drop a s)) ≡ Bad e j → Did reading cap at n t t₁ (Bad e j) (getExpression sub (drop at s))
+  pub did-refused : {j : ℕ} {e : ParserError} → answer reading a 0 (followedBy sub (f .value) (drop a s)) ≡ Bad e j
+      → Did reading cap at n t t₁ (Bad e j) (getExpression sub (drop at s))
   unfolding getExpression inlineOrSelect followedBy
   did-refused h =
-      (select-stop _ (did-bind s (getInlineExpression sub false) (followedBy sub) f (did-lost reading (told-lost _ h) (step-none cap m t₁))) (λ b c q. let z : _≡_ {A = ℕ} 0 1 = cc in omega arith))
+      (select-stop _
+      (did-bind s (getInlineExpression sub false) (followedBy sub) f
+      (did-lost reading (told-lost _ h) (step-none cap m t₁)))
+      (λ b c q. let z : _≡_ {A = ℕ} 0 1 = cc in omega arith))
 
-  pub did-select : {e : ℕ} {t₂ t₃ t₄ : List ℕ} {r x : Read} → a ≤ e → followedBy sub (f .value) (drop a s) ≡ after [] (e - a) ((getVariants sub >> pure true) (drop e s)) → Inserted cap n m t₁ t₂ (word 14 0)
-      → Did reading cap e (m + 1) t₂ t₃ r (getVariants sub (drop e s)) → Closed cap 14 t₃ t₄ r x → Did reading cap at n t t₄ x (getExpression sub (drop at s))
+  pub did-select : {e : ℕ} {t₂ t₃ t₄ : List ℕ} {r x : Read} → a ≤ e
+      → followedBy sub (f .value) (drop a s) ≡ after [] (e - a) ((getVariants sub >> pure true) (drop e s))
+      → Inserted cap n m t₁ t₂ (word 14 0)
+      → Did reading cap e (m + 1) t₂ t₃ r (getVariants sub (drop e s)) → Closed cap 14 t₃ t₄ r x
+      → Did reading cap at n t t₄ x (getExpression sub (drop at s))
   unfolding getExpression inSelect _>>_ next after pure node
   did-select {e} {t₂} {t₃} {t₄} {r} {x} l h ins d z = go (getVariants sub (drop e s)) refl d
     where
@@ -74,7 +85,8 @@ module _ {cap at n a m : ℕ} {t t₁ : List ℕ} (sub : Inside) (s : List ℕ) 
 
       whole : inlineOrSelect sub (drop at s) ≡ after (f .ms) k ((getVariants sub >> pure true) (drop e s))
       whole = opened ∙ ap (after (f .ms) (f .k)) h ∙ after-after (f .ms) (f .k) [] (e - a) ((getVariants sub >> pure true) (drop e s))
-          ∙ ap (λ (l : List Mark). after l k ((getVariants sub >> pure true) (drop e s))) (ap (λ (l : List Mark). f .ms ++ l) (moveUp-nil (f .k)) ∙ append-nil (f .ms))
+          ∙ ap (λ (l : List Mark). after l k ((getVariants sub >> pure true) (drop e s)))
+          (ap (λ (l : List Mark). f .ms ++ l) (moveUp-nil (f .k)) ∙ append-nil (f .ms))
 
       first : Step cap n t t₂ (word 14 0 ∷ wordsAt at (f .ms))
       first = inserted-step (f .wrote) (f .count ∙ ap (λ (i : ℕ). n + i) (sym (words-length at (f .ms)))) ins
@@ -82,27 +94,42 @@ module _ {cap at n a m : ℕ} {t t₁ : List ℕ} (sub : Inside) (s : List ℕ) 
       count : m + 1 ≡ n + length (word 14 0 ∷ wordsAt at (f .ms))
       count = omega (arith, f .count, words-length at (f .ms))
 
-      go : (o : Out (Unit {0})) → getVariants sub (drop e s) ≡ o → Did reading cap e (m + 1) t₂ t₃ r o → Did reading cap at n t t₄ x (getExpression sub (drop at s))
+      go : (o : Out (Unit {0})) → getVariants sub (drop e s) ≡ o → Did reading cap e (m + 1) t₂ t₃ r o
+          → Did reading cap at n t t₄ x (getExpression sub (drop at s))
       go (ok u vs j) p g =
-          let w : inlineOrSelect sub (drop at s) ≡ ok true (f .ms ++ moveUp k vs) (k + j) = whole ∙ (rw (p, moveUp-nil, append-nil, add-zero)) in
+          let w : inlineOrSelect sub (drop at s) ≡ ok true (f .ms ++ moveUp k vs) (k + j) = whole
+          ∙ (rw (p, moveUp-nil, append-nil, add-zero)) in
           let y : ClosedAs cap 14 t₃ t₄ (Ok (e + j) (m + 1 + length vs)) x = rw (g .answers) at (z .holds) in
           let b : m + 1 + length vs ≡ m + 1 + length (wordsAt e vs) = ap (λ (i : ℕ). m + 1 + i) (sym (words-length e vs)) in
           let v = step-then first count (step-then (g .wrote) b (y .1)) in
-          let eq : wordsAt at (node 14 (f .ms ++ moveUp k vs)) ≡ (word 14 0 ∷ wordsAt at (f .ms)) ++ (wordsAt e vs ++ (word 114 0 ∷ [])) = node-words at 14 (f .ms ++ moveUp k vs) ∙ (rw (words-append, words-up, ← place, append-assoc)) in
-          let len : length (node 14 (f .ms ++ moveUp k vs)) ≡ length (f .ms) + length vs + 2 = ap suc (length-append (f .ms ++ moveUp k vs) (plain 114 ∷ [])) ∙ (rw (length-append, moveUp-length) (omega arith)) in
+          let eq : wordsAt at (node 14 (f .ms ++ moveUp k vs)) ≡ (word 14 0 ∷ wordsAt at (f .ms))
+          ++ (wordsAt e vs ++ (word 114 0 ∷ [])) = node-words at 14 (f .ms ++ moveUp k vs)
+          ∙ (rw (words-append, words-up, ← place, append-assoc)) in
+          let len : length (node 14 (f .ms ++ moveUp k vs)) ≡ length (f .ms) + length vs + 2 =
+          ap suc (length-append (f .ms ++ moveUp k vs) (plain 114 ∷ []))
+          ∙ (rw (length-append, moveUp-length) (omega arith)) in
           rw w (record { answers = y .0 ∙ ap₂ Ok (omega (arith, place)) (omega (arith, len, f .count)); wrote = rw eq v })
       go (bad b j) p g =
           let w : inlineOrSelect sub (drop at s) ≡ bad (upFault k b) (k + j) = whole ∙ (rw p) in
           let y : ClosedAs cap 14 t₃ t₄ (Bad (upFault e b) (e + j)) x = rw (g .answers) at (z .holds) in
           let q : upFault e b ≡ upFault at (upFault k b) = ap (λ (i : ℕ). upFault i b) place ∙ sym (fault-up at k b) in
-          rw w (record { answers = y .0 ∙ ap₂ Bad q (omega (arith, place)); wrote = rw (y .1, words-none) (step-cut (step-then first count (g .wrote))) })
+          rw w
+          (record {
+            answers = y .0 ∙ ap₂ Bad q (omega (arith, place));
+            wrote = rw (y .1, words-none) (step-cut (step-then first count (g .wrote)));
+          })
       go (deep j) p g =
           let w : inlineOrSelect sub (drop at s) ≡ deep (k + j) = whole ∙ (rw p) in
           let y : ClosedAs cap 14 t₃ t₄ (Deep (e + j)) x = rw (g .answers) at (z .holds) in
-          rw w (record { answers = y .0 ∙ ap Deep (omega (arith, place)); wrote = rw (y .1, words-none) (step-cut (step-then first count (g .wrote))) })
+          rw w
+          (record {
+            answers = y .0 ∙ ap Deep (omega (arith, place));
+            wrote = rw (y .1, words-none) (step-cut (step-then first count (g .wrote)));
+          })
 
 -- ---- results
-pub not-expression : (r : ReadExpression) → OneOf (1 ∷ 2 ∷ []) (tagOf the-type r) → (x : Expression) (a m : ℕ) → r ≡ expressions.Ok x a m → ⊥
+pub not-expression : (r : ReadExpression) → OneOf (1 ∷ 2 ∷ []) (tagOf the-type r) → (x : Expression) (a m : ℕ)
+    → r ≡ expressions.Ok x a m → ⊥
 not-expression r h x a m e = ⊎-elim (λ p. zero-one (sym (ap (tagOf the-type) e) ∙ p)) (λ p. zero-two (sym (ap (tagOf the-type) e) ∙ p)) h
   where
     zero-one : _≡_ {A = ℕ} 0 1 → ⊥
@@ -111,12 +138,15 @@ not-expression r h x a m e = ⊎-elim (λ p. zero-one (sym (ap (tagOf the-type) 
     zero-two : _≡_ {A = ℕ} 0 2 → ⊥
     zero-two p = omega arith
 
-stopped-plain : (r : ReadExpression) → ((x : Expression) (a m : ℕ) → r ≡ expressions.Ok x a m → ⊥) → ((a m : ℕ) → plainly r ≡ Ok a m → ⊥) × (isTermAttribute r ≡ false)
+stopped-plain : (r : ReadExpression) → ((x : Expression) (a m : ℕ) → r ≡ expressions.Ok x a m → ⊥)
+    → ((a m : ℕ) → plainly r ≡ Ok a m → ⊥) × (isTermAttribute r ≡ false)
 stopped-plain (expressions.Ok x a m) h = absurd (h x a m refl)
 stopped-plain (expressions.Bad f k) h = (λ a m e. let z : _≡_ {A = ℕ} 0 1 = cc in omega arith, refl)
 stopped-plain (expressions.Deep k) h = (λ a m e. let z : _≡_ {A = ℕ} 0 1 = cc in omega arith, refl)
 
-pub expression-stop : {b cap at n : ℕ} {t t₁ : List ℕ} {r : ReadExpression} (sub : Inside) (y : List ℕ) → Did (expressing b) cap at n t t₁ r (getInlineExpression sub false y) → ((x : Expression) (a m : ℕ) → r ≡ expressions.Ok x a m → ⊥)
+pub expression-stop : {b cap at n : ℕ} {t t₁ : List ℕ} {r : ReadExpression} (sub : Inside) (y : List ℕ)
+    → Did (expressing b) cap at n t t₁ r (getInlineExpression sub false y)
+    → ((x : Expression) (a m : ℕ) → r ≡ expressions.Ok x a m → ⊥)
     → Did reading cap at n t t₁ (plainly r) (getExpression sub y) × (isTermAttribute r ≡ false)
 unfolding getExpression inlineOrSelect
 expression-stop {r = r} sub y d h =

@@ -42,7 +42,8 @@ pub record Indenting (s : List ℕ) (at most n : ℕ) : Type 0 where
 pub indent-none : (s : List ℕ) (at most : ℕ) → Indenting s at most 0
 indent-none s at most = record { order = omega arith; short = omega arith; sum = rw (add-zero, zero-add) }
 
-pub indent-more : (s : List ℕ) (at most n : ℕ) → Indenting s at most n → n < most → at + n < length s → getD s (at + n) 0 ≡ 32 → Indenting s at most (n + 1)
+pub indent-more : (s : List ℕ) (at most n : ℕ) → Indenting s at most n → n < most → at + n < length s
+    → getD s (at + n) 0 ≡ 32 → Indenting s at most (n + 1)
 indent-more s at most n g h l e =
     let q = spaces-yes s (at + n) l e in
     let w = g .sum in
@@ -57,7 +58,8 @@ indent-at s at most n g e =
 pub indent-end : (s : List ℕ) (at most n : ℕ) → Indenting s at most n → length s ≤ at + n → n ≡ min (spaces (drop at s)) most
 indent-end s at most n g h = indent-at s at most n g (spaces-end s (at + n) h)
 
-pub indent-other : (s : List ℕ) (at most n : ℕ) → Indenting s at most n → at + n < length s → (getD s (at + n) 0 ≡ 32 → ⊥) → n ≡ min (spaces (drop at s)) most
+pub indent-other : (s : List ℕ) (at most n : ℕ) → Indenting s at most n → at + n < length s
+    → (getD s (at + n) 0 ≡ 32 → ⊥) → n ≡ min (spaces (drop at s)) most
 indent-other s at most n g h f = indent-at s at most n g (spaces-no s (at + n) h f)
 
 pub indent-full : (s : List ℕ) (at most n : ℕ) → Indenting s at most n → most ≤ n → n ≡ min (spaces (drop at s)) most
@@ -98,7 +100,8 @@ settle-none s cap from to common t h =
 -- the next mark, where w is what it is and v what it becomes
 settle-next : (s : List ℕ) (cap from to common : ℕ) (t t′ t″ : List ℕ) (i : ℕ) → Settling s cap from to common t t′ i → i < to
     → Step cap i t′ t″ (settleWord s common (word (getD t′ (i + 2) 0) (getD t′ (cap + i + 2) 0)) ∷ [])
-    → ((k : ℕ) → i < k → k < to → getD t″ (k + 2) 0 ≡ getD t′ (k + 2) 0) → ((k : ℕ) → i < k → k < to → getD t″ (cap + k + 2) 0 ≡ getD t′ (cap + k + 2) 0)
+    → ((k : ℕ) → i < k → k < to → getD t″ (k + 2) 0 ≡ getD t′ (k + 2) 0)
+    → ((k : ℕ) → i < k → k < to → getD t″ (cap + k + 2) 0 ≡ getD t′ (cap + k + 2) 0)
     → Settling s cap from to common t t″ (i + 1)
 settle-next s cap from to common t t′ t″ i g h d f e =
     record {
@@ -114,7 +117,9 @@ settle-next s cap from to common t t′ t″ i g h d f e =
     count : i ≡ from + length (map (settleWord s common) (drop from (marksIn cap i t)))
     count = simp (length-map, length-drop, marks-length) (omega arith)
 
-    grown : map (settleWord s common) (drop from (marksIn cap (i + 1) t)) ≡ map (settleWord s common) (drop from (marksIn cap i t)) ++ (settleWord s common w ∷ [])
+    grown : map (settleWord s common) (drop from (marksIn cap (i + 1) t)) ≡ map (settleWord s common)
+        (drop from (marksIn cap i t))
+        ++ (settleWord s common w ∷ [])
     grown =
         rw marks-next
         (ap (map (settleWord s common)) (drop-append-le from (marksIn cap i t) (w ∷ []) (rw (marks-length cap i t) (omega arith)))
@@ -131,7 +136,9 @@ other-word s common k p f = rw (settleWord, ne-eqb k 200 f)
 pub settle-other : (s : List ℕ) (cap from to common : ℕ) (t t′ : List ℕ) (i : ℕ) → Settling s cap from to common t t′ i → i < to
     → (getD t′ (i + 2) 0 ≡ 200 → ⊥) → Settling s cap from to common t t′ (i + 1)
 settle-other s cap from to common t t′ i g h f =
-    settle-next s cap from to common t t′ t′ i g h (rw (other-word s common (getD t′ (i + 2) 0) (getD t′ (cap + i + 2) 0) f) (step-same cap i t′)) (λ k a b. refl) (λ k a b. refl)
+    settle-next s cap from to common t t′ t′ i g h
+    (rw (other-word s common (getD t′ (i + 2) 0) (getD t′ (cap + i + 2) 0) f) (step-same cap i t′)) (λ k a b. refl)
+    (λ k a b. refl)
 
 pub settle-line : (s : List ℕ) (cap from to common : ℕ) (t t′ : List ℕ) (i p : ℕ) → to ≤ cap → 2 + 2 * cap ≤ length t
     → Settling s cap from to common t t′ i → i < to → getD t′ (i + 2) 0 ≡ 200
@@ -140,9 +147,12 @@ pub settle-line : (s : List ℕ) (cap from to common : ℕ) (t t′ : List ℕ) 
 settle-line s cap from to common t t′ i p m l g h e q =
     let z = g .done .long in
     settle-next s cap from to common t t′ _ i g h
-    (rw (line-word s common (getD t′ (i + 2) 0) (getD t′ (cap + i + 2) 0) e, ← q) (step-put cap i t′ 12 (getD t′ (cap + i + 2) 0 + p) (omega arith) (omega arith)))
-    (λ k a b. getD-set-other (set t′ (i + 2) 12) (cap + i + 2) (k + 2) _ 0 (λ w. omega arith) ∙ getD-set-other t′ (i + 2) (k + 2) 12 0 (λ w. omega arith))
-    (λ k a b. getD-set-other (set t′ (i + 2) 12) (cap + i + 2) (cap + k + 2) _ 0 (λ w. omega arith) ∙ getD-set-other t′ (i + 2) (cap + k + 2) 12 0 (λ w. omega arith))
+    (rw (line-word s common (getD t′ (i + 2) 0) (getD t′ (cap + i + 2) 0) e, ← q)
+    (step-put cap i t′ 12 (getD t′ (cap + i + 2) 0 + p) (omega arith) (omega arith)))
+    (λ k a b. getD-set-other (set t′ (i + 2) 12) (cap + i + 2) (k + 2) _ 0 (λ w. omega arith)
+    ∙ getD-set-other t′ (i + 2) (k + 2) 12 0 (λ w. omega arith))
+    (λ k a b. getD-set-other (set t′ (i + 2) 12) (cap + i + 2) (cap + k + 2) _ 0 (λ w. omega arith)
+    ∙ getD-set-other t′ (i + 2) (cap + k + 2) 12 0 (λ w. omega arith))
 
 pub settle-end : (s : List ℕ) (cap from to common : ℕ) (t t′ : List ℕ) (i : ℕ) → Settling s cap from to common t t′ i → to ≤ i
     → Step cap from t t′ (map (settleWord s common) (drop from (marksIn cap to t)))
@@ -184,7 +194,11 @@ unfolding trimmedEnd
 trim-more s start end e l g h q =
     record {
       order = omega (arith, g .order);
-      same = g .same ∙ rw (shorter s start e h (omega (arith, g .order)), trimmed-yes (take (e - 1 - start) (drop start s)) (getD s (e - 1) 0) q);
+      same = g .same
+          ∙ rw (
+            shorter s start e h (omega (arith, g .order)),
+            trimmed-yes (take (e - 1 - start) (drop start s)) (getD s (e - 1) 0) q,
+          );
     }
 
 pub trim-stop : (s : List ℕ) (start end e : ℕ) → end ≤ length s → Trimming s start end e → start < e → isTrimmed (getD s (e - 1) 0) ≡ false
@@ -204,10 +218,13 @@ trim-all s start end e g h =
     rw (g .same, q, r, add-zero)
 
 two-marks : (cap n : ℕ) (t : List ℕ)
-    → drop n (marksIn cap (n + 2) t) ≡ word (getD t (n + 2) 0) (getD t (cap + n + 2) 0) ∷ word (getD t (n + 1 + 2) 0) (getD t (cap + (n + 1) + 2) 0) ∷ []
+    → drop n (marksIn cap (n + 2) t) ≡ word (getD t (n + 2) 0) (getD t (cap + n + 2) 0)
+    ∷ word (getD t (n + 1 + 2) 0) (getD t (cap + (n + 1) + 2) 0) ∷ []
 two-marks cap n t =
     let e : n + 2 ≡ n + 1 + 1 = omega arith in
-    ap (λ (k : ℕ). drop n (marksIn cap k t)) e ∙ rw (marks-next cap (n + 1) t, marks-next cap n t, append-assoc) (drop-at (marksIn cap n t) _ n (marks-length cap n t))
+    ap (λ (k : ℕ). drop n (marksIn cap k t)) e
+    ∙ rw (marks-next cap (n + 1) t, marks-next cap n t, append-assoc)
+    (drop-at (marksIn cap n t) _ n (marks-length cap n t))
 
 pub trim-yes : (s : List ℕ) (cap n : ℕ) (t : List ℕ) (e : ℕ) → n + 2 ≤ cap → 2 + 2 * cap ≤ length t → getD t (n + 1 + 2) 0 ≡ 112
     → e ≡ trimmedEnd s (getD t (cap + n + 2) 0) (getD t (cap + (n + 1) + 2) 0)
@@ -215,11 +232,15 @@ pub trim-yes : (s : List ℕ) (cap n : ℕ) (t : List ℕ) (e : ℕ) → n + 2 �
 unfolding trimWords
 trim-yes s cap n t e h l q r =
     rw (two-marks cap n t, trimWords, eq-eqb (getD t (n + 1 + 2) 0) 112 q, ← r)
-    (step-then (step-same cap n t) refl (rw (set-getD t (n + 1 + 2) 0) at (step-put cap (n + 1) t (getD t (n + 1 + 2) 0) e (omega arith) l)))
+    (step-then (step-same cap n t) refl
+    (rw (set-getD t (n + 1 + 2) 0) at (step-put cap (n + 1) t (getD t (n + 1 + 2) 0) e (omega arith) l)))
 
-pub trim-no : (s : List ℕ) (cap n : ℕ) (t : List ℕ) → (getD t (n + 1 + 2) 0 ≡ 112 → ⊥) → Step cap n t t (trimWords s (drop n (marksIn cap (n + 2) t)))
+pub trim-no : (s : List ℕ) (cap n : ℕ) (t : List ℕ) → (getD t (n + 1 + 2) 0 ≡ 112 → ⊥)
+    → Step cap n t t (trimWords s (drop n (marksIn cap (n + 2) t)))
 unfolding trimWords
-trim-no s cap n t f = rw (two-marks cap n t, trimWords, ne-eqb (getD t (n + 1 + 2) 0) 112 f) (step-then (step-same cap n t) refl (step-same cap (n + 1) t))
+trim-no s cap n t f =
+    rw (two-marks cap n t, trimWords, ne-eqb (getD t (n + 1 + 2) 0) 112 f)
+    (step-then (step-same cap n t) refl (step-same cap (n + 1) t))
 
 pub within : (s : List ℕ) (cap n : ℕ) (t : List ℕ) → Within s (drop n (marksIn cap (n + 2) t)) → getD t (n + 1 + 2) 0 ≡ 112
     → (getD t (cap + n + 2) 0 ≤ getD t (cap + (n + 1) + 2) 0) × (getD t (cap + (n + 1) + 2) 0 ≤ length s)

@@ -23,7 +23,8 @@ use Rattle.entry.proofs.Dids.{Found, did-found, did-then, found, found-
 
 -- ---- where results lie
 module _ {A : Type 0} {cap at n : ℕ} {t t₁ : List ℕ} where
-  pub kept : {N c : ℕ} (s : List ℕ) (r : Read) {o : Out A} → Bounded N (λ _. c) (drop at s) o → at ≤ length s → Did reading cap at n t t₁ r o → Kept c s at n r
+  pub kept : {N c : ℕ} (s : List ℕ) (r : Read) {o : Out A} → Bounded N (λ _. c) (drop at s) o → at ≤ length s
+      → Did reading cap at n t t₁ r o → Kept c s at n r
   kept {N} {c} s r {o} b h d = record { lies = rw (d .answers) (go o b) }
     where
       go : (o : Out A) → Bounded N (λ _. c) (drop at s) o → Lies c s at n (answer reading at n o)
@@ -36,7 +37,8 @@ module _ {A : Type 0} {cap at n : ℕ} {t t₁ : List ℕ} where
       go (deep k) (tooDeep j g i) = tt
 
   -- where the code goes on
-  pub kept-at : {N c a m : ℕ} (s : List ℕ) {r : Read} {o : Out A} → Bounded N (λ _. c) (drop at s) o → at ≤ length s → Did reading cap at n t t₁ r o → r ≡ Ok a m
+  pub kept-at : {N c a m : ℕ} (s : List ℕ) {r : Read} {o : Out A} → Bounded N (λ _. c) (drop at s) o → at ≤ length s
+      → Did reading cap at n t t₁ r o → r ≡ Ok a m
       → (at ≤ a) × (a ≤ length s) × (n ≤ m) × (m + c + 8 * at ≤ n + 8 * a)
   kept-at s {r} b h d e = rw e at (kept s r b h d .lies)
 
@@ -45,18 +47,21 @@ endable s (Ok a m) l k = record { inside = k .lies .1; short = l }
 endable s (Bad f j) l k = tt
 endable s (Deep j) l k = tt
 
-pub closable : {c at n cap : ℕ} (s t : List ℕ) (r : Read) → n + 1 ≤ 8 * at + c → 8 * length s ≤ cap → 2 + 2 * cap ≤ length t → Kept c s at n r → Closable t cap r
+pub closable : {c at n cap : ℕ} (s t : List ℕ) (r : Read) → n + 1 ≤ 8 * at + c → 8 * length s ≤ cap
+    → 2 + 2 * cap ≤ length t → Kept c s at n r → Closable t cap r
 closable s t (Ok a m) p l y k = let q = k .lies in record { fits = omega arith; layout = y }
 closable s t (Bad f j) p l y k = tt
 closable s t (Deep j) p l y k = tt
 
 -- ---- a node that is closed
-pub did-closed : {A : Type 0} {cap at n n₁ : ℕ} {t t₁ t₂ t₃ : List ℕ} (kind : ℕ) {r x : Read} (o : Out A) → Step cap n t t₁ (word kind 0 ∷ []) → n₁ ≡ n + 1 → Did reading cap at n₁ t₁ t₂ r o
+pub did-closed : {A : Type 0} {cap at n n₁ : ℕ} {t t₁ t₂ t₃ : List ℕ} (kind : ℕ) {r x : Read} (o : Out A)
+    → Step cap n t t₁ (word kind 0 ∷ []) → n₁ ≡ n + 1 → Did reading cap at n₁ t₁ t₂ r o
     → Closed cap kind t₂ t₃ r x → Did reading cap at n t t₃ x (wrap kind o)
 unfolding wrap
 did-closed {cap = cap} {at} {n} {n₁} {t} {t₁} {t₂} {t₃} kind {r} {x} (ok a ms k) s e d z =
     let y : ClosedAs cap kind t₂ t₃ (Ok (at + k) (n₁ + length ms)) x = rw (d .answers) at (z .holds) in
-    let f : Found cap at n₁ (at + k) (n₁ + length ms) t₁ t₂ (ok a ms k) = record { value = a; ms = ms; k = k; is = refl; place = refl; count = refl; wrote = d .wrote } in
+    let f : Found cap at n₁ (at + k) (n₁ + length ms) t₁ t₂ (ok a ms k) =
+    record { value = a; ms = ms; k = k; is = refl; place = refl; count = refl; wrote = d .wrote } in
     rw (y .0) (did-found reading (found-wrap kind s e f (y .1) refl))
 did-closed {cap = cap} {at} {n} {n₁} {t} {t₁} {t₂} {t₃} kind {r} {x} (bad f k) s e d z =
     let y : ClosedAs cap kind t₂ t₃ (Bad (upFault at f) (at + k)) x = rw (d .answers) at (z .holds) in
@@ -71,7 +76,9 @@ closed-long (Bad f k) x z = ap length (z .holds .1)
 closed-long (Deep k) x z = ap length (z .holds .1)
 
 -- ---- what a reader without marks reads after it
-pub did-ended : {A B : Type 0} {cap at n : ℕ} {t t₁ : List ℕ} (r : Read) {x : Read} (s : List ℕ) (p : Reader A) (q : Reader B) → ((y : List ℕ) → marksOf (q y) ≡ []) → Did reading cap at n t t₁ r (p (drop at s)) → x ≡ endedBy q s r
+pub did-ended : {A B : Type 0} {cap at n : ℕ} {t t₁ : List ℕ} (r : Read) {x : Read} (s : List ℕ) (p : Reader A)
+    (q : Reader B)
+    → ((y : List ℕ) → marksOf (q y) ≡ []) → Did reading cap at n t t₁ r (p (drop at s)) → x ≡ endedBy q s r
     → Did reading cap at n t t₁ x ((p >> q) (drop at s))
 unfolding _>>_ next
 did-ended {A} {B} {cap} {at} {n} {t} {t₁} r {x} s p q quiet d e = go (p (drop at s)) refl d
@@ -82,7 +89,8 @@ did-ended {A} {B} {cap} {at} {n} {t} {t₁} r {x} s p q quiet d e = go (p (drop 
     go : (o : Out A) → p (drop at s) ≡ o → Did reading cap at n t t₁ r o → Did reading cap at n t t₁ x ((p >> q) (drop at s))
     go (ok a ms k) h g =
         let y : x ≡ answer reading (at + k) (n + length ms) (q (drop (at + k) s)) = e ∙ ap (endedBy q s) (g .answers) in
-        let f : Found cap at n (at + k) (n + length ms) t t₁ (p (drop at s)) = record { value = a; ms = ms; k = k; is = h; place = refl; count = refl; wrote = g .wrote } in
+        let f : Found cap at n (at + k) (n + length ms) t t₁ (p (drop at s)) =
+        record { value = a; ms = ms; k = k; is = h; place = refl; count = refl; wrote = g .wrote } in
         rw y (did-then s p q f (end (at + k) (n + length ms)))
     go (bad f k) h g =
         let y : x ≡ Bad (upFault at f) (at + k) = e ∙ ap (endedBy q s) (g .answers) in
@@ -92,7 +100,8 @@ did-ended {A} {B} {cap} {at} {n} {t} {t₁} r {x} s p q quiet d e = go (p (drop 
         rw h (record { answers = y; wrote = g .wrote })
 
 -- ---- expressions
-pub plain-did : {b cap at n : ℕ} {t t₁ : List ℕ} {r : ReadExpression} (o : Out Inline) → Did (expressing b) cap at n t t₁ r o → Did reading cap at n t t₁ (plainly r) o
+pub plain-did : {b cap at n : ℕ} {t t₁ : List ℕ} {r : ReadExpression} (o : Out Inline)
+    → Did (expressing b) cap at n t t₁ r o → Did reading cap at n t t₁ (plainly r) o
 plain-did (ok i ms k) d = record { answers = ap plainly (d .answers); wrote = d .wrote }
 plain-did (bad f k) d = record { answers = ap plainly (d .answers); wrote = d .wrote }
 plain-did (deep k) d = record { answers = ap plainly (d .answers); wrote = d .wrote }
@@ -102,7 +111,8 @@ pub record Shaped (b cap at n a n′ : ℕ) (t t₁ : List ℕ) (x : Expression)
   pub found : Found cap at n a n′ t t₁ o
   pub shape : x ≡ shapeAt b (found .value)
 
-pub shaped : {b cap at n a n′ : ℕ} {t t₁ : List ℕ} {x : Expression} {r : ReadExpression} (o : Out Inline) → Did (expressing b) cap at n t t₁ r o → r ≡ expressions.Ok x a n′ → Shaped b cap at n a n′ t t₁ x o
+pub shaped : {b cap at n a n′ : ℕ} {t t₁ : List ℕ} {x : Expression} {r : ReadExpression} (o : Out Inline)
+    → Did (expressing b) cap at n t t₁ r o → r ≡ expressions.Ok x a n′ → Shaped b cap at n a n′ t t₁ x o
 shaped (ok i ms k) d e =
     let q = d .answers in
     record { found = record { value = i; ms = ms; k = k; is = refl; place = cc; count = cc; wrote = d .wrote }; shape = cc }
@@ -110,12 +120,18 @@ shaped (bad f k) d e = let q = d .answers in let z : _≡_ {A = ℕ} 0 1 = cc in
 shaped (deep k) d e = let q = d .answers in let z : _≡_ {A = ℕ} 0 1 = cc in absurd (omega arith)
 
 -- a reader, and then what its expression is
-pub did-shape : {A : Type 0} {b cap at n : ℕ} {t t₁ : List ℕ} {r : Read} (i : Inline) (p : Reader A) (y : List ℕ) → Did reading cap at n t t₁ r (p y) → Did (expressing b) cap at n t t₁ (withShape (shapeAt b i) r) ((p >> pure i) y)
+pub did-shape : {A : Type 0} {b cap at n : ℕ} {t t₁ : List ℕ} {r : Read} (i : Inline) (p : Reader A) (y : List ℕ)
+    → Did reading cap at n t t₁ r (p y) → Did (expressing b) cap at n t t₁ (withShape (shapeAt b i) r) ((p >> pure i) y)
 unfolding _>>_ next after pure
 did-shape {A} {b} {cap} {at} {n} {t} {t₁} {r} i p y d = go (p y) d
   where
     go : (o : Out A) → Did reading cap at n t t₁ r o → Did (expressing b) cap at n t t₁ (withShape (shapeAt b i) r) (next y (λ _. pure i) o)
-    go (ok a ms k) g = record { answers = ap (withShape (shapeAt b i)) (g .answers) ∙ (unfold moveUp in (rw (append-nil, add-zero) refl)); wrote = unfold moveUp in (rw append-nil (g .wrote)) }
+    go (ok a ms k) g =
+        record {
+          answers = ap (withShape (shapeAt b i)) (g .answers)
+              ∙ (unfold moveUp in (rw (append-nil, add-zero) refl));
+          wrote = unfold moveUp in (rw append-nil (g .wrote));
+        }
     go (bad f k) g = record { answers = ap (withShape (shapeAt b i)) (g .answers); wrote = g .wrote }
     go (deep k) g = record { answers = ap (withShape (shapeAt b i)) (g .answers); wrote = g .wrote }
 
@@ -130,38 +146,56 @@ kind-same b (message n a) = refl
 kind-same b (term a) = refl
 
 -- an inline expression whose node is closed
-pub did-inline : {b cap at n n₁ : ℕ} {t t₁ t₂ t₃ : List ℕ} (x : Expression) (r z : Read) (o : Out Inline) → Step cap n t t₁ (word (shapeKind x) 0 ∷ []) → n₁ ≡ n + 1 → Did (expressing b) cap at n₁ t₁ t₂ (withShape x r) o
+pub did-inline : {b cap at n n₁ : ℕ} {t t₁ t₂ t₃ : List ℕ} (x : Expression) (r z : Read) (o : Out Inline)
+    → Step cap n t t₁ (word (shapeKind x) 0 ∷ []) → n₁ ≡ n + 1 → Did (expressing b) cap at n₁ t₁ t₂ (withShape x r) o
     → Closed cap (shapeKind x) t₂ t₃ r z → Did (expressing b) cap at n t t₃ (withShape x z) (asInline o)
 unfolding asInline found-wrap wrap
 did-inline {b} {cap} {at} {n} {n₁} {t} {t₁} {t₂} {t₃} x r z (ok i ms k) s e d c = go r (d .answers) (c .holds)
   where
-    go : (r : Read) → withShape x r ≡ expressions.Ok (shapeAt b i) (at + k) (n₁ + length ms) → ClosedAs cap (shapeKind x) t₂ t₃ r z → Did (expressing b) cap at n t t₃ (withShape x z) (ok i (node (inlineKind i) ms) k)
+    go : (r : Read) → withShape x r ≡ expressions.Ok (shapeAt b i) (at + k) (n₁ + length ms)
+        → ClosedAs cap (shapeKind x) t₂ t₃ r z
+        → Did (expressing b) cap at n t t₃ (withShape x z) (ok i (node (inlineKind i) ms) k)
     go (Ok a m) q y =
         let ea : a ≡ at + k = cc in
         let em : m ≡ n₁ + length ms = cc in
         let ex : x ≡ shapeAt b i = cc in
-        let f : Found cap at n₁ a m t₁ t₂ (ok i ms k) = record { value = i; ms = ms; k = k; is = refl; place = ea; count = em; wrote = d .wrote } in
+        let f : Found cap at n₁ a m t₁ t₂ (ok i ms k) =
+        record { value = i; ms = ms; k = k; is = refl; place = ea; count = em; wrote = d .wrote } in
         let w = found-wrap (shapeKind x) s e f (y .1) refl in
-        let v : Did (expressing b) cap at n t t₃ (expressions.Ok (shapeAt b i) a (m + 1)) (wrap (shapeKind x) (ok i ms k)) = did-found (expressing b) w in
+        let v : Did (expressing b) cap at n t t₃ (expressions.Ok (shapeAt b i) a (m + 1))
+        (wrap (shapeKind x) (ok i ms k)) =
+        did-found (expressing b) w in
         let u : shapeKind x ≡ inlineKind i = ap shapeKind ex ∙ kind-same b i in
         rw (y .0, ex, ← u) v
     go (Bad f j) q y = let z : _≡_ {A = ℕ} 0 1 = cc in absurd (omega arith)
     go (Deep j) q y = let z : _≡_ {A = ℕ} 0 1 = cc in absurd (omega arith)
 did-inline {b} {cap} {at} {n} {n₁} {t} {t₁} {t₂} {t₃} x r z (bad f k) s e d c = go r (d .answers) (c .holds)
   where
-    go : (r : Read) → withShape x r ≡ expressions.Bad (upFault at f) (at + k) → ClosedAs cap (shapeKind x) t₂ t₃ r z → Did (expressing b) cap at n t t₃ (withShape x z) (bad f k)
+    go : (r : Read) → withShape x r ≡ expressions.Bad (upFault at f) (at + k) → ClosedAs cap (shapeKind x) t₂ t₃ r z
+        → Did (expressing b) cap at n t t₃ (withShape x z) (bad f k)
     go (Ok a m) q y = let z : _≡_ {A = ℕ} 0 1 = cc in absurd (omega arith)
-    go (Bad g j) q y = record { answers = ap (withShape x) (y .0) ∙ q; wrote = rw (y .1, words-none) (step-failed s e (step-cut (d .wrote))) }
+    go (Bad g j) q y =
+        record {
+          answers = ap (withShape x) (y .0) ∙ q;
+          wrote = rw (y .1, words-none) (step-failed s e (step-cut (d .wrote)));
+        }
     go (Deep j) q y = let z : _≡_ {A = ℕ} 0 1 = cc in absurd (omega arith)
 did-inline {b} {cap} {at} {n} {n₁} {t} {t₁} {t₂} {t₃} x r z (deep k) s e d c = go r (d .answers) (c .holds)
   where
-    go : (r : Read) → withShape x r ≡ expressions.Deep (at + k) → ClosedAs cap (shapeKind x) t₂ t₃ r z → Did (expressing b) cap at n t t₃ (withShape x z) (deep k)
+    go : (r : Read) → withShape x r ≡ expressions.Deep (at + k) → ClosedAs cap (shapeKind x) t₂ t₃ r z
+        → Did (expressing b) cap at n t t₃ (withShape x z) (deep k)
     go (Ok a m) q y = let z : _≡_ {A = ℕ} 0 1 = cc in absurd (omega arith)
     go (Bad g j) q y = let z : _≡_ {A = ℕ} 0 1 = cc in absurd (omega arith)
-    go (Deep j) q y = record { answers = ap (withShape x) (y .0) ∙ q; wrote = rw (y .1, words-none) (step-failed s e (step-cut (d .wrote))) }
+    go (Deep j) q y =
+        record {
+          answers = ap (withShape x) (y .0) ∙ q;
+          wrote = rw (y .1, words-none) (step-failed s e (step-cut (d .wrote)));
+        }
 
 -- what is read after a result lies where it lies
-pub ended-kept : {A : Type 0} {N c at n : ℕ} (s : List ℕ) (q : Reader A) → Bounds N (λ _. 0) q → ((y : List ℕ) → marksOf (q y) ≡ []) → (r : Read) {x : Read} → x ≡ endedBy q s r → Kept c s at n r → Kept c s at n x
+pub ended-kept : {A : Type 0} {N c at n : ℕ} (s : List ℕ) (q : Reader A) → Bounds N (λ _. 0) q
+    → ((y : List ℕ) → marksOf (q y) ≡ []) → (r : Read) {x : Read} → x ≡ endedBy q s r → Kept c s at n r
+    → Kept c s at n x
 ended-kept {A} {N} {c} {at} {n} s q b h (Ok a m) e k = record { lies = rw e (go (q (drop a s)) (b .on (drop a s)) (h (drop a s))) }
   where
     go : (o : Out A) → Bounded N (λ _. 0) (drop a s) o → marksOf o ≡ [] → Lies c s at n (answer reading a m o)

@@ -33,7 +33,8 @@ unfolding all run
 all-take p zero x l = sym (leb·zero (run p x))
 all-take p (suc n) [] l = absurd (not-suc-le-zero l)
 all-take p (suc n) (b ∷ x) l =
-    byCase (p b) (λ e. rw (e, run) (all-take p n x (le-of-suc-le-suc l) ∙ sym (leb·suc-suc n (run p x)))) (λ e. rw (e, run) (sym (leb·suc-zero n)))
+    byCase (p b) (λ e. rw (e, run) (all-take p n x (le-of-suc-le-suc l) ∙ sym (leb·suc-suc n (run p x))))
+    (λ e. rw (e, run) (sym (leb·suc-zero n)))
 
 ends-cr : (n : ℕ) (x : List ℕ) → n < length x → endsInCr (take (suc n) x) ≡ eqb (getD x n 0) Byte.carriageReturn
 unfolding endsInCr
@@ -78,7 +79,11 @@ module _ {x : List ℕ} {sp n : ℕ} (w : Text x sp n) where
 
   pub slice-eof : n ≡ length x → Sliced x (slice n (leb n sp) Eof)
   unfolding getTextSlice sliceBy
-  slice-eof e = let h : length x ≤ n = omega arith in record { answers = rw (← w .ends, drop-of-length-le x h, long, blank-take n (w .inside), add-zero); within = omega arith }
+  slice-eof e = let h : length x ≤ n = omega arith in
+      record {
+        answers = rw (← w .ends, drop-of-length-le x h, long, blank-take n (w .inside), add-zero);
+        within = omega arith;
+      }
 
   module _ (h : n < length x) where
     text-by : getTextSlice x ≡ sliceBy (take n x) (getD x n 0 ∷ drop (suc n) x)
@@ -93,7 +98,15 @@ module _ {x : List ℕ} {sp n : ℕ} (w : Text x sp n) where
       pub slice-opening : getD x n 0 ≡ Byte.openBrace → Sliced x (slice n (leb n sp) PlaceableStart)
       unfolding sliceBy
       slice-opening e = record {
-        answers = text-by ∙ rw (ne-eqb (getD x n 0) Byte.closeBrace f, eq-eqb (getD x n 0) Byte.openBrace e, sliceBy, long, blank-take n (w .inside), add-zero);
+        answers = text-by
+            ∙ rw (
+              ne-eqb (getD x n 0) Byte.closeBrace f,
+              eq-eqb (getD x n 0) Byte.openBrace e,
+              sliceBy,
+              long,
+              blank-take n (w .inside),
+              add-zero,
+            );
         within = omega arith;
       }
 
@@ -106,7 +119,11 @@ module _ {x : List ℕ} {sp n : ℕ} (w : Text x sp n) where
         unfolding lineSlice
         slice-crlf e =
             let z : n - 1 + 1 ≡ n = omega (arith, cr-some n x e) in
-            record { answers = text-line ∙ rw (e, lineSlice, long, take-take (n - 1) n x (omega arith), blank-take (n - 1) (omega arith), z); within = omega (arith, z) }
+            record {
+              answers = text-line
+                  ∙ rw (e, lineSlice, long, take-take (n - 1) n x (omega arith), blank-take (n - 1) (omega arith), z);
+              within = omega (arith, z);
+            }
 
         pub slice-feed : endsInCr (take n x) ≡ false → Sliced x (slice (n + 1) (leb n sp) LineFeed)
         unfolding lineSlice

@@ -11,7 +11,8 @@ use Rattle.syntax.specs.Byte as Byte
 use Rattle.syntax.specs.Bytes.{startsWith, starts, isLetter, isDigit}
 use Rattle.syntax.specs.Reader.{Out, deep}
 use Rattle.syntax.specs.Pattern.{Inside}
-use Rattle.syntax.specs.Expression.{Inline, asString, stringLiteral, numberLiteral, asInline, reference, termReference, variableReference, nestedPlaceable, noInline, nonLiteral, getInlineExpression}
+use Rattle.syntax.specs.Expression.{Inline, asString, stringLiteral, numberLiteral, asInline, reference, termReference}
+use Rattle.syntax.specs.Expression.{variableReference, nestedPlaceable, noInline, nonLiteral, getInlineExpression}
 use Rattle.laws.specs.Bytes.{byCase}
 use Rattle.entry.specs.Shape.{startOf, nonLiteralStart}
 use Rattle.entry.specs.declared.expression.Start.{Start}
@@ -38,12 +39,16 @@ Opens Placeable s = startsWith Byte.openBrace s ≡ true
 Opens Literal s = Unit {0}
 Opens Nothing s = Unit {0}
 
-non-literal-by : (sub : Inside) (b : ℕ) (bs : List ℕ) → (nonLiteral sub (b ∷ bs) b bs ≡ inlineBy sub (b ∷ bs) (nonLiteralStart b (starts isLetter bs))) × Opens (nonLiteralStart b (starts isLetter bs)) (b ∷ bs)
+non-literal-by : (sub : Inside) (b : ℕ) (bs : List ℕ)
+    → (nonLiteral sub (b ∷ bs) b bs ≡ inlineBy sub (b ∷ bs) (nonLiteralStart b (starts isLetter bs)))
+    × Opens (nonLiteralStart b (starts isLetter bs)) (b ∷ bs)
 unfolding nonLiteral nonLiteralStart
 non-literal-by sub b bs = byCase (eqb b Byte.minus)
-    (λ p. byCase (starts isLetter bs) (λ q. rw (p, nonLiteral, nonLiteralStart, q) (refl, (unfold startsWith in p, q))) (λ q. rw (p, nonLiteral, nonLiteralStart, q) (refl, tt)))
+    (λ p. byCase (starts isLetter bs) (λ q. rw (p, nonLiteral, nonLiteralStart, q) (refl, (unfold startsWith in p, q)))
+    (λ q. rw (p, nonLiteral, nonLiteralStart, q) (refl, tt)))
     (λ p. byCase (eqb b Byte.dollar) (λ q. rw (p, nonLiteral, nonLiteralStart, q) (refl, unfold startsWith in q))
-    (λ q. byCase (eqb b Byte.openBrace) (λ r. rw (p, nonLiteral, nonLiteralStart, q, r) (refl, unfold startsWith in r)) (λ r. rw (p, nonLiteral, nonLiteralStart, q, r) (refl, tt))))
+    (λ q. byCase (eqb b Byte.openBrace) (λ r. rw (p, nonLiteral, nonLiteralStart, q, r) (refl, unfold startsWith in r))
+    (λ r. rw (p, nonLiteral, nonLiteralStart, q, r) (refl, tt))))
 
 start-by : (sub : Inside) (l : Bool) (s : List ℕ) → (getInlineExpression sub l s ≡ inlineBy sub s (startOf l s)) × Opens (startOf l s) s
 unfolding getInlineExpression startOf
@@ -54,11 +59,14 @@ start-by sub l (b ∷ bs) = byCase (eqb b Byte.quote) (λ p. rw (p, getInlineExp
     (λ q. byCase (isLetter b) (λ r. rw (p, getInlineExpression, startOf, q, r) (refl, unfold starts in r))
     (λ r. go l p q r)))
   where
-    go : (l : Bool) → eqb b Byte.quote ≡ false → isDigit b ≡ false → isLetter b ≡ false → (getInlineExpression sub l (b ∷ bs) ≡ inlineBy sub (b ∷ bs) (startOf l (b ∷ bs))) × Opens (startOf l (b ∷ bs)) (b ∷ bs)
+    go : (l : Bool) → eqb b Byte.quote ≡ false → isDigit b ≡ false → isLetter b ≡ false
+        → (getInlineExpression sub l (b ∷ bs) ≡ inlineBy sub (b ∷ bs) (startOf l (b ∷ bs)))
+        × Opens (startOf l (b ∷ bs)) (b ∷ bs)
     go true p q r = rw (p, getInlineExpression, startOf, q, r) (refl, tt)
     go false p q r = rw (p, getInlineExpression, startOf, q, r) (non-literal-by sub b bs)
 
-pub starts-as : {x : Start} (sub : Inside) (l : Bool) (s : List ℕ) {y : Start} → y ≡ startOf l s → y ≡ x → getInlineExpression sub l s ≡ inlineBy sub s x
+pub starts-as : {x : Start} (sub : Inside) (l : Bool) (s : List ℕ) {y : Start} → y ≡ startOf l s → y ≡ x
+    → getInlineExpression sub l s ≡ inlineBy sub s x
 starts-as sub l s e h = start-by sub l s .0 ∙ ap (inlineBy sub s) (sym e ∙ h)
 
 pub opens-as : (x : Start) (l : Bool) (s : List ℕ) {y : Start} → y ≡ startOf l s → y ≡ x → Opens x s
@@ -91,6 +99,7 @@ module _ (l : Bool) (s : List ℕ) (i : ℕ) (h : i < length s) where
   unfolding startOf
   start-literal p q r e = rw (drop-cons s i 0 h, startOf, p, q, r, e)
 
-  pub start-other : {x : Start} {v : Bool} → eqb byte Byte.quote ≡ false → isDigit byte ≡ false → isLetter byte ≡ false → l ≡ false → v ≡ starts isLetter (drop (i + 1) s) → x ≡ nonLiteralStart byte v → x ≡ startOf l (drop i s)
+  pub start-other : {x : Start} {v : Bool} → eqb byte Byte.quote ≡ false → isDigit byte ≡ false → isLetter byte ≡ false
+      → l ≡ false → v ≡ starts isLetter (drop (i + 1) s) → x ≡ nonLiteralStart byte v → x ≡ startOf l (drop i s)
   unfolding startOf
   start-other {x} {v} p q r e y z = z ∙ (rw (y, drop-cons s i 0 h, startOf, p, q, r, e, add-one))

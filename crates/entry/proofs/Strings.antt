@@ -11,7 +11,8 @@ use lib.Dec.{eqb, leb}
 use borrow.Author.Tests.{eq-eqb, ne-eqb, eqb-true, eqb-false, le-leb, lt-leb}
 use Rattle.syntax.specs.Byte as Byte
 use Rattle.syntax.specs.Bytes.{startsWith, starts, run, isHex, firstWidth}
-use Rattle.syntax.specs.declared.errors.ErrorKind.the-variants.{UnknownEscapeSequence, InvalidUnicodeEscapeSequence, UnterminatedStringLiteral}
+use Rattle.syntax.specs.declared.errors.ErrorKind.the-variants.{UnknownEscapeSequence, InvalidUnicodeEscapeSequence}
+use Rattle.syntax.specs.declared.errors.ErrorKind.the-variants.{UnterminatedStringLiteral}
 use Rattle.syntax.specs.declared.errors.ParserError.{ParserError}
 use Rattle.syntax.specs.Errors.{faultAt, upFault}
 use Rattle.syntax.specs.Marks.{moveUp}
@@ -59,7 +60,9 @@ width-end s i h = rw (drop-of-length-le s h)
 pub width-le : (x : List ℕ) → firstWidth x ≤ 4
 unfolding firstWidth
 width-le [] = omega arith
-width-le (b ∷ x) = byCase (leb b 127) (λ e. rw (e, firstWidth) (omega arith)) (λ e. byCase (leb b 223) (λ f. rw (e, f, firstWidth) (omega arith))
+width-le (b ∷ x) =
+    byCase (leb b 127) (λ e. rw (e, firstWidth) (omega arith))
+    (λ e. byCase (leb b 223) (λ f. rw (e, f, firstWidth) (omega arith))
     (λ f. byCase (leb b 239) (λ g. rw (e, f, g, firstWidth) (omega arith)) (λ g. rw (e, f, g, firstWidth) (omega arith))))
 
 -- ---- unicode escapes
@@ -70,14 +73,19 @@ module _ (len : ℕ) (x : List ℕ) where
   full h = rw (eq-eqb (min len (run isHex x)) len h, skipUnicodeEscapeSequence)
 
   short : (min len (run isHex x) ≡ len → ⊥)
-      → skipUnicodeEscapeSequence len x ≡ bad (faultAt (InvalidUnicodeEscapeSequence 0 (min len (run isHex x) + firstWidth (drop (min len (run isHex x)) x))) (min len (run isHex x))) (min len (run isHex x))
+      → skipUnicodeEscapeSequence len x ≡ bad
+      (faultAt
+      (InvalidUnicodeEscapeSequence 0 (min len (run isHex x) + firstWidth (drop (min len (run isHex x)) x)))
+      (min len (run isHex x)))
+      (min len (run isHex x))
   unfolding skipUnicodeEscapeSequence
   short h = rw (ne-eqb (min len (run isHex x)) len h, skipUnicodeEscapeSequence)
 
   pub unicode-full : (n : ℕ) → n ≡ min len (run isHex x) → n ≡ len → skipUnicodeEscapeSequence len x ≡ ok tt [] n
   unicode-full n e h = full (sym e ∙ h) ∙ rw e
 
-  pub unicode-short : (n : ℕ) → n ≡ min len (run isHex x) → (n ≡ len → ⊥) → skipUnicodeEscapeSequence len x ≡ bad (faultAt (InvalidUnicodeEscapeSequence 0 (n + firstWidth (drop n x))) n) n
+  pub unicode-short : (n : ℕ) → n ≡ min len (run isHex x) → (n ≡ len → ⊥)
+      → skipUnicodeEscapeSequence len x ≡ bad (faultAt (InvalidUnicodeEscapeSequence 0 (n + firstWidth (drop n x))) n) n
   unicode-short n e h = short (λ z. h (e ∙ z)) ∙ rw e
 
 module _ (s : List ℕ) (at len i : ℕ) (p : Passed s at (min len (run isHex (drop at s))) i) where
@@ -88,7 +96,8 @@ module _ (s : List ℕ) (at len i : ℕ) (p : Passed s at (min len (run isHex (d
   found-full h = found-ok (unicode-full len (drop at s) (i - at) used h) (omega (arith, p .end)) (p .within)
 
   -- the error's argument goes through the first wrong character
-  pub found-short : (w : ℕ) (e : ParserError) → (i - at ≡ len → ⊥) → w ≡ firstWidth (drop i s) → e ≡ faultAt (InvalidUnicodeEscapeSequence at (i + w)) i
+  pub found-short : (w : ℕ) (e : ParserError) → (i - at ≡ len → ⊥) → w ≡ firstWidth (drop i s)
+      → e ≡ faultAt (InvalidUnicodeEscapeSequence at (i + w)) i
       → Found s at (skipUnicodeEscapeSequence len (drop at s)) (Bad e i)
   found-short w e h q f = found-fault (unicode-short len (drop at s) (i - at) used h) sum (p .within) (f ∙ moved)
     where
@@ -98,14 +107,18 @@ module _ (s : List ℕ) (at len i : ℕ) (p : Passed s at (min len (run isHex (d
       wide : w ≡ firstWidth (drop (i - at) (drop at s))
       wide = q ∙ ap firstWidth (ap (λ (k : ℕ). drop k s) sum ∙ sym (drop-drop (i - at) at s))
 
-      moved : faultAt (InvalidUnicodeEscapeSequence at (i + w)) i ≡ upFault at (faultAt (InvalidUnicodeEscapeSequence 0 (i - at + firstWidth (drop (i - at) (drop at s)))) (i - at))
+      moved : faultAt (InvalidUnicodeEscapeSequence at (i + w)) i
+          ≡ upFault at (faultAt (InvalidUnicodeEscapeSequence 0 (i - at + firstWidth (drop (i - at) (drop at s))))
+          (i - at))
       moved =
           let one : i + 1 ≡ at + (i - at + 1) = omega (arith, p .end) in
           let from : at ≡ at + 0 = omega arith in
           let till : i + w ≡ at + (i - at + firstWidth (drop (i - at) (drop at s))) = omega (arith, p .end, wide) in
           λ j. record { start = sum j; end = one j; kind = InvalidUnicodeEscapeSequence (from j) (till j) }
 
-pub unicode-read : {s : List ℕ} {at i : ℕ} {r : Place} (len : ℕ) → Found s at (skipUnicodeEscapeSequence len (drop at s)) r → r ≡ At i → skipUnicodeEscapeSequence len (drop at s) ≡ ok tt [] (i - at)
+pub unicode-read : {s : List ℕ} {at i : ℕ} {r : Place} (len : ℕ)
+    → Found s at (skipUnicodeEscapeSequence len (drop at s)) r → r ≡ At i
+    → skipUnicodeEscapeSequence len (drop at s) ≡ ok tt [] (i - at)
 unicode-read {s} {at} {i} len f h = byCase (eqb n len) (λ q. some (eqb-true n len q)) (λ q. none (eqb-false n len q))
   where
     n : ℕ
@@ -125,7 +138,8 @@ unicode-read {s} {at} {i} len f h = byCase (eqb n len) (λ q. some (eqb-true n l
 
 -- ---- escapes
 
-turned-unicode : (s : List ℕ) (at len : ℕ) (t : Turn (Unit {0}) (Unit {0})) (r : Place) → t ≡ turnOf (after [] 2 (skipUnicodeEscapeSequence len (drop (at + 2) s)))
+turned-unicode : (s : List ℕ) (at len : ℕ) (t : Turn (Unit {0}) (Unit {0})) (r : Place)
+    → t ≡ turnOf (after [] 2 (skipUnicodeEscapeSequence len (drop (at + 2) s)))
     → Found s (at + 2) (skipUnicodeEscapeSequence len (drop (at + 2) s)) r → Turned s at t r
 unfolding turnOf after moveUp
 turned-unicode s at len t (At i) h f =
@@ -134,13 +148,22 @@ turned-unicode s at len t (At i) h f =
     record { turn = h ∙ rw (unicode-read len f refl, e); onward = omega (arith, w .place); within = f .within }
 turned-unicode s at len t (Bad e j) h f =
     let w = found-bad f refl in
-    record { out = after [] 2 (skipUnicodeEscapeSequence len (drop (at + 2) s)); turn = h ∙ rw (w .is); found = found-after 2 [] (skipUnicodeEscapeSequence len (drop (at + 2) s)) refl f }
+    record {
+      out = after [] 2 (skipUnicodeEscapeSequence len (drop (at + 2) s));
+      turn = h ∙ rw (w .is);
+      found = found-after 2 [] (skipUnicodeEscapeSequence len (drop (at + 2) s)) refl f;
+    }
 
-pub escape-end : {s : List ℕ} {at : ℕ} {e : ParserError} → at + 1 ≡ length s → e ≡ faultAt (UnknownEscapeSequence Byte.space) at → Ended s at (escapeTurn (drop at s) (drop (at + 1) s)) e at
+pub escape-end : {s : List ℕ} {at : ℕ} {e : ParserError} → at + 1 ≡ length s
+    → e ≡ faultAt (UnknownEscapeSequence Byte.space) at → Ended s at (escapeTurn (drop at s) (drop (at + 1) s)) e at
 unfolding escapeTurn
 escape-end {s} {at} h q =
     let l : length s ≤ at + 1 = omega arith in
-    record { out = fail (UnknownEscapeSequence Byte.space) (drop at s); turn = rw (drop-of-length-le s l); found = found-fail (drop at s) (UnknownEscapeSequence Byte.space) refl (omega arith) refl q }
+    record {
+      out = fail (UnknownEscapeSequence Byte.space) (drop at s);
+      turn = rw (drop-of-length-le s l);
+      found = found-fail (drop at s) (UnknownEscapeSequence Byte.space) refl (omega arith) refl q;
+    }
 
 module _ (s : List ℕ) (at : ℕ) (l : at + 1 < length s) where
   escape-by : escapeTurn (drop at s) (drop (at + 1) s) ≡ escapeTurn (drop at s) (getD s (at + 1) 0 ∷ drop (at + 2) s)
@@ -148,19 +171,28 @@ module _ (s : List ℕ) (at : ℕ) (l : at + 1 < length s) where
 
   pub escape-self : isEscaped (getD s (at + 1) 0) ≡ true → Onward s at (escapeTurn (drop at s) (drop (at + 1) s)) (at + 2)
   unfolding escapeTurn isEscaped
-  escape-self h = let e : at + 2 - at ≡ 2 = omega arith in record { turn = escape-by ∙ rw (h, escapeTurn, e); onward = omega arith; within = omega arith }
+  escape-self h = let e : at + 2 - at ≡ 2 = omega arith in
+      record { turn = escape-by ∙ rw (h, escapeTurn, e); onward = omega arith; within = omega arith }
 
   module _ (f : isEscaped (getD s (at + 1) 0) ≡ false) where
-    pub escape-lower : {r : Place} → getD s (at + 1) 0 ≡ Byte.lowerU → Found s (at + 2) (skipUnicodeEscapeSequence 4 (drop (at + 2) s)) r → Turned s at (escapeTurn (drop at s) (drop (at + 1) s)) r
+    pub escape-lower : {r : Place} → getD s (at + 1) 0 ≡ Byte.lowerU
+        → Found s (at + 2) (skipUnicodeEscapeSequence 4 (drop (at + 2) s)) r
+        → Turned s at (escapeTurn (drop at s) (drop (at + 1) s)) r
     unfolding escapeTurn isEscaped
     escape-lower {r} h w = turned-unicode s at 4 _ r (escape-by ∙ rw (f, eq-eqb (getD s (at + 1) 0) Byte.lowerU h, escapeTurn)) w
 
     module _ (g : getD s (at + 1) 0 ≡ Byte.lowerU → ⊥) where
-      pub escape-upper : {r : Place} → getD s (at + 1) 0 ≡ Byte.upperU → Found s (at + 2) (skipUnicodeEscapeSequence 6 (drop (at + 2) s)) r → Turned s at (escapeTurn (drop at s) (drop (at + 1) s)) r
+      pub escape-upper : {r : Place} → getD s (at + 1) 0 ≡ Byte.upperU
+          → Found s (at + 2) (skipUnicodeEscapeSequence 6 (drop (at + 2) s)) r
+          → Turned s at (escapeTurn (drop at s) (drop (at + 1) s)) r
       unfolding escapeTurn isEscaped
-      escape-upper {r} h w = turned-unicode s at 6 _ r (escape-by ∙ rw (f, ne-eqb (getD s (at + 1) 0) Byte.lowerU g, eq-eqb (getD s (at + 1) 0) Byte.upperU h, escapeTurn)) w
+      escape-upper {r} h w =
+          turned-unicode s at 6 _ r
+          (escape-by
+          ∙ rw (f, ne-eqb (getD s (at + 1) 0) Byte.lowerU g, eq-eqb (getD s (at + 1) 0) Byte.upperU h, escapeTurn)) w
 
-      pub escape-unknown : {e : ParserError} → (getD s (at + 1) 0 ≡ Byte.upperU → ⊥) → e ≡ faultAt (UnknownEscapeSequence (getD s (at + 1) 0)) at
+      pub escape-unknown : {e : ParserError} → (getD s (at + 1) 0 ≡ Byte.upperU → ⊥)
+          → e ≡ faultAt (UnknownEscapeSequence (getD s (at + 1) 0)) at
           → Ended s at (escapeTurn (drop at s) (drop (at + 1) s)) e at
       unfolding escapeTurn isEscaped
       escape-unknown h q = record {
@@ -179,24 +211,28 @@ plain-turn (b ∷ x) h =
     byCase (eqb b Byte.quote) (λ p. clash h (rw (q, p) refl)) (λ p.
     byCase (eqb b Byte.lineFeed) (λ o. clash h (rw (q, p, o) refl)) (λ o. rw (q, p, o, stringTurn))))
 
-pub escape-turn : (s : List ℕ) (i : ℕ) → startsWith Byte.backslash (drop i s) ≡ true → stringTurn tt (drop i s) ≡ escapeTurn (drop i s) (drop (i + 1) s)
+pub escape-turn : (s : List ℕ) (i : ℕ) → startsWith Byte.backslash (drop i s) ≡ true
+    → stringTurn tt (drop i s) ≡ escapeTurn (drop i s) (drop (i + 1) s)
 escape-turn s i h = go (drop i s) h ∙ rw drop-drop
   where
     go : (x : List ℕ) → startsWith Byte.backslash x ≡ true → stringTurn tt x ≡ escapeTurn x (drop 1 x)
     go [] q = unfold startsWith in clash q refl
     go (b ∷ x) q = unfold startsWith stringTurn in rw (q, stringTurn)
 
-pub feed-turn : (x : List ℕ) → startsWith Byte.backslash x ≡ false → startsWith Byte.lineFeed x ≡ true → stringTurn tt x ≡ done (fail UnterminatedStringLiteral x)
+pub feed-turn : (x : List ℕ) → startsWith Byte.backslash x ≡ false → startsWith Byte.lineFeed x ≡ true
+    → stringTurn tt x ≡ done (fail UnterminatedStringLiteral x)
 unfolding startsWith stringTurn
 feed-turn [] h q = clash q refl
 feed-turn (b ∷ x) h q = let p : eqb b Byte.quote ≡ false = rw (eqb-true b Byte.lineFeed q) refl in rw (h, p, q, stringTurn)
 
-pub quote-turn : (x : List ℕ) → startsWith Byte.backslash x ≡ false → startsWith Byte.lineFeed x ≡ false → starts isPlain x ≡ false → stringTurn tt x ≡ done (ok tt [] 0)
+pub quote-turn : (x : List ℕ) → startsWith Byte.backslash x ≡ false → startsWith Byte.lineFeed x ≡ false
+    → starts isPlain x ≡ false → stringTurn tt x ≡ done (ok tt [] 0)
 unfolding startsWith starts stringTurn isPlain
 quote-turn [] h q p = refl
 quote-turn (b ∷ x) h q p = byCase (eqb b Byte.quote) (λ o. rw (h, o, stringTurn)) (λ o. clash (rw (h, o, q) refl) p)
 
-pass : {s : List ℕ} {at : ℕ} (k i : ℕ) → run isPlain (drop i s) ≡ k → Turning stringTurn s at tt i tt → Turning stringTurn s at tt (i + k) tt
+pass : {s : List ℕ} {at : ℕ} (k i : ℕ) → run isPlain (drop i s) ≡ k → Turning stringTurn s at tt i tt
+    → Turning stringTurn s at tt (i + k) tt
 pass zero i h t = rw add-zero t
 pass {s} {at} (suc k) i h t =
     byCase (starts isPlain (drop i s))
@@ -208,7 +244,8 @@ pass {s} {at} (suc k) i h t =
     (λ q. absurd (omega (arith, h, run-none isPlain (drop i s) q)))
 
 -- past plain bytes
-pub turning-plain : {s : List ℕ} {at i j : ℕ} → Turning stringTurn s at tt i tt → Passed s i (run isPlain (drop i s)) j → Turning stringTurn s at tt j tt
+pub turning-plain : {s : List ℕ} {at i j : ℕ} → Turning stringTurn s at tt i tt → Passed s i (run isPlain (drop i s)) j
+    → Turning stringTurn s at tt j tt
 turning-plain {s} {at} {i} {j} t p = let e = p .end in rw e (pass (run isPlain (drop i s)) i refl t)
 
 -- ---- the code's loop, which stands where no plain byte does
@@ -224,12 +261,16 @@ scan-on t p = record { turns = turning-plain t p; stands = passed-stops isPlain 
 pub escape-onward : {s : List ℕ} {i j : ℕ} {t : Turn (Unit {0}) (Unit {0})} {r : Place} → Turned s i t r → r ≡ At j → Onward s i t j
 escape-onward {s} {i} {j} {t} w h = subst (Turned s i t) h w
 
-pub escape-ended : {s : List ℕ} {i j : ℕ} {t : Turn (Unit {0}) (Unit {0})} {r : Place} {e : ParserError} → Turned s i t r → r ≡ Bad e j → Ended s i t e j
+pub escape-ended : {s : List ℕ} {i j : ℕ} {t : Turn (Unit {0}) (Unit {0})} {r : Place} {e : ParserError}
+    → Turned s i t r → r ≡ Bad e j → Ended s i t e j
 escape-ended {s} {i} {t = t} w h = subst (Turned s i t) h w
 
-module _ {s : List ℕ} {at i : ℕ} {r : Place} (g : Scanning s at i) (b : startsWith Byte.backslash (drop i s) ≡ true) (w : Turned s i (escapeTurn (drop i s) (drop (i + 1) s)) r) where
+module _ {s : List ℕ} {at i : ℕ} {r : Place} (g : Scanning s at i) (b : startsWith Byte.backslash (drop i s) ≡ true)
+    (w : Turned s i (escapeTurn (drop i s) (drop (i + 1) s)) r) where
   pub scan-escape : {j k : ℕ} → r ≡ At j → Passed s j (run isPlain (drop j s)) k → Scanning s at k
-  scan-escape {j} h p = let o = escape-onward w h in scan-on (turning-more stringTurn-moves (g .turns) (escape-turn s i b ∙ o .turn) (omega (arith, o .onward)) (o .within)) p
+  scan-escape {j} h p = let o = escape-onward w h in
+      scan-on
+      (turning-more stringTurn-moves (g .turns) (escape-turn s i b ∙ o .turn) (omega (arith, o .onward)) (o .within)) p
 
   pub scan-fails : {e : ParserError} {j : ℕ} → r ≡ Bad e j → Found s at (repeat stringTurn tt (drop at s)) r
   scan-fails h = let o = escape-ended w h in rw h (found-turns (g .turns) (escape-turn s i b ∙ o .turn) (o .found))

@@ -41,10 +41,12 @@ rest-of s a = take-all (length s - a) (drop a s) (let z = length-drop a s in ome
 pub sliced-at : (s : List ℕ) (a : ℕ) {r : TextRead} → Sliced (take (length s - a) (drop a s)) r → Sliced (drop a s) r
 sliced-at s a h = rw (rest-of s a) at h
 
-pub sliced-in : (s : List ℕ) (a : ℕ) {r : TextRead} (x : TextSlice) → a ≤ length s → Sliced (drop a s) r → r ≡ Text x → a + widthOf x ≤ length s
+pub sliced-in : (s : List ℕ) (a : ℕ) {r : TextRead} (x : TextSlice) → a ≤ length s → Sliced (drop a s) r → r ≡ Text x
+    → a + widthOf x ≤ length s
 sliced-in s a x l h e = let q = (rw e at h) .within in let z = length-drop a s in omega arith
 
-pub brace-in : (s : List ℕ) (a : ℕ) {r : TextRead} (k : ℕ) → a ≤ length s → Sliced (drop a s) r → r ≡ UnbalancedClosingBrace k → a + k ≤ length s
+pub brace-in : (s : List ℕ) (a : ℕ) {r : TextRead} (k : ℕ) → a ≤ length s → Sliced (drop a s) r
+    → r ≡ UnbalancedClosingBrace k → a + k ≤ length s
 brace-in s a k l h e = let q = (rw e at h) .within in let z = length-drop a s in omega arith
 
 -- ---- a text that starts with no placeable takes a byte
@@ -52,10 +54,13 @@ starts-cons : (s : List ℕ) (a b : ℕ) → a < length s → startsWith b (drop
 unfolding startsWith
 starts-cons s a b h = rw (drop-cons s a 0 h)
 
-text-moves : (s : List ℕ) (a : ℕ) {x : Slice} {k : ℕ} → a < length s → startsWith 123 (drop a s) ≡ false → getTextSlice (drop a s) ≡ ok x [] k → 0 < k
+text-moves : (s : List ℕ) (a : ℕ) {x : Slice} {k : ℕ} → a < length s → startsWith 123 (drop a s) ≡ false
+    → getTextSlice (drop a s) ≡ ok x [] k → 0 < k
 text-moves s a h f e =
     let c = drop-cons s a 0 h in
-    go (subst (Bounded 0 (λ _. 8) _) (ap getTextSlice (sym c) ∙ e) (slice-some (getD s a 0) (drop (suc a) s) (sym (starts-cons s a 123 h) ∙ f)))
+    go
+    (subst (Bounded 0 (λ _. 8) _) (ap getTextSlice (sym c) ∙ e)
+    (slice-some (getD s a 0) (drop (suc a) s) (sym (starts-cons s a 123 h) ∙ f)))
   where
     go : {y : List ℕ} {x : Slice} {k : ℕ} → Bounded 0 (λ _. 8) y (ok x [] k) → 0 < k
     go (used u) = omega (arith, u .room)
@@ -77,13 +82,15 @@ unfolding withText after
 with-bad d i f k = refl
 
 module _ {s t : List ℕ} {cap : ℕ} {st : Reading} {i : ℕ} (ready : Ready s t cap st i) where
-  text-onward : (x : TextSlice) → getTextSlice (drop (st .at + i) s) ≡ ok (sliceOf x) [] (widthOf x) → st .at < st .at + i + x .size + crlfWidth (x .ending)
+  text-onward : (x : TextSlice) → getTextSlice (drop (st .at + i) s) ≡ ok (sliceOf x) [] (widthOf x)
+      → st .at < st .at + i + x .size + crlfWidth (x .ending)
   text-onward x e =
       byCase (startsWith 123 (drop (st .at + i) s))
       (λ q. let m = ready .moves q in omega arith)
       (λ q. let m = text-moves s (st .at + i) (ready .inside) q e in omega arith)
 
-  pub text-next : {t′ : List ℕ} (x : TextSlice) {r : TextRead} {r₂ : Reading} → Sliced (take (length s - (st .at + i)) (drop (st .at + i) s)) r
+  pub text-next : {t′ : List ℕ} (x : TextSlice) {r : TextRead} {r₂ : Reading}
+      → Sliced (take (length s - (st .at + i)) (drop (st .at + i) s)) r
       → r ≡ Text x → (r₂ ≡ afterText st i x) × Step cap (st .n) t t′ (textWords st i x)
       → TextDid s cap t t′ st (λ d. withText d i (getTextSlice (drop (st .at + i) s))) (Next r₂)
   text-next {t′} x {r} h e w =
@@ -121,7 +128,8 @@ module _ {s t : List ℕ} {cap : ℕ} {st : Reading} {i : ℕ} (ready : Ready s 
           record {
             it = upFault i (faultAt kinds.UnbalancedClosingBrace k);
             is = (
-              ap (withText d i) q ∙ with-bad d i (faultAt kinds.UnbalancedClosingBrace k) k ∙ ap (λ (j : ℕ). done (bad (upFault i (faultAt kinds.UnbalancedClosingBrace k)) j)) z,
+              ap (withText d i) q ∙ with-bad d i (faultAt kinds.UnbalancedClosingBrace k) k
+                  ∙ ap (λ (j : ℕ). done (bad (upFault i (faultAt kinds.UnbalancedClosingBrace k)) j)) z,
               v ∙ sym (fault-up (st .at) i (faultAt kinds.UnbalancedClosingBrace k) ∙ fault-on (st .at + i) k),
             );
           },
@@ -129,12 +137,15 @@ module _ {s t : List ℕ} {cap : ℕ} {st : Reading} {i : ℕ} (ready : Ready s 
         );
       }
 
-  pub text-fits : (x : TextSlice) {r : TextRead} → Sliced (take (length s - (st .at + i)) (drop (st .at + i) s)) r → r ≡ Text x → st .at + i + x .size ≤ 1000000
-  text-fits x h e = let b = sliced-in s (st .at + i) x (omega (arith, ready .inside)) (sliced-at s (st .at + i) h) e in omega (arith, ready .short)
+  pub text-fits : (x : TextSlice) {r : TextRead} → Sliced (take (length s - (st .at + i)) (drop (st .at + i) s)) r
+      → r ≡ Text x → st .at + i + x .size ≤ 1000000
+  text-fits x h e = let b = sliced-in s (st .at + i) x (omega (arith, ready .inside)) (sliced-at s (st .at + i) h) e in
+      omega (arith, ready .short)
 
   pub brace-fits : (k : ℕ) {r : TextRead} → Sliced (take (length s - (st .at + i)) (drop (st .at + i) s)) r → r ≡ UnbalancedClosingBrace k
       → st .at + i + k ≤ 1000000
-  brace-fits k h e = let b = brace-in s (st .at + i) k (omega (arith, ready .inside)) (sliced-at s (st .at + i) h) e in omega (arith, ready .short)
+  brace-fits k h e = let b = brace-in s (st .at + i) k (omega (arith, ready .inside)) (sliced-at s (st .at + i) h) e in
+      omega (arith, ready .short)
 
 -- ---- whether a line goes on
 pub goes-cr : (i b : ℕ) → i ≡ 0 → b ≡ 13 → eqb b 13 ≡ goesOn i b
@@ -156,7 +167,9 @@ did-as {s} {t} {t′} {cap} {st} {r} {f} {g} h e =
     record {
       long = h .long;
       onward = h .onward;
-      held = λ at n t₀ d hd. subst (λ (o : Turn State State). Turned s cap at n t₀ t′ st d o r) (e d (line-is d (st .role) (hd .role))) (h .held at n t₀ d hd);
+      held =
+          λ at n t₀ d hd. subst (λ (o : Turn State State). Turned s cap at n t₀ t′ st d o r)
+          (e d (line-is d (st .role) (hd .role))) (h .held at n t₀ d hd);
     }
 
 module _ {s t : List ℕ} {cap : ℕ} (st : Reading) (room : Room s t cap (st .at) (st .n) 1)
@@ -169,9 +182,17 @@ module _ {s t : List ℕ} {cap : ℕ} (st : Reading) (room : Room s t cap (st .a
   moves-by (suc i) q = omega arith
 
   pub ready-text : v ≡ false → Ready s t cap st 0
-  ready-text e = record { inside = omega (arith, h .0); short = room .short; fits = fits; spaced = λ q. clash q (sym ev ∙ e); moves = moves-by 0 }
+  ready-text e =
+      record {
+        inside = omega (arith, h .0);
+        short = room .short;
+        fits = fits;
+        spaced = λ q. clash q (sym ev ∙ e);
+        moves = moves-by 0;
+      }
 
-  pub turn-text : {t′ : List ℕ} {r : TextTurn} → v ≡ false → TextDid s cap t t′ st (λ d. withText d 0 (getTextSlice (drop (st .at + 0) s))) r
+  pub turn-text : {t′ : List ℕ} {r : TextTurn} → v ≡ false
+      → TextDid s cap t t′ st (λ d. withText d 0 (getTextSlice (drop (st .at + 0) s))) r
       → TextDid s cap t t′ st (λ d. textTurn d (drop (st .at) s)) r
   unfolding textTurn
   turn-text e g = did-as g (λ d q. rw (textTurn, q ∙ sym ev ∙ e, add-zero))
@@ -181,11 +202,13 @@ module _ {s t : List ℕ} {cap : ℕ} (st : Reading) (room : Room s t cap (st .a
     indent-is : a - st .at ≡ spaces (drop (st .at) s)
     indent-is = omega (arith, p .end)
 
-    line-is-turn : (d : State) → isLineStart (d .role) ≡ startsLine (st .role) → textTurn d (drop (st .at) s) ≡ lineTurn d (a - st .at) (drop a s)
+    line-is-turn : (d : State) → isLineStart (d .role) ≡ startsLine (st .role)
+        → textTurn d (drop (st .at) s) ≡ lineTurn d (a - st .at) (drop a s)
     unfolding textTurn
     line-is-turn d q =
         rw (textTurn, q ∙ sym ev ∙ et, indent-is)
-        (ap (lineTurn d (spaces (drop (st .at) s))) (drop-drop (spaces (drop (st .at) s)) (st .at) s ∙ ap (λ (k : ℕ). drop k s) (sym (p .end))))
+        (ap (lineTurn d (spaces (drop (st .at) s)))
+        (drop-drop (spaces (drop (st .at) s)) (st .at) s ∙ ap (λ (k : ℕ). drop k s) (sym (p .end))))
 
     pub line-end : a ≡ length s → TextDid s cap t t st (λ d. textTurn d (drop (st .at) s)) (End a)
     unfolding lineTurn
@@ -213,12 +236,23 @@ module _ {s t : List ℕ} {cap : ℕ} (st : Reading) (room : Room s t cap (st .a
       back = omega (arith, p .end)
 
       pub ready-line : Ready s t cap st (a - st .at)
-      ready-line = record { inside = rw back within; short = room .short; fits = fits; spaced = λ q. indent-is; moves = moves-by (a - st .at) }
+      ready-line =
+          record {
+            inside = rw back within;
+            short = room .short;
+            fits = fits;
+            spaced = λ q. indent-is;
+            moves = moves-by (a - st .at);
+          }
 
       pub turn-line : {t′ : List ℕ} {r : TextTurn} → g ≡ true
           → TextDid s cap t t′ st (λ d. withText d (a - st .at) (getTextSlice (drop (st .at + (a - st .at)) s))) r
           → TextDid s cap t t′ st (λ d. textTurn d (drop (st .at) s)) r
-      turn-line e w = did-as w (λ d q. sym (line-is-turn d q ∙ line-goes d e ∙ ap (λ (k : ℕ). withText d (a - st .at) (getTextSlice (drop k s))) (sym back)))
+      turn-line e w =
+          did-as w
+          (λ d q. sym
+          (line-is-turn d q ∙ line-goes d e
+          ∙ ap (λ (k : ℕ). withText d (a - st .at) (getTextSlice (drop k s))) (sym back)))
 
       pub line-stop : g ≡ false → TextDid s cap t t st (λ d. textTurn d (drop (st .at) s)) (End (st .at))
       line-stop e =
@@ -226,5 +260,10 @@ module _ {s t : List ℕ} {cap : ℕ} (st : Reading) (room : Room s t cap (st .a
           record {
             long = refl;
             onward = (omega arith, room .inside);
-            held = λ at n t₀ d hd. (line-is-turn d (line-is d (st .role) (hd .role)) ∙ line-stops d e ∙ ap (λ (k : ℕ). done (ok d [] k)) (sym z), hd);
+            held =
+                λ at n t₀ d hd. (
+                  line-is-turn d (line-is d (st .role) (hd .role)) ∙ line-stops d e
+                      ∙ ap (λ (k : ℕ). done (ok d [] k)) (sym z),
+                  hd,
+                );
           }

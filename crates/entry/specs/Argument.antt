@@ -17,7 +17,10 @@ use Rattle.entry.specs.Tree.{word, Step}
 use Rattle.entry.specs.Names.{Names}
 use Rattle.entry.specs.Did.{Says, Did, answer}
 use Rattle.entry.specs.declared.expression.Expression.{Expression}
-use Rattle.entry.specs.declared.expression.Expression.the-variants.{StringLiteral, NumberLiteral, VariableReference, FunctionReference, MessageReference, TermReference, Placeable, Select}
+use Rattle.entry.specs.declared.expression.Expression.the-variants.{StringLiteral, NumberLiteral}
+use Rattle.entry.specs.declared.expression.Expression.the-variants.{VariableReference, FunctionReference}
+use Rattle.entry.specs.declared.expression.Expression.the-variants.{MessageReference, TermReference, Placeable}
+use Rattle.entry.specs.declared.expression.Expression.the-variants.{Select}
 use Rattle.entry.specs.declared.expression.ReadExpression.{ReadExpression}
 use Rattle.entry.specs.declared.expression.ReadExpression.the-variants as expressions
 use Rattle.entry.specs.declared.expression.Name.{Name}
@@ -66,7 +69,8 @@ positionalAt false s at n = answer arguing at n (separator [] (drop at s))
 -- a named argument whose value was read
 abbrev pub NamedAs : List ℕ → ℕ → List ℕ → List ℕ → ReadExpression → ReadArgument → Type 0
 NamedAs s cap t t′ (expressions.Ok x at n) r =
-    ((name : List ℕ) (before : List (List ℕ)) → r ≡ answer arguing at (n + 1) (separator (name ∷ before) (drop at s))) × Step cap n t t′ (word (Kind.closing Kind.namedArgument) 0 ∷ [])
+    ((name : List ℕ) (before : List (List ℕ)) → r ≡ answer arguing at (n + 1) (separator (name ∷ before) (drop at s)))
+    × Step cap n t t′ (word (Kind.closing Kind.namedArgument) 0 ∷ [])
 NamedAs s cap t t′ (expressions.Bad f k) r = (r ≡ Bad f k) × (t′ ≡ t)
 NamedAs s cap t t′ (expressions.Deep k) r = (r ≡ Deep k) × (t′ ≡ t)
 
@@ -81,4 +85,5 @@ argumentOf sub names x = argumentBy sub names x (getInlineExpression sub false x
 -- there is one more
 pub record Argued (sub : Inside) (s : List ℕ) (cap at named n : ℕ) (t t′ : List ℕ) (names : List (List ℕ)) (r : ReadArgument) : Type 0 where
   pub did : Did arguing cap at n t t′ r (argumentOf sub names (drop at s))
-  pub more : (p m : ℕ) → r ≡ Named p m → (names′ : List (List ℕ)) (ms : List Mark) (k : ℕ) → argumentOf sub names (drop at s) ≡ ok names′ ms k → Names s t′ cap named m names′
+  pub more : (p m : ℕ) → r ≡ Named p m → (names′ : List (List ℕ)) (ms : List Mark) (k : ℕ)
+      → argumentOf sub names (drop at s) ≡ ok names′ ms k → Names s t′ cap named m names′

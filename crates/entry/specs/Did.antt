@@ -1,4 +1,5 @@
--- What the contracts say of a reader with marks: the code's answer is the definition's, moved to a place of the source, and the tree's words
+-- What the contracts say of a reader with marks: the code's answer is the definition's, moved to a place of the source,
+-- and the tree's words
 -- became what they were with the definition's marks after the first n.
 use Prim.Native.Nat.{ℕ, _+_, _*_, _^_, _≤_, _<_}
 use mathlib.Core.Path.{_≡_}

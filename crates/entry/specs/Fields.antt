@@ -39,7 +39,12 @@ pub record Named (s : List ℕ) (cap at n : ℕ) (t t′ : List ℕ) (r : Name) 
 
 -- what a message or a term has
 abbrev pub having : Says Core.Fields Fields
-having = record { yes = λ x p m. fields.Ok (x .name) (x .value) (not (eqb (x .attributes) 0)) p m; no = λ f p. fields.Bad f p; far = λ p. fields.Deep p }
+having =
+    record {
+      yes = λ x p m. fields.Ok (x .name) (x .value) (not (eqb (x .attributes) 0)) p m;
+      no = λ f p. fields.Bad f p;
+      far = λ p. fields.Deep p;
+    }
 
 -- the identifier lies in the source
 abbrev pub NameLies : List ℕ → ℕ → Fields → Type 0

@@ -16,12 +16,14 @@ Nested d (word k p ∷ ws) = elim (ltb k 100) [ true ↦ Nested (suc d) ws | fal
 
 -- a named argument: its name from a to e, and the marks of its value
 abbrev pub namedWords : ℕ → ℕ → List Word → List Word
-namedWords a e inner = word Kind.namedArgument 0 ∷ word Kind.identifier a ∷ word (Kind.closing Kind.identifier) e ∷ (inner ++ (word (Kind.closing Kind.namedArgument) 0 ∷ []))
+namedWords a e inner = word Kind.namedArgument 0 ∷ word Kind.identifier a ∷ word (Kind.closing Kind.identifier) e
+    ∷ (inner ++ (word (Kind.closing Kind.namedArgument) 0 ∷ []))
 
 -- marks of named arguments in a row, with their names, the last first
 pub data NamedRow (s : List ℕ) : List Word → List (List ℕ) → Type 0 where
   none : NamedRow s [] []
-  more : {ws : List Word} {names : List (List ℕ)} (a e : ℕ) (inner : List Word) → a ≤ e → e ≤ length s → Nested 0 inner → NamedRow s ws names
+  more : {ws : List Word} {names : List (List ℕ)} (a e : ℕ) (inner : List Word) → a ≤ e → e ≤ length s → Nested 0 inner
+      → NamedRow s ws names
       → NamedRow s (ws ++ namedWords a e inner) (take (e - a) (drop a s) ∷ names)
 
 -- the marks of t from the i-th up to the n-th are named arguments with these names

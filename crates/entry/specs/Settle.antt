@@ -30,7 +30,8 @@ trimmedEnd s a e = a + trimmed (take (e - a) (drop a s))
 unfoldable pub trimWords : List ℕ → List Word → List Word
 trimWords s [] = []
 trimWords s (w ∷ []) = w ∷ []
-trimWords s (word k a ∷ word j e ∷ []) = word k a ∷ elim (eqb j (Kind.closing Kind.text)) [ true ↦ word j (trimmedEnd s a e) | false ↦ word j e ] ∷ []
+trimWords s (word k a ∷ word j e ∷ []) = word k a
+    ∷ elim (eqb j (Kind.closing Kind.text)) [ true ↦ word j (trimmedEnd s a e) | false ↦ word j e ] ∷ []
 trimWords s (w ∷ v ∷ u ∷ ws) = w ∷ trimWords s (v ∷ u ∷ ws)
 
 -- where the last mark closes a text, the text lies in the source

@@ -10,18 +10,24 @@ use Rattle.syntax.specs.Kind as Kind
 use Rattle.syntax.specs.Bytes.{startsWith, starts, second, isLetter, isDigit}
 use Rattle.syntax.specs.Errors.{upFault, faultAt}
 use Rattle.syntax.specs.declared.errors.ParserError.{ParserError}
-use Rattle.syntax.specs.declared.errors.ErrorKind.the-variants.{TermAttributeAsPlaceable, MessageAttributeAsSelector, MessageReferenceAsSelector, TermReferenceAsSelector, ExpectedSimpleExpressionAsSelector}
+use Rattle.syntax.specs.declared.errors.ErrorKind.the-variants.{TermAttributeAsPlaceable, MessageAttributeAsSelector}
+use Rattle.syntax.specs.declared.errors.ErrorKind.the-variants.{MessageReferenceAsSelector, TermReferenceAsSelector}
+use Rattle.syntax.specs.declared.errors.ErrorKind.the-variants.{ExpectedSimpleExpressionAsSelector}
 use Rattle.syntax.specs.Reader.{ok, bad, Reader, after, _>>=_, _>>_, pure, Turn, done, turnOf}
 use Rattle.syntax.specs.Helper.{skipBlank, skipBlankInline, expectByte}
 use Rattle.syntax.specs.Pattern.{Inside}
-use Rattle.syntax.specs.Expression.{Inline, string, number, variable, function, inner, message, term, getVariants, afterInline, variantTurn, variantWith, turnAfter}
+use Rattle.syntax.specs.Expression.{Inline, string, number, variable, function, inner, message, term, getVariants}
+use Rattle.syntax.specs.Expression.{afterInline, variantTurn, variantWith, turnAfter}
 use Rattle.entry.specs.Did.{Says, answer, reading}
 use Rattle.entry.specs.declared.helper.Place.{Place}
 use Rattle.entry.specs.declared.helper.Place.the-variants as places
 use Rattle.entry.specs.declared.marks.Read.{Read}
 use Rattle.entry.specs.declared.marks.Read.the-variants as reads
 use Rattle.entry.specs.declared.expression.Expression.{Expression}
-use Rattle.entry.specs.declared.expression.Expression.the-variants.{StringLiteral, NumberLiteral, VariableReference, FunctionReference, MessageReference, TermReference, Placeable, Select}
+use Rattle.entry.specs.declared.expression.Expression.the-variants.{StringLiteral, NumberLiteral}
+use Rattle.entry.specs.declared.expression.Expression.the-variants.{VariableReference, FunctionReference}
+use Rattle.entry.specs.declared.expression.Expression.the-variants.{MessageReference, TermReference, Placeable}
+use Rattle.entry.specs.declared.expression.Expression.the-variants.{Select}
 use Rattle.entry.specs.declared.expression.ReadExpression.{ReadExpression}
 use Rattle.entry.specs.declared.expression.ReadExpression.the-variants.{Ok, Bad, Deep}
 use Rattle.entry.specs.declared.expression.Start.{Start}
@@ -143,9 +149,14 @@ selectorAt at Select = places.Bad (faultAt ExpectedSimpleExpressionAsSelector at
 
 -- what follows an inline expression x by the definition q, at a place: nothing, a select's variants, or an error
 abbrev pub Followed : (Inside → Inline → Reader Bool) → List ℕ → ℕ → Expression → AfterInline → Type 0
-Followed q s at x (Alone e) = (at ≤ e) × (e ≤ length s) × (isAttributeOfTerm x ≡ false) × ((sub : Inside) (b : ℕ) (i : Inline) → x ≡ shapeAt b i → q sub i (drop at s) ≡ ok false [] (e - at))
-Followed q s at x (follows.Select e) = (at + 2 ≤ e) × (e ≤ length s) × ((sub : Inside) (b : ℕ) (i : Inline) → x ≡ shapeAt b i → q sub i (drop at s) ≡ after [] (e - at) ((getVariants sub >> pure true) (drop e s)))
-Followed q s at x (follows.Bad f k) = (k ≤ length s) × ((sub : Inside) (b : ℕ) (i : Inline) → x ≡ shapeAt b i → answer reading at 0 (q sub i (drop at s)) ≡ reads.Bad f k)
+Followed q s at x (Alone e) = (at ≤ e) × (e ≤ length s) × (isAttributeOfTerm x ≡ false)
+    × ((sub : Inside) (b : ℕ) (i : Inline) → x ≡ shapeAt b i → q sub i (drop at s) ≡ ok false [] (e - at))
+Followed q s at x (follows.Select e) = (at + 2 ≤ e) × (e ≤ length s)
+    × ((sub : Inside) (b : ℕ) (i : Inline) → x ≡ shapeAt b i
+    → q sub i (drop at s) ≡ after [] (e - at) ((getVariants sub >> pure true) (drop e s)))
+Followed q s at x (follows.Bad f k) = (k ≤ length s)
+    × ((sub : Inside) (b : ℕ) (i : Inline) → x ≡ shapeAt b i
+    → answer reading at 0 (q sub i (drop at s)) ≡ reads.Bad f k)
 
 -- a turn ends in an error, told from a place
 pub record Stops {S A : Type 0} (at : ℕ) (f : ParserError) (k : ℕ) (t : Turn S A) : Type 0 where
@@ -169,7 +180,9 @@ isArgument (b ∷ bs) = not (eqb b Byte.closeParenthesis)
 -- what stands where a variant may start, after variants of which one was a default if `has` says so
 abbrev pub NextIs : List ℕ → ℕ → Bool → NextVariant → Type 0
 NextIs s at has (Variant d e) =
-    (at ≤ e) × (e ≤ length s) × (startsWith Byte.openBracket (drop e s) ≡ true) × ((sub : Inside) → variantTurn sub has (drop at s) ≡ turnAfter (e - at) (turnOf (variantWith sub d has (drop e s))))
+    (at ≤ e) × (e ≤ length s) × (startsWith Byte.openBracket (drop e s) ≡ true)
+    × ((sub : Inside)
+    → variantTurn sub has (drop at s) ≡ turnAfter (e - at) (turnOf (variantWith sub d has (drop e s))))
 NextIs s at has (End e) = (at ≤ e) × (e ≤ length s) × ((sub : Inside) → variantTurn sub has (drop at s) ≡ done (ok tt [] (e - at)))
 NextIs s at has (nexts.Bad f k) = (k ≤ length s) × ((sub : Inside) → Stops at f k (variantTurn sub has (drop at s)))
 

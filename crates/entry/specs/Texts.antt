@@ -62,7 +62,8 @@ abbrev pub partWords : Bool → Bool → ℕ → ℕ → List Word
 partWords true line a e = word (opening line) a ∷ word (Kind.closing Kind.text) e ∷ []
 partWords false line a e = []
 
--- the count of marks, and of those through the last element that is not blank, and the common indent, by whether it is an element and whether
+-- the count of marks, and of those through the last element that is not blank, and the common indent, by whether it is
+-- an element and whether
 -- it is blank
 abbrev pub countAfter : Bool → ℕ → ℕ
 countAfter true n = n + 2
@@ -94,7 +95,14 @@ afterText st indent x =
 
 -- the state after a placeable, which ends at a place after n marks: a placeable that starts a line has no indent
 abbrev pub afterPlaceable : Reading → ℕ → ℕ → Reading
-afterPlaceable st e n = record { at = e; n = n; role = Continuation; «last_non_blank» = n; «common_indent» = leastOf (startsLine (st .role)) 0 (st .«common_indent») }
+afterPlaceable st e n =
+    record {
+      at = e;
+      n = n;
+      role = Continuation;
+      «last_non_blank» = n;
+      «common_indent» = leastOf (startsLine (st .role)) 0 (st .«common_indent»);
+    }
 
 -- the state where a pattern starts
 pub record Started (s : List ℕ) (at n : ℕ) (st : Reading) : Type 0 where
@@ -105,7 +113,8 @@ pub record Started (s : List ℕ) (at n : ℕ) (st : Reading) : Type 0 where
   pub last : st .«last_non_blank» ≡ n
   pub common : st .«common_indent» ≡ length s
 
--- The code's state st with the tree t′ holds the definition's state d, of a pattern that starts at a place of the source s, after n marks of
+-- The code's state st with the tree t′ holds the definition's state d, of a pattern that starts at a place of the
+-- source s, after n marks of
 -- the tree t: the pattern's opening mark and those of its elements are written.
 pub record Holds (s : List ℕ) (cap at n : ℕ) (t t′ : List ℕ) (st : Reading) (d : State) : Type 0 where
   pub role : d .role ≡ roleOf (st .role)
@@ -160,4 +169,5 @@ pub record Ends (s t : List ℕ) (cap n : ℕ) (st : Reading) : Type 0 where
 
 -- what the end did, for every pattern and state of the definition that the code's state holds
 pub record Ended (s : List ℕ) (cap n : ℕ) (t t′ : List ℕ) (st : Reading) (end : ℕ) (r : Read) : Type 0 where
-  pub did : (at : ℕ) (t₀ : List ℕ) (d : State) → at ≤ end → Holds s cap at n t₀ t st d → Did reading cap at n t₀ t′ r (finish (drop at s) (ok d [] (end - at)))
+  pub did : (at : ℕ) (t₀ : List ℕ) (d : State) → at ≤ end → Holds s cap at n t₀ t st d
+      → Did reading cap at n t₀ t′ r (finish (drop at s) (ok d [] (end - at)))

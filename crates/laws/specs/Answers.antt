@@ -14,7 +14,8 @@ Holds P (ok a ms k) = P a ms k
 Holds P (bad f k) = Unit {0}
 Holds P (deep k) = Unit {0}
 
-pub holds-map : {A : Type 0} (P Q : A → List Mark → ℕ → Type 0) → ((a : A) (ms : List Mark) (k : ℕ) → P a ms k → Q a ms k) → (o : Out A) → Holds P o → Holds Q o
+pub holds-map : {A : Type 0} (P Q : A → List Mark → ℕ → Type 0)
+    → ((a : A) (ms : List Mark) (k : ℕ) → P a ms k → Q a ms k) → (o : Out A) → Holds P o → Holds Q o
 holds-map P Q f (ok a ms k) h = f a ms k h
 holds-map P Q f (bad e k) h = tt
 holds-map P Q f (deep k) h = tt
@@ -27,10 +28,12 @@ holds-after P Q ms k f (bad e j) h = tt
 holds-after P Q ms k f (deep j) h = tt
 
 -- what holds of every answer, whatever the marks and the bytes
-plain-after : {A : Type 0} (P : A → Type 0) (ms : List Mark) (k : ℕ) (o : Out A) → Holds (λ a ns j. P a) o → Holds (λ a ns j. P a) (after ms k o)
+plain-after : {A : Type 0} (P : A → Type 0) (ms : List Mark) (k : ℕ) (o : Out A) → Holds (λ a ns j. P a) o
+    → Holds (λ a ns j. P a) (after ms k o)
 plain-after P ms k o h = holds-after (λ a ns j. P a) (λ a ns j. P a) ms k (λ a ns j g. g) o h
 
-pub plain-next : {A B : Type 0} (P : B → Type 0) (s : List ℕ) (q : A → Reader B) (o : Out A) → ((a : A) (r : List ℕ) → Holds (λ b ns j. P b) (q a r))
+pub plain-next : {A B : Type 0} (P : B → Type 0) (s : List ℕ) (q : A → Reader B) (o : Out A)
+    → ((a : A) (r : List ℕ) → Holds (λ b ns j. P b) (q a r))
     → Holds (λ b ns j. P b) (next s q o)
 unfolding next
 plain-next P s q (ok a ms k) h = plain-after P ms k (q a (drop k s)) (h a (drop k s))
@@ -83,7 +86,8 @@ sure-after ms k (bad f j) h = absurd h
 sure-after ms k (deep j) h = absurd h
 
 module _ {S A : Type 0} (t : S → List ℕ → Turn S A) (h : (st : S) (s : List ℕ) → TurnSure s (t st s)) where
-  step-sure : (n : ℕ) (s : List ℕ) (w : Turn S A) → TurnSure s w → length s ≤ n → ((st : S) (r : List ℕ) → length r < n → Sure (loop n t st r))
+  step-sure : (n : ℕ) (s : List ℕ) (w : Turn S A) → TurnSure s w → length s ≤ n
+      → ((st : S) (r : List ℕ) → length r < n → Sure (loop n t st r))
       → Sure {A = A} (elim w [ again st′ ms k ↦ after ms k (loop n t st′ (drop k s)) | done o ↦ o ])
   step-sure n s (again st ms k) g l f = sure-after ms k (loop n t st (drop k s)) (f st (drop k s) (omega arith))
   step-sure n s (done o) g l f = g

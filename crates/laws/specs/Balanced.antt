@@ -27,7 +27,8 @@ levels-append d e (m ∷ ms) ns l r = by (ltb (kindOf m) 100) l (λ i g. levels-
   where
     by : (v : Bool) → Opened v d ms → ((i : ℕ) → Levels i ms → Levels (i + e) (ms ++ ns)) → Opened v (d + e) (ms ++ ns)
     by true l f = let z : suc d + e ≡ suc (d + e) = omega arith in subst (λ i. Levels i (ms ++ ns)) z (f (suc d) l)
-    by false l f = let z : d - 1 + e ≡ d + e - 1 = omega (arith, l .0) in (omega (arith, l .0), subst (λ i. Levels i (ms ++ ns)) z (f (d - 1) (l .1)))
+    by false l f = let z : d - 1 + e ≡ d + e - 1 = omega (arith, l .0) in
+        (omega (arith, l .0), subst (λ i. Levels i (ms ++ ns)) z (f (d - 1) (l .1)))
 
 closes : (kind : ℕ) → ltb (100 + kind) 100 ≡ false
 closes kind = le-ltb (100 + kind) 100 (omega arith)

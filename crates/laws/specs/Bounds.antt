@@ -1,7 +1,8 @@
 -- What a reader may answer on a rest s, with n openings still allowed.
 -- ok: it used no more than s; its marks are at most eight for each byte used, with c marks to spare.
 -- bad: it stopped within s. deep: at a byte of s, with n bytes at least before it.
--- Of a reader p with `b : Bounds n c p`: `ok-uses b s e`, `bad-within b s e` and `deep-within b s e` say it of the answer that e gives, as `e : p s ≡ ok a ms k`.
+-- Of a reader p with `b : Bounds n c p`: `ok-uses b s e`, `bad-within b s e` and `deep-within b s e` say it of the
+-- answer that e gives, as `e : p s ≡ ok a ms k`.
 -- Where what is nested is read at a level n, `level-bounds n` is the hypothesis that the readers of nesting ask for.
 pub mod Helper
 pub mod Comment
@@ -17,7 +18,8 @@ use lib.ListN.{drop, length, length-append, length-drop}
 use Rattle.syntax.specs.Marks.{Mark, plain, moveUp, node, textNode}
 use Rattle.syntax.specs.declared.errors.ErrorKind.{ErrorKind}
 use Rattle.syntax.specs.declared.errors.ParserError.{ParserError}
-use Rattle.syntax.specs.Reader.{Out, ok, bad, deep, Reader, after, next, _>>=_, _>>_, pure, fail, wrap, inNode, Turn, again, done, turnOf, loop, repeat}
+use Rattle.syntax.specs.Reader.{Out, ok, bad, deep, Reader, after, next, _>>=_, _>>_, pure, fail, wrap, inNode, Turn}
+use Rattle.syntax.specs.Reader.{again, done, turnOf, loop, repeat}
 use Rattle.laws.specs.Moving.{moveUp-length}
 use Rattle.laws.specs.Loop.{Moved, Moves, repeat-again, repeat-done}
 
@@ -44,7 +46,8 @@ uses-text k kind a e h r = record { within = h; room = omega arith }
 pub uses-less : {c d : ℕ} {s : List ℕ} {ms : List Mark} {k : ℕ} → d ≤ c → Uses c s ms k → Uses d s ms k
 uses-less l u = record { within = u .within; room = omega (arith, u .room) }
 
-pub uses-after : {c d : ℕ} {s : List ℕ} {ms ns : List Mark} {k j : ℕ} → Uses c s ms k → Uses d (drop k s) ns j → Uses (c + d) s (ms ++ moveUp k ns) (k + j)
+pub uses-after : {c d : ℕ} {s : List ℕ} {ms ns : List Mark} {k j : ℕ} → Uses c s ms k → Uses d (drop k s) ns j
+    → Uses (c + d) s (ms ++ moveUp k ns) (k + j)
 uses-after {s = s} {ms} {ns} {k} {j} u v = record {
   within = omega (arith, u .within, v .within, length-drop k s);
   room = omega (arith, u .room, v .room, length-append ms (moveUp k ns), moveUp-length k ns);
@@ -63,7 +66,8 @@ module _ {A : Type 0} {n : ℕ} {s : List ℕ} where
   bounded-less l (stopped j h) = stopped j h
   bounded-less l (tooDeep j h g) = tooDeep j h g
 
-  pub after-bounded : {c : ℕ} {d : A → ℕ} {ms : List Mark} {k : ℕ} {o : Out A} → Uses c s ms k → Bounded n d (drop k s) o → Bounded n (λ a. c + d a) s (after ms k o)
+  pub after-bounded : {c : ℕ} {d : A → ℕ} {ms : List Mark} {k : ℕ} {o : Out A} → Uses c s ms k
+      → Bounded n d (drop k s) o → Bounded n (λ a. c + d a) s (after ms k o)
   unfolding after
   after-bounded u (used v) = used (uses-after u v)
   after-bounded {k = k} u (stopped j h) = stopped (k + j) (omega (arith, u .within, length-drop k s))
@@ -77,7 +81,8 @@ module _ {A : Type 0} {n : ℕ} {s : List ℕ} where
 
 module _ {A B : Type 0} {n : ℕ} where
   -- the room to spare by both values
-  pub next-bounded : {c : A → ℕ} {d : A → B → ℕ} {e : B → ℕ} {s : List ℕ} {q : A → Reader B} {o : Out A} → ((a : A) (b : B) → e b ≤ c a + d a b)
+  pub next-bounded : {c : A → ℕ} {d : A → B → ℕ} {e : B → ℕ} {s : List ℕ} {q : A → Reader B} {o : Out A}
+      → ((a : A) (b : B) → e b ≤ c a + d a b)
       → Bounded n c s o → ((a : A) → Bounds n (d a) (q a)) → Bounded n e s (next s q o)
   unfolding next
   next-bounded {s = s} l (used {a} {k = k} u) bq = bounded-less (l a) (after-bounded u (bq a .on (drop k s)))
@@ -89,7 +94,8 @@ module _ {A B : Type 0} {n : ℕ} where
   unfolding _>>=_
   bind-by l bp bq = record { on = λ s. next-bounded l (bp .on s) bq }
 
-  pub bind : {c : ℕ} {d : B → ℕ} {p : Reader A} {q : A → Reader B} → Bounds n (λ _. c) p → ((a : A) → Bounds n d (q a)) → Bounds n (λ b. c + d b) (p >>= q)
+  pub bind : {c : ℕ} {d : B → ℕ} {p : Reader A} {q : A → Reader B} → Bounds n (λ _. c) p → ((a : A) → Bounds n d (q a))
+      → Bounds n (λ b. c + d b) (p >>= q)
   bind bp bq = bind-by (λ a b. omega arith) bp bq
 
   pub then : {c : ℕ} {d : B → ℕ} {p : Reader A} {q : Reader B} → Bounds n (λ _. c) p → Bounds n d q → Bounds n (λ b. c + d b) (p >> q)
@@ -102,7 +108,8 @@ pub then-inside : {A B : Type 0} {n c : ℕ} {d : B → ℕ} {p : Reader A} {q :
 unfolding _>>_ next after
 then-inside {A} {B} {n} {c} {d} {p} {q} l bp bq = record { on = λ s. go s (p s) (bp .on s) }
   where
-    inner : {s : List ℕ} {ms : List Mark} {k : ℕ} {o : Out B} → Uses c s ms k → Bounded n d (drop k s) o → Bounded (suc n) (λ b. c + d b) s (after ms k o)
+    inner : {s : List ℕ} {ms : List Mark} {k : ℕ} {o : Out B} → Uses c s ms k → Bounded n d (drop k s) o
+        → Bounded (suc n) (λ b. c + d b) s (after ms k o)
     inner u (used v) = used (uses-after u v)
     inner {s} {k = k} u (stopped j h) = stopped (k + j) (omega (arith, u .within, length-drop k s))
     inner {s} {k = k} u (tooDeep j h g) = tooDeep (k + j) (omega (arith, u .room)) (omega (arith, u .within, length-drop k s))
@@ -138,7 +145,8 @@ turnOf-bounded (used u) = goes u
 turnOf-bounded (stopped k h) = ends (stopped k h)
 turnOf-bounded (tooDeep k h g) = ends (tooDeep k h g)
 
-pub turn-less : {S A : Type 0} {n c d c′ d′ : ℕ} {s : List ℕ} {t : Turn S A} → c′ ≤ c → d′ ≤ d → TurnBounded n c d s t → TurnBounded n c′ d′ s t
+pub turn-less : {S A : Type 0} {n c d c′ d′ : ℕ} {s : List ℕ} {t : Turn S A} → c′ ≤ c → d′ ≤ d → TurnBounded n c d s t
+    → TurnBounded n c′ d′ s t
 turn-less l l′ (goes u) = goes (uses-less l u)
 turn-less l l′ (ends b) = ends (bounded-less (λ _. l′) b)
 
@@ -161,7 +169,9 @@ module _ {S A : Type 0} {n : ℕ} {turn : S → List ℕ → Turn S A} (b : Turn
     where
       go : (t : Turn S A) → TurnBounded n 1 0 s t → ((st′ : S) (r : List ℕ) → length r < m → Bounded n (λ _. 0) r (loop m turn st′ r))
           → Bounded {A = A} n (λ _. 0) s (elim t [ again st′ ms k ↦ after ms k (loop m turn st′ (drop k s)) | done o ↦ o ])
-      go (again st′ ms k) (goes u) f = bounded-less (λ _. omega arith) (after-bounded u (f st′ (drop k s) (omega (arith, u .room, u .within, length-drop k s))))
+      go (again st′ ms k) (goes u) f =
+          bounded-less (λ _. omega arith)
+          (after-bounded u (f st′ (drop k s) (omega (arith, u .room, u .within, length-drop k s))))
       go (done o) (ends h) f = h
 
   pub repeat-bounds : (st : S) → Bounds n (λ _. 0) (repeat turn st)
@@ -173,7 +183,9 @@ module _ {S A : Type 0} {n : ℕ} {turn : S → List ℕ → Turn S A} (b : Turn
   first-bounded {c} st s h = go (turn st s) refl h
     where
       go : (t : Turn S A) → turn st s ≡ t → TurnBounded n c c s t → Bounded n (λ _. c) s (repeat turn st s)
-      go (again st′ ms k) e (goes u) = rw (repeat-again moves st s e) (bounded-less (λ _. omega arith) (after-bounded u (repeat-bounds st′ .on (drop k s))))
+      go (again st′ ms k) e (goes u) =
+          rw (repeat-again moves st s e)
+          (bounded-less (λ _. omega arith) (after-bounded u (repeat-bounds st′ .on (drop k s))))
       go (done o) e (ends h) = rw (repeat-done turn st s e) h
 
 -- what the bounds say of each answer

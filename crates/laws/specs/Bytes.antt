@@ -61,8 +61,13 @@ spaces-le s = run-le (λ b. eqb b 32) s
 pub eol-le : (s : List ℕ) → eol s ≤ length s
 unfolding eol startsWith
 eol-le [] = omega arith
-eol-le (b ∷ []) = byCase (eqb b 10) (λ q. rw (q, eol) (omega arith)) (λ q. byCase (eqb b 13) (λ r. rw (q, eol) (rw r (omega arith))) (λ r. rw (q, eol) (rw r (omega arith))))
-eol-le (b ∷ c ∷ cs) = byCase (eqb b 10) (λ q. rw (q, eol) (omega arith)) (λ q. rw (q, eol) (pick (λ e. e ≤ suc (suc (length cs))) (eqb b 13 && eqb c 10) 2 0 (λ r. omega arith) (λ r. omega arith)))
+eol-le (b ∷ []) =
+    byCase (eqb b 10) (λ q. rw (q, eol) (omega arith))
+    (λ q. byCase (eqb b 13) (λ r. rw (q, eol) (rw r (omega arith))) (λ r. rw (q, eol) (rw r (omega arith))))
+eol-le (b ∷ c ∷ cs) =
+    byCase (eqb b 10) (λ q. rw (q, eol) (omega arith))
+    (λ q. rw (q, eol)
+    (pick (λ e. e ≤ suc (suc (length cs))) (eqb b 13 && eqb c 10) 2 0 (λ r. omega arith) (λ r. omega arith)))
 
 pub startsWith-some : (b : ℕ) (s : List ℕ) → startsWith b s ≡ true → 0 < length s
 unfolding startsWith
@@ -70,10 +75,13 @@ startsWith-some b [] h = clash h refl
 startsWith-some b (c ∷ cs) h = omega arith
 
 -- a test that a newline fails does not see past the end of a line
-pub run-whole : (t : ℕ → Bool) → t 10 ≡ false → (b : ℕ) (bs y : List ℕ) → Whole (b ∷ bs) → (run t ((b ∷ bs) ++ y) ≡ run t (b ∷ bs)) × (run t (b ∷ bs) < suc (length bs))
+pub run-whole : (t : ℕ → Bool) → t 10 ≡ false → (b : ℕ) (bs y : List ℕ) → Whole (b ∷ bs)
+    → (run t ((b ∷ bs) ++ y) ≡ run t (b ∷ bs)) × (run t (b ∷ bs) < suc (length bs))
 unfolding run
 run-whole t e b [] y w = let q : t b ≡ false = rw w e in rw (q, run) (refl, omega arith)
-run-whole t e b (c ∷ cs) y w = byCase (t b) (λ q. rw (q, run) (ap suc (run-whole t e c cs y w .0), suc-le-suc (run-whole t e c cs y w .1))) (λ q. rw (q, run) (refl, omega arith))
+run-whole t e b (c ∷ cs) y w =
+    byCase (t b) (λ q. rw (q, run) (ap suc (run-whole t e c cs y w .0), suc-le-suc (run-whole t e c cs y w .1)))
+    (λ q. rw (q, run) (refl, omega arith))
 
 pub drop-app : (k : ℕ) (x y : List ℕ) → k ≤ length x → drop k (x ++ y) ≡ drop k x ++ y
 drop-app = drop-append-le
@@ -81,7 +89,9 @@ drop-app = drop-append-le
 pub eol-whole : (b : ℕ) (bs y : List ℕ) → Whole (b ∷ bs) → (eol ((b ∷ bs) ++ y) ≡ eol (b ∷ bs)) × (eol (b ∷ bs) ≤ suc (length bs))
 unfolding eol startsWith
 eol-whole b [] y w = rw w (refl, omega arith)
-eol-whole b (c ∷ cs) y w = byCase (eqb b 10) (λ q. rw (q, eol) (refl, omega arith)) (λ q. rw (q, eol) (byCase (eqb b 13 && eqb c 10) (λ r. rw r (refl, omega arith)) (λ r. rw r (refl, omega arith))))
+eol-whole b (c ∷ cs) y w =
+    byCase (eqb b 10) (λ q. rw (q, eol) (refl, omega arith))
+    (λ q. rw (q, eol) (byCase (eqb b 13 && eqb c 10) (λ r. rw r (refl, omega arith)) (λ r. rw r (refl, omega arith))))
 
 -- what stands after a cut starts with no blank
 pub fresh-run : (t : ℕ → Bool) → ((b : ℕ) → t b ≡ true → isFresh b ≡ false) → (y : List ℕ) → Fresh y → run t y ≡ 0
@@ -108,7 +118,8 @@ fresh-eol (b ∷ bs) f =
     byCase (eqb b 10) (λ q. clash f (not-fresh b 10 refl q))
     (λ q. byCase (eqb b 13) (λ r. clash f (not-fresh b 13 refl r)) (λ r. rw (q, eol, r) refl))
 
-pub spaces-whole : (b : ℕ) (bs y : List ℕ) → Whole (b ∷ bs) → (spaces ((b ∷ bs) ++ y) ≡ spaces (b ∷ bs)) × (spaces (b ∷ bs) < suc (length bs))
+pub spaces-whole : (b : ℕ) (bs y : List ℕ) → Whole (b ∷ bs) → (spaces ((b ∷ bs) ++ y) ≡ spaces (b ∷ bs))
+    × (spaces (b ∷ bs) < suc (length bs))
 unfolding spaces
 spaces-whole b bs y w = run-whole (λ b. eqb b 32) refl b bs y w
 

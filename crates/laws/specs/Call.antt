@@ -1,4 +1,5 @@
--- Calls that are accepted. Of a reading: what was read, that it stands in the slices, and that the writing call takes it. Of a writing: its text.
+-- Calls that are accepted. Of a reading: what was read, that it stands in the slices, and that the writing call takes
+-- it. Of a writing: its text.
 use Prim.Native.Nat.{ℕ}
 use native.Mathlib.Omega.{arith}
 use mathlib.Core.Path.{_≡_, refl, sym, ap, _∙_}
@@ -79,7 +80,9 @@ module _ (s t e : List ℕ) (h : readAnswer s (length t) (length e) ≡ Accepted
   -- no test refuses
   short : ltb maxLength (length s) ≡ false
   unfolding readAnswer
-  short = byCase (ltb maxLength (length s)) (λ q. let g = rw (q, readAnswer) at h in let z : _≡_ {A = ℕ} 0 1 = cc in absurd (omega arith)) (λ q. q)
+  short =
+      byCase (ltb maxLength (length s))
+      (λ q. let g = rw (q, readAnswer) at h in let z : _≡_ {A = ℕ} 0 1 = cc in absurd (omega arith)) (λ q. q)
 
   formed : firstIllFormed s ≡ none
   unfolding readAnswer
@@ -91,11 +94,18 @@ module _ (s t e : List ℕ) (h : readAnswer s (length t) (length e) ≡ Accepted
 
   trees : ltb (length t) (treeLayout (length s)) ≡ false
   unfolding readAnswer
-  trees = byCase (ltb (length t) (treeLayout (length s))) (λ q. let g = rw (short, readAnswer, formed, q) at h in let z : _≡_ {A = ℕ} 0 1 = cc in absurd (omega arith)) (λ q. q)
+  trees =
+      byCase (ltb (length t) (treeLayout (length s)))
+      (λ q. let g = rw (short, readAnswer, formed, q) at h in let z : _≡_ {A = ℕ} 0 1 = cc in absurd (omega arith))
+      (λ q. q)
 
   lists : ltb (length e) (errorLayout (length s)) ≡ false
   unfolding readAnswer
-  lists = byCase (ltb (length e) (errorLayout (length s))) (λ q. let g = rw (short, readAnswer, formed, trees, q) at h in let z : _≡_ {A = ℕ} 0 1 = cc in absurd (omega arith)) (λ q. q)
+  lists =
+      byCase (ltb (length e) (errorLayout (length s)))
+      (λ q. let g = rw (short, readAnswer, formed, trees, q) at h in let z : _≡_ {A = ℕ} 0 1 = cc in
+      absurd (omega arith))
+      (λ q. q)
 
   shallow : answerOf (parse maxOpen s) ≡ Accepted 0
   unfolding readAnswer
@@ -122,7 +132,9 @@ module _ (s t e : List ℕ) (h : readAnswer s (length t) (length e) ≡ Accepted
   marks-left =
       let d = read-of in
       let r = parse-read maxOpen s (d .reads) .0 .room in
-      ap marksIn (d .tree) ∙ tree-marks (treeCapacity (length s)) (d .marks) _ (omega arith) (proper maxOpen s (d .marks) (d .errors) (d .reads))
+      ap marksIn (d .tree)
+      ∙ tree-marks (treeCapacity (length s)) (d .marks) _ (omega arith)
+      (proper maxOpen s (d .marks) (d .errors) (d .reads))
 
   -- the writing call takes the tree that was left, whatever its output; it may refuse only for want of room
   pub tree-passes : Passes s (treeAfter s t e)
@@ -140,4 +152,6 @@ module _ (s t e : List ℕ) (h : readAnswer s (length t) (length e) ≡ Accepted
 
   pub writes : (o : ℕ) (junk : Bool) → writeAnswer s (treeAfter s t e) o junk ≡ textAnswer o (length (serialize s junk (read-of .marks)))
   unfolding writeAnswer
-  writes o junk = rw (none-refuses s (treeAfter s t e) tree-passes, writeAnswer) (ap (λ ms. textAnswer o (length (serialize s junk ms))) marks-left)
+  writes o junk =
+      rw (none-refuses s (treeAfter s t e) tree-passes, writeAnswer)
+      (ap (λ ms. textAnswer o (length (serialize s junk ms))) marks-left)

@@ -8,7 +8,8 @@ use borrow.Author.Tests.{eq-eqb, ne-eqb}
 use types.Run.{OneOf, miss}
 use denote.Enum.Declared.{tagOf}
 use Rattle.syntax.specs.declared.answer.Answer.{Answer}
-use Rattle.syntax.specs.declared.answer.Answer.the-variants.{Accepted, TooLong, NotUtf8, TreeTooShort, ErrorsTooShort, TooDeep, IllFormed, OutputTooShort}
+use Rattle.syntax.specs.declared.answer.Answer.the-variants.{Accepted, TooLong, NotUtf8, TreeTooShort, ErrorsTooShort}
+use Rattle.syntax.specs.declared.answer.Answer.the-variants.{TooDeep, IllFormed, OutputTooShort}
 use Rattle.syntax.proofs.answer.Answer.{the-type}
 use Rattle.syntax.specs.Answer.{numberOf, valueOf, effectOf, written, zeroed, untouched}
 

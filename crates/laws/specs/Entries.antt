@@ -15,7 +15,8 @@ use Rattle.syntax.specs.Reader.{Out, ok, bad, deep, fail, next, _>>=_, after, l
 use Rattle.syntax.specs.Helper.{skipBlankBlock, blockTurn, getIdentifier}
 use Rattle.syntax.specs.Comment.{getComment}
 use Rattle.syntax.specs.Pattern.{Inside, usedBy}
-use Rattle.syntax.specs.Core.{fields, Entry, asMessage, asComment, getEntry, Error, upError, Reading, read, refused, following, isNamed, count, kindOfEntry, entries}
+use Rattle.syntax.specs.Core.{fields, Entry, asMessage, asComment, getEntry, Error, upError, Reading, read, refused}
+use Rattle.syntax.specs.Core.{following, isNamed, count, kindOfEntry, entries}
 use Rattle.laws.specs.Bytes.{Fresh, byCase, clash, fresh-spaces, fresh-eol}
 use Rattle.laws.specs.File.{junk, entries-first, entries-far}
 use Rattle.laws.specs.Answers.{Holds, TurnHolds, loop-holds, sure-ok}
@@ -63,18 +64,25 @@ some-error ms x k (read os es) ns h = let z : _≡_ {A = ℕ} 0 1 = cc in omega 
 some-error ms x k (refused j) ns h = let z : _≡_ {A = ℕ} 0 1 = cc in omega arith
 
 module _ (sub : Inside) where
-  pub entries-with : (n b : ℕ) (bs : List ℕ) (e : Entry) (ms : List Mark) (k c u : ℕ) (gs : List Mark) (r : List ℕ) → getEntry sub (b ∷ bs) ≡ ok e ms k
+  pub entries-with : (n b : ℕ) (bs : List ℕ) (e : Entry) (ms : List Mark) (k c u : ℕ) (gs : List Mark) (r : List ℕ)
+      → getEntry sub (b ∷ bs) ≡ ok e ms k
       → skipBlankBlock (drop k (b ∷ bs)) ≡ ok c gs u → drop (k + u) (b ∷ bs) ≡ r
-      → entries (suc n) sub (b ∷ bs) ≡ following (node (kindOfEntry e (ltb c 2 && isNamed (getEntry sub r))) ms) [] (k + u) (entries n sub r)
+      → entries (suc n) sub (b ∷ bs) ≡ following (node (kindOfEntry e (ltb c 2 && isNamed (getEntry sub r))) ms) []
+      (k + u) (entries n sub r)
   unfolding entries usedBy count
   entries-with n b bs e ms k c u gs r p q d = rw (p, entries)
-      (ap (λ g. following (node (kindOfEntry e (ltb (count g) 2 && isNamed (getEntry sub (drop (k + usedBy g) (b ∷ bs))))) ms) [] (k + usedBy g) (entries n sub (drop (k + usedBy g) (b ∷ bs)))) q
+      (ap
+      (λ g. following
+      (node (kindOfEntry e (ltb (count g) 2 && isNamed (getEntry sub (drop (k + usedBy g) (b ∷ bs))))) ms) []
+      (k + usedBy g) (entries n sub (drop (k + usedBy g) (b ∷ bs)))) q
       ∙ ap (λ z. following (node (kindOfEntry e (ltb c 2 && isNamed (getEntry sub z))) ms) [] (k + u) (entries n sub z)) d)
 
-  pub junk-free : (n b : ℕ) (bs : List ℕ) (ma : List Mark) (f : ParserError) (k : ℕ) → entries (suc n) sub (b ∷ bs) ≡ read ma [] → getEntry sub (b ∷ bs) ≡ bad f k → ⊥
+  pub junk-free : (n b : ℕ) (bs : List ℕ) (ma : List Mark) (f : ParserError) (k : ℕ)
+      → entries (suc n) sub (b ∷ bs) ≡ read ma [] → getEntry sub (b ∷ bs) ≡ bad f k → ⊥
   junk-free n b bs ma f k e p = some-error _ _ _ _ ma (sym (entries-first sub n (junk p)) ∙ e)
 
-  pub not-deep : (n b : ℕ) (bs : List ℕ) (ma : List Mark) (es : List Error) (k : ℕ) → entries (suc n) sub (b ∷ bs) ≡ read ma es → getEntry sub (b ∷ bs) ≡ deep k → ⊥
+  pub not-deep : (n b : ℕ) (bs : List ℕ) (ma : List Mark) (es : List Error) (k : ℕ)
+      → entries (suc n) sub (b ∷ bs) ≡ read ma es → getEntry sub (b ∷ bs) ≡ deep k → ⊥
   not-deep n b bs ma es k e p = let q = entries-far sub n b bs p in let z : _≡_ {A = ℕ} 0 1 = cc in omega arith
 
   -- the first entry of a source that is read without junk
@@ -97,9 +105,23 @@ module _ (sub : Inside) where
       go : (o : Out Entry) → getEntry sub (b ∷ bs) ≡ o → Step n (b ∷ bs) ma
       go (ok e ms k) p =
           let (c, gs, u, g) = sure-ok (skipBlankBlock (drop k (b ∷ bs))) (block-sure (drop k (b ∷ bs))) in
-          let (mr, er, r, m, x) = following-read (node (kindOfEntry e (ltb c 2 && isNamed (getEntry sub (drop (k + u) (b ∷ bs))))) ms) (k + u) (entries n sub (drop (k + u) (b ∷ bs))) ma []
+          let (mr, er, r, m, x) =
+          following-read (node (kindOfEntry e (ltb c 2 && isNamed (getEntry sub (drop (k + u) (b ∷ bs))))) ms)
+          (k + u) (entries n sub (drop (k + u) (b ∷ bs))) ma []
           (sym (entries-with n b bs e ms k c u gs (drop (k + u) (b ∷ bs)) p g refl) ∙ h) in
-          record { e = e; ms = ms; k = k; c = c; gs = gs; u = u; mr = mr; entry = p; gap = g; rest = _∙_ {b = read mr er} r (ap (read mr) (map-nil (k + u) er x)); marks = m }
+          record {
+            e = e;
+            ms = ms;
+            k = k;
+            c = c;
+            gs = gs;
+            u = u;
+            mr = mr;
+            entry = p;
+            gap = g;
+            rest = _∙_ {b = read mr er} r (ap (read mr) (map-nil (k + u) er x));
+            marks = m;
+          }
       go (bad f k) p = absurd (junk-free n b bs ma f k h p)
       go (deep k) p = absurd (not-deep n b bs ma [] k h p)
 
@@ -157,16 +179,33 @@ module _ (sub : Inside) where
 
   pub nil-entry : (f : ParserError) × (k : ℕ) × (getEntry sub [] ≡ bad f k)
   unfolding getEntry startsWith asMessage fields _>>=_ next getIdentifier starts fail
-  nil-entry = (record { start = 0; end = 1; kind = Rattle.syntax.specs.declared.errors.ErrorKind.the-variants.ExpectedCharRange 1 }, 0, refl)
+  nil-entry = (
+    record {
+      start = 0;
+      end = 1;
+      kind = Rattle.syntax.specs.declared.errors.ErrorKind.the-variants.ExpectedCharRange 1;
+    },
+    0,
+    refl,
+  )
 
   pub nil-named : isNamed (getEntry sub []) ≡ false
   unfolding isNamed
   nil-named = let (f, k, e) = nil-entry in ap isNamed e
 
   -- what is no letter, '-' or '#' starts no entry
-  pub no-entry : (b : ℕ) (bs : List ℕ) → eqb b 35 ≡ false → eqb b 45 ≡ false → isLetter b ≡ false → (f : ParserError) × (k : ℕ) × (getEntry sub (b ∷ bs) ≡ bad f k)
+  pub no-entry : (b : ℕ) (bs : List ℕ) → eqb b 35 ≡ false → eqb b 45 ≡ false → isLetter b ≡ false → (f : ParserError)
+      × (k : ℕ) × (getEntry sub (b ∷ bs) ≡ bad f k)
   unfolding getEntry startsWith asMessage fields _>>=_ next getIdentifier starts fail
-  no-entry b bs p q r = (record { start = 0; end = 1; kind = Rattle.syntax.specs.declared.errors.ErrorKind.the-variants.ExpectedCharRange 1 }, 0, rw (p, getEntry) (rw q (rw (r, getIdentifier) refl)))
+  no-entry b bs p q r = (
+    record {
+      start = 0;
+      end = 1;
+      kind = Rattle.syntax.specs.declared.errors.ErrorKind.the-variants.ExpectedCharRange 1;
+    },
+    0,
+    rw (p, getEntry) (rw q (rw (r, getIdentifier) refl)),
+  )
 
   dotted-bad : (b : ℕ) (bs : List ℕ) → dotted (b ∷ bs) ≡ true → (f : ParserError) × (k : ℕ) × (getEntry sub (b ∷ bs) ≡ bad f k)
   unfolding startsWith spaces run isLetter

@@ -1,4 +1,5 @@
--- A file's entries, one by one. `First`: the entry or junk at the start of a rest, with the blank lines after it. `Passed`: some first entries of a
+-- A file's entries, one by one. `First`: the entry or junk at the start of a rest, with the blank lines after it.
+-- `Passed`: some first entries of a
 -- rest. What a reading has, it has part way: its marks, its errors and where it stands are bounded by the bytes passed.
 use Prim.Native.Nat.{ℕ, zero, suc, _+_, _*_, _≤_, _<_}
 use native.Mathlib.Nat.{not-suc-le-zero, le-of-suc-le-suc}
@@ -17,7 +18,9 @@ use Rattle.syntax.specs.Helper.{skipBlankBlock}
 use Rattle.syntax.specs.Comment.{levelOf, getComment}
 use Rattle.syntax.specs.Pattern.{Inside, usedBy}
 use Rattle.syntax.specs.Expression.{level}
-use Rattle.syntax.specs.Core.{Fields, fields, termFields, Entry, comment, message, term, asMessage, asTerm, asComment, getEntry, junkEnd, Error, upError, Reading, read, refused, following, isNamed, count, kindOfEntry, entries, parse}
+use Rattle.syntax.specs.Core.{Fields, fields, termFields, Entry, comment, message, term, asMessage, asTerm, asComment}
+use Rattle.syntax.specs.Core.{getEntry, junkEnd, Error, upError, Reading, read, refused, following, isNamed, count}
+use Rattle.syntax.specs.Core.{kindOfEntry, entries, parse}
 use Rattle.laws.specs.Bytes.{pick}
 use Rattle.laws.specs.Answers.{Holds, holds-map}
 use Rattle.laws.specs.Lines.Join.{Levelled, levelled}
@@ -44,7 +47,9 @@ module _ (sub : Inside) where
     where
       comments : startsWith 35 s ≡ true → Holds (λ l ms k. (0 < l) × (l ≤ 3)) (getComment s)
       comments q = unfold getComment repeat levelOf in
-          (holds-map (Levelled 0 s) (λ l ms k. (0 < l) × (l ≤ 3)) (λ l ms k h. let e = h .1 refl (levelOf-some s q) in (omega (arith, levelOf-some s q), omega arith)) (getComment s) (levelled (suc (length s)) 0 s))
+          (holds-map (Levelled 0 s) (λ l ms k. (0 < l) × (l ≤ 3))
+          (λ l ms k h. let e = h .1 refl (levelOf-some s q) in (omega (arith, levelOf-some s q), omega arith))
+          (getComment s) (levelled (suc (length s)) 0 s))
 
       ofComment : (o : Out ℕ) → Holds (λ l ms k. (0 < l) × (l ≤ 3)) o → Holds (λ e ms k. Small e) (asComment o)
       ofComment (ok l ms k) h = unfold asComment in h
@@ -57,7 +62,8 @@ module _ (sub : Inside) where
       ofTerm (deep k) = unfold asTerm in tt
 
       ofMessage : (o : Out Fields) → Holds (λ e ms k. Small e) (asMessage o)
-      ofMessage (ok f ms k) = unfold asMessage in (pick (Holds (λ e ms k. Small e)) (f .value || not (eqb (f .attributes) 0)) _ _ (λ q. tt) (λ q. tt))
+      ofMessage (ok f ms k) = unfold asMessage in
+          (pick (Holds (λ e ms k. Small e)) (f .value || not (eqb (f .attributes) 0)) _ _ (λ q. tt) (λ q. tt))
       ofMessage (bad f k) = unfold asMessage in tt
       ofMessage (deep k) = unfold asMessage in tt
 
@@ -85,25 +91,34 @@ pub data First (sub : Inside) (s : List ℕ) : List Mark → List Error → ℕ 
   entry : {e : Entry} {ms : List Mark} {k : ℕ} → getEntry sub s ≡ ok e ms k
       → First sub s (node (kindOfEntry e (near sub s k)) ms) [] (k + usedBy (skipBlankBlock (drop k s)))
   junk : {f : ParserError} {k : ℕ} → getEntry sub s ≡ bad f k
-      → First sub s (textNode 7 0 (junkEnd k s)) (record { fault = f; junkFrom = 0; junkTill = junkEnd k s } ∷ []) (junkEnd k s + usedBy (skipBlankBlock (drop (junkEnd k s) s)))
+      → First sub s (textNode 7 0 (junkEnd k s)) (record { fault = f; junkFrom = 0; junkTill = junkEnd k s } ∷ [])
+      (junkEnd k s + usedBy (skipBlankBlock (drop (junkEnd k s) s)))
 
 -- some first entries of a rest
 pub data Passed (sub : Inside) : List ℕ → List Mark → List Error → ℕ → Type 0 where
   none : {s : List ℕ} → Passed sub s [] [] 0
-  more : {b : ℕ} {bs : List ℕ} {ms ns : List Mark} {es fs : List Error} {k j : ℕ} → First sub (b ∷ bs) ms es k → Passed sub (drop k (b ∷ bs)) ns fs j
+  more : {b : ℕ} {bs : List ℕ} {ms ns : List Mark} {es fs : List Error} {k j : ℕ} → First sub (b ∷ bs) ms es k
+      → Passed sub (drop k (b ∷ bs)) ns fs j
       → Passed sub (b ∷ bs) (ms ++ moveUp k ns) (es ++ map (upError k) fs) (k + j)
 
 module _ {n : ℕ} {sub : Inside} (law : InsideBounds n sub) where
-  pub first-uses : {b : ℕ} {bs : List ℕ} {ms : List Mark} {es : List Error} {k : ℕ} → First sub (b ∷ bs) ms es k → Uses 4 (b ∷ bs) ms k × (length es ≤ 1)
+  pub first-uses : {b : ℕ} {bs : List ℕ} {ms : List Mark} {es : List Error} {k : ℕ} → First sub (b ∷ bs) ms es k
+      → Uses 4 (b ∷ bs) ms k × (length es ≤ 1)
   first-uses {b} {bs} (entry {e} {ms} {k} h) =
       let u = ok-uses (entry-bounds law) (b ∷ bs) h in
-      let v = uses-node {c = 6} (kindOfEntry e (near sub (b ∷ bs) k)) (omega arith) u in
-      (longer v (usedBy (skipBlankBlock (drop k (b ∷ bs)))) (omega (arith, u .within, block-le (drop k (b ∷ bs)), length-drop k (b ∷ bs))), omega arith)
+      let v = uses-node {c = 6} (kindOfEntry e (near sub (b ∷ bs) k)) (omega arith) u in (
+        longer v (usedBy (skipBlankBlock (drop k (b ∷ bs))))
+            (omega (arith, u .within, block-le (drop k (b ∷ bs)), length-drop k (b ∷ bs))),
+        omega arith,
+      )
   first-uses {b} {bs} (junk {k = k} h) =
       let j = junkEnd k (b ∷ bs) in
       let (l, w) = junkEnd-within k (b ∷ bs) (bad-within (entry-bounds law) (b ∷ bs) h) in
-      let v = uses-text {c = 4} j 7 0 j w (omega (arith, junk-moves sub b bs h)) in
-      (longer v (usedBy (skipBlankBlock (drop j (b ∷ bs)))) (omega (arith, w, block-le (drop j (b ∷ bs)), length-drop j (b ∷ bs))), omega arith)
+      let v = uses-text {c = 4} j 7 0 j w (omega (arith, junk-moves sub b bs h)) in (
+        longer v (usedBy (skipBlankBlock (drop j (b ∷ bs))))
+            (omega (arith, w, block-le (drop j (b ∷ bs)), length-drop j (b ∷ bs))),
+        omega arith,
+      )
 
   pub passed-uses : {s : List ℕ} {ms : List Mark} {es : List Error} {k : ℕ} → Passed sub s ms es k → Uses 0 s ms k × (length es ≤ k)
   passed-uses none = (uses-nil 0 (omega arith) (omega arith), omega arith)
@@ -119,7 +134,8 @@ pub data ReadKept (r : Reading) : Reading → Type 0 where
   sameReading : ReadKept r r
   lostReading : {r′ : Reading} (k : ℕ) → r ≡ refused k → ReadKept r r′
 
-pub following-kept : {r r′ : Reading} (ms : List Mark) (es : List Error) (k : ℕ) → ReadKept r r′ → ReadKept (following ms es k r) (following ms es k r′)
+pub following-kept : {r r′ : Reading} (ms : List Mark) (es : List Error) (k : ℕ) → ReadKept r r′
+    → ReadKept (following ms es k r) (following ms es k r′)
 unfolding following
 following-kept ms es k sameReading = sameReading
 following-kept ms es k (lostReading j e) = lostReading (k + j) (ap (following ms es k) e)
@@ -153,7 +169,8 @@ module _ (sub : Inside) where
   entries-far m b bs h = rw (h, entries)
 
   -- a reading that is not refused is the same with more entries allowed
-  pub entries-more : (m m′ : ℕ) (s : List ℕ) (ms : List Mark) (es : List Error) → m ≤ m′ → entries m sub s ≡ read ms es → entries m′ sub s ≡ read ms es
+  pub entries-more : (m m′ : ℕ) (s : List ℕ) (ms : List Mark) (es : List Error) → m ≤ m′ → entries m sub s ≡ read ms es
+      → entries m′ sub s ≡ read ms es
   entries-more m m′ s ms es l e = read-kept (go m m′ s l) e
     where
       go : (m m′ : ℕ) (s : List ℕ) → m ≤ m′ → ReadKept (entries m sub s) (entries m′ sub s)
@@ -162,17 +179,20 @@ module _ (sub : Inside) where
       go (suc m) (suc m′) [] l = unfold entries in sameReading
       go (suc m) (suc m′) (b ∷ bs) l = by (begins b bs) (λ r. go m m′ r (le-of-suc-le-suc l))
         where
-          by : Begins b bs → ((r : List ℕ) → ReadKept (entries m sub r) (entries m′ sub r)) → ReadKept (entries (suc m) sub (b ∷ bs)) (entries (suc m′) sub (b ∷ bs))
+          by : Begins b bs → ((r : List ℕ) → ReadKept (entries m sub r) (entries m′ sub r))
+              → ReadKept (entries (suc m) sub (b ∷ bs)) (entries (suc m′) sub (b ∷ bs))
           by (first {ms} {es} {k} f) ih = rw (entries-first m f, entries-first m′ f) (following-kept ms es k (ih (drop k (b ∷ bs))))
           by (far {k} h) ih = rw (entries-far m b bs h, entries-far m′ b bs h) sameReading
 
   -- a reading: all entries are passed, or the one after those passed is too deep
   pub data Result (s : List ℕ) : Reading → Type 0 where
     all : {ms : List Mark} {es : List Error} → Passed sub s ms es (length s) → Result s (read ms es)
-    stops : {ms : List Mark} {es : List Error} {k j i : ℕ} → Passed sub s ms es k → getEntry sub (drop k s) ≡ deep j → i ≡ k + j → Result s (refused i)
+    stops : {ms : List Mark} {es : List Error} {k j i : ℕ} → Passed sub s ms es k → getEntry sub (drop k s) ≡ deep j
+        → i ≡ k + j → Result s (refused i)
 
 module _ {n : ℕ} {sub : Inside} (law : InsideBounds n sub) where
-  shorter : {b : ℕ} {bs : List ℕ} {ms : List Mark} {es : List Error} {k : ℕ} (m : ℕ) → First sub (b ∷ bs) ms es k → length (b ∷ bs) < suc m → length (drop k (b ∷ bs)) < m
+  shorter : {b : ℕ} {bs : List ℕ} {ms : List Mark} {es : List Error} {k : ℕ} (m : ℕ) → First sub (b ∷ bs) ms es k
+      → length (b ∷ bs) < suc m → length (drop k (b ∷ bs)) < m
   shorter {b} {bs} {k = k} m f l = let u = first-uses law f .0 in omega (arith, u .room, length-drop k (b ∷ bs))
 
   -- with more entries allowed than there are bytes, how many does not matter
@@ -185,7 +205,9 @@ module _ {n : ℕ} {sub : Inside} (law : InsideBounds n sub) where
     where
       go : Begins sub b bs → ((r : List ℕ) → length r < m → length r < m′ → entries m sub r ≡ entries m′ sub r)
           → entries (suc m) sub (b ∷ bs) ≡ entries (suc m′) sub (b ∷ bs)
-      go (first {ms} {es} {k} f) ih = entries-first sub m f ∙ ap (following ms es k) (ih (drop k (b ∷ bs)) (shorter m f l) (shorter m′ f l′)) ∙ sym (entries-first sub m′ f)
+      go (first {ms} {es} {k} f) ih = entries-first sub m f
+          ∙ ap (following ms es k) (ih (drop k (b ∷ bs)) (shorter m f l) (shorter m′ f l′))
+          ∙ sym (entries-first sub m′ f)
       go (far h) ih = entries-far sub m b bs h ∙ sym (entries-far sub m′ b bs h)
 
   pub entries-result : (m : ℕ) (s : List ℕ) → length s < m → Result sub s (entries m sub s)
@@ -200,13 +222,18 @@ module _ {n : ℕ} {sub : Inside} (law : InsideBounds n sub) where
           let u = first-uses law f .0 in
           let e : k + length (drop k (b ∷ bs)) ≡ length (b ∷ bs) = omega (arith, u .within, length-drop k (b ∷ bs)) in
           (all (subst (Passed sub (b ∷ bs) (ms ++ moveUp k ns) (es ++ map (upError k) fs)) e (more f p)))
-      step {k = k} f (refused i) (stops {k = j} p h e) = (stops {i = k + i} (more f p) (ap (getEntry sub) (sym (drop-drop j k (b ∷ bs))) ∙ h) (omega arith))
+      step {k = k} f (refused i) (stops {k = j} p h e) =
+          (stops {i = k + i} (more f p) (ap (getEntry sub) (sym (drop-drop j k (b ∷ bs))) ∙ h) (omega arith))
 
-      go : Begins sub b bs → ((r : List ℕ) → length r < m → Result sub r (entries m sub r)) → Result sub (b ∷ bs) (entries (suc m) sub (b ∷ bs))
-      go (first {k = k} f) ih = subst (Result sub (b ∷ bs)) (sym (entries-first sub m f)) (step f (entries m sub (drop k (b ∷ bs))) (ih (drop k (b ∷ bs)) (shorter m f l)))
+      go : Begins sub b bs → ((r : List ℕ) → length r < m → Result sub r (entries m sub r))
+          → Result sub (b ∷ bs) (entries (suc m) sub (b ∷ bs))
+      go (first {k = k} f) ih =
+          subst (Result sub (b ∷ bs)) (sym (entries-first sub m f))
+          (step f (entries m sub (drop k (b ∷ bs))) (ih (drop k (b ∷ bs)) (shorter m f l)))
       go (far {k} h) ih = subst (Result sub (b ∷ bs)) (sym (entries-far sub m b bs h)) (stops {i = k} none h (omega arith))
 
-  pub entries-read : (m : ℕ) (s : List ℕ) → length s < m → {ms : List Mark} {es : List Error} → entries m sub s ≡ read ms es → Passed sub s ms es (length s)
+  pub entries-read : (m : ℕ) (s : List ℕ) → length s < m → {ms : List Mark} {es : List Error}
+      → entries m sub s ≡ read ms es → Passed sub s ms es (length s)
   entries-read m s l e = go (subst (Result sub s) e (entries-result m s l))
     where
       go : {ms : List Mark} {es : List Error} → Result sub s (read ms es) → Passed sub s ms es (length s)
@@ -239,13 +266,18 @@ module _ (n : ℕ) (s : List ℕ) where
       k : ℕ
       k = leading s
 
-      go : (r : Reading) → entries (suc (length s)) (level n) (drop k s) ≡ r → following [] [] k r ≡ read ms es → Uses 0 s ms (length s) × (length es ≤ length s)
+      go : (r : Reading) → entries (suc (length s)) (level n) (drop k s) ≡ r → following [] [] k r ≡ read ms es
+          → Uses 0 s ms (length s) × (length es ≤ length s)
       go (read ns fs) h e =
           let (u, l) = passed-uses (level-bounds n) (entries-read (level-bounds n) (suc (length s)) (drop k s) fewer h) in
           let z : k + length (drop k s) ≡ length s = omega (arith, length-drop k s, block-le s) in
           let m : moveUp k ns ≡ ms = cc in
-          let x : map (upError k) fs ≡ es = cc in
-          (subst (Uses 0 s ms) z (subst (λ z. Uses 0 s z (k + length (drop k s))) m (uses-after {c = 0} (uses-nil k (block-le s) (omega arith)) u)), omega (arith, ap length x, length-map fs (upError k), length-drop k s))
+          let x : map (upError k) fs ≡ es = cc in (
+            subst (Uses 0 s ms) z
+                (subst (λ z. Uses 0 s z (k + length (drop k s))) m
+                (uses-after {c = 0} (uses-nil k (block-le s) (omega arith)) u)),
+            omega (arith, ap length x, length-map fs (upError k), length-drop k s),
+          )
       go (refused j) h e = let z : _≡_ {A = ℕ} 0 1 = cc in absurd (omega arith)
 
   pub parse-room : {ms : List Mark} {es : List Error} → parse n s ≡ read ms es → (length ms ≤ 8 * length s) × (length es ≤ length s)
@@ -256,7 +288,8 @@ module _ (n : ℕ) (s : List ℕ) where
   unfolding parse following
   parse-refused {k} e = go (entries (suc (length s)) (level n) (drop (leading s) s)) refl e
     where
-      go : (r : Reading) → entries (suc (length s)) (level n) (drop (leading s) s) ≡ r → following [] [] (leading s) r ≡ refused k → (n ≤ k) × (k < length s)
+      go : (r : Reading) → entries (suc (length s)) (level n) (drop (leading s) s) ≡ r
+          → following [] [] (leading s) r ≡ refused k → (n ≤ k) × (k < length s)
       go (read ns fs) h e = let z : _≡_ {A = ℕ} 0 1 = cc in absurd (omega arith)
       go (refused i) h e =
           let (l, g) = entries-refused (level-bounds n) (suc (length s)) (drop (leading s) s) fewer h in

@@ -1,4 +1,5 @@
--- The marks of a reading are well formed: they follow the content models, with no more openings at a time than are allowed, and the places of
+-- The marks of a reading are well formed: they follow the content models, with no more openings at a time than are
+-- allowed, and the places of
 -- texts are edges in order, which in UTF-8 are character boundaries. So the writer refuses no reading's tree with 6.
 pub mod Edge
 pub mod Reader
@@ -52,11 +53,19 @@ module _ (n : ℕ) (s : List ℕ) (ms : List Mark) (es : List Error) where
           let p = entries-read (level-bounds n) (suc (length s)) (drop k s) (omega (arith, length-drop k s)) h in
           let w = passed-run (level-formed n) (level-bounds n) false (λ z. clash z refl) refl p in
           let m : moveUp k ns ≡ ms = cc in
-          record { to = 0; run = subst (Run (edge s) n 0 0 0) m (run-moved (edge (drop k s)) (edge s) k (λ a g. edge-add s k a (block-edge s) g) w); ended = refl }
+          record {
+            to = 0;
+            run =
+                subst (Run (edge s) n 0 0 0) m
+                (run-moved (edge (drop k s)) (edge s) k (λ a g. edge-add s k a (block-edge s) g) w);
+            ended = refl;
+          }
       go (refused j) h e = let z : _≡_ {A = ℕ} 0 1 = cc in absurd (omega arith)
 
   pub formed-utf8 : Utf8.WellFormed s → parse n s ≡ read ms es → WellFormed (isBoundary s) n ms
-  formed-utf8 w e = subst (WellFormed (isBoundary s) n) (moveUp-zero ms) (formed-moved (edge s) (isBoundary s) 0 (λ a g. rw zero-add (edge-boundary s w a g)) (formed e))
+  formed-utf8 w e =
+      subst (WellFormed (isBoundary s) n) (moveUp-zero ms)
+      (formed-moved (edge s) (isBoundary s) 0 (λ a g. rw zero-add (edge-boundary s w a g)) (formed e))
 
   -- T kinds, and no others, have places, within the file
   pub proper : parse n s ≡ read ms es → AllProper ms

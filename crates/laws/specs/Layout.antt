@@ -14,7 +14,8 @@ use Rattle.syntax.specs.Marks.{Mark, plain, placed, kindOf, placeOf}
 use Rattle.syntax.specs.Core.{Error}
 use Rattle.syntax.specs.Limits.{maxLength}
 use Rattle.syntax.specs.Tests.{sizesFit}
-use Rattle.syntax.specs.Layout.{array, treeCapacity, treeWords, groupSize, group, groups, errorNumber, errorWords, count, capacity, kinds, places, groupsIn, hasPlace, markOf, marksBy, marksIn}
+use Rattle.syntax.specs.Layout.{array, treeCapacity, treeWords, groupSize, group, groups, errorNumber, errorWords}
+use Rattle.syntax.specs.Layout.{count, capacity, kinds, places, groupsIn, hasPlace, markOf, marksBy, marksIn}
 
 array-length : (c : ℕ) (ws : List ℕ) → length ws ≤ c → length (array c ws) ≡ c
 unfolding array
@@ -29,7 +30,10 @@ first-array n c ws vs rest e =
 second-array : (n c d : ℕ) (ws vs rest : List ℕ) → length ws ≤ c → length vs ≡ n → take n (drop c ((array c ws ++ array d vs) ++ rest)) ≡ vs
 unfolding array
 second-array n c d ws vs rest h e =
-    ap (take n) (ap (drop c) (append-assoc (array c ws) (array d vs) rest) ∙ drop-at (array c ws) (array d vs ++ rest) c (array-length c ws h) ∙ append-assoc vs (replicate (d - length vs) 0) rest)
+    ap (take n)
+    (ap (drop c) (append-assoc (array c ws) (array d vs) rest)
+    ∙ drop-at (array c ws) (array d vs ++ rest) c (array-length c ws h)
+    ∙ append-assoc vs (replicate (d - length vs) 0) rest)
     ∙ take-at vs _ n e
 
 drop-sizes : (c a b : ℕ) (ws : List ℕ) → drop (2 + c) (a ∷ b ∷ ws) ≡ drop c ws
@@ -56,7 +60,11 @@ module _ (c : ℕ) (ms : List Mark) (rest : List ℕ) where
       let f = array-length c (map kindOf ms) (rw length-map h) in
       let g = array-length c (map placeOf ms) (rw length-map h) in
       let w : 2 + 2 * c ≤ n = omega (arith, length-append ws rest) in
-      and-eq-true-iff _ _ .1 (le-leb 2 n (omega arith), and-eq-true-iff _ _ .1 (le-leb c _ l, and-eq-true-iff _ _ .1 (le-leb (length ms) c h, le-leb (2 + 2 * c) n w)))
+      and-eq-true-iff _ _ .1 (
+        le-leb 2 n (omega arith),
+        and-eq-true-iff _ _ .1
+            (le-leb c _ l, and-eq-true-iff _ _ .1 (le-leb (length ms) c h, le-leb (2 + 2 * c) n w)),
+      )
 
 groups-length : (es : List Error) → length (groups es) ≡ groupSize * length es
 unfolding groups group
@@ -71,7 +79,8 @@ module _ (c : ℕ) (es : List Error) (rest : List ℕ) where
   pub error-groups : length es ≤ c → groupsIn (errorWords c es ++ rest) ≡ groups es
   unfolding groupsIn count capacity errorWords
   error-groups h =
-      ap (take (groupSize * length es)) (drop-sizes c (length es) c ((array c (map errorNumber es) ++ array (groupSize * c) (groups es)) ++ rest))
+      ap (take (groupSize * length es))
+      (drop-sizes c (length es) c ((array c (map errorNumber es) ++ array (groupSize * c) (groups es)) ++ rest))
       ∙ second-array (groupSize * length es) c (groupSize * c) (map errorNumber es) (groups es) rest (rw length-map h) (groups-length es)
 
 -- marks whose T kinds are just those that have a place
@@ -96,7 +105,16 @@ text-below : (x : ℕ) → 20 < x → Kind.isText x ≡ false
 unfolding Kind.isText
 text-below x h =
     let no : (k : ℕ) → k ≤ 20 → eqb x k ≡ false = λ k l. ne-eqb x k (λ e. omega arith) in
-    rw (no 7 (omega arith), no 8 (omega arith), no 9 (omega arith), no 12 (omega arith), no 17 (omega arith), no 18 (omega arith), no 19 (omega arith), no 20 (omega arith))
+    rw (
+      no 7 (omega arith),
+      no 8 (omega arith),
+      no 9 (omega arith),
+      no 12 (omega arith),
+      no 17 (omega arith),
+      no 18 (omega arith),
+      no 19 (omega arith),
+      no 20 (omega arith),
+    )
 
 -- a kind has a place if it is a T kind, and so has the kind that closes it
 opening-place : (kind : ℕ) (v : Bool) → kind ≤ Kind.namedArgument → Kind.isText kind ≡ v → hasPlace kind ≡ v

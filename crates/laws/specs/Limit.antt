@@ -1,4 +1,5 @@
--- With more openings allowed a reading that is not too deep is the same. (That a limit of the file's length is enough is `parse-reads` of File.)
+-- With more openings allowed a reading that is not too deep is the same. (That a limit of the file's length is enough
+-- is `parse-reads` of File.)
 pub mod Readers
 pub mod Readings
 use Prim.Native.Nat.{ℕ, zero, suc, _+_}
@@ -32,7 +33,8 @@ kept-by f q same = same
 kept-by f q (lost k e) = lost k (ap f e ∙ q k)
 
 module _ {A B : Type 0} where
-  pub kept-next : {q q′ : A → Reader B} {o o′ : Out A} (s : List ℕ) → Kept o o′ → ((a : A) → Keeps (q a) (q′ a)) → Kept (next s q o) (next s q′ o′)
+  pub kept-next : {q q′ : A → Reader B} {o o′ : Out A} (s : List ℕ) → Kept o o′ → ((a : A) → Keeps (q a) (q′ a))
+      → Kept (next s q o) (next s q′ o′)
   unfolding next
   kept-next {q} {q′} {o} s same f = go o
     where
@@ -71,7 +73,8 @@ module _ {S A : Type 0} {t t′ : S → List ℕ → Turn S A} (h : (st : S) (s 
   loop-kept (suc n) st s = go (t st s) (t′ st s) (h st s) (λ st′ r. loop-kept n st′ r)
     where
       go : (w w′ : Turn S A) → TurnKept w w′ → ((st′ : S) (r : List ℕ) → Kept (loop n t st′ r) (loop n t′ st′ r))
-          → Kept {A = A} (elim w [ again st′ ms k ↦ after ms k (loop n t st′ (drop k s)) | done o ↦ o ]) (elim w′ [ again st′ ms k ↦ after ms k (loop n t′ st′ (drop k s)) | done o ↦ o ])
+          → Kept {A = A} (elim w [ again st′ ms k ↦ after ms k (loop n t st′ (drop k s)) | done o ↦ o ])
+          (elim w′ [ again st′ ms k ↦ after ms k (loop n t′ st′ (drop k s)) | done o ↦ o ])
       go (again st′ ms k) w′ sameTurn f = kept-after ms k (f st′ (drop k s))
       go (done o) w′ sameTurn f = same
       go w w′ (lostTurn k e) f = rw e (lost k refl)

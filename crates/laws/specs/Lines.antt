@@ -15,7 +15,8 @@ use Rattle.syntax.specs.Bytes.{startsWith, run, eol, lineRun}
 use Rattle.syntax.specs.Core.{lineStartsAt}
 use Rattle.laws.specs.Bytes.{Whole, byCase, clash, run-whole}
 
-pub lineRun-whole : (b : ℕ) (bs y : List ℕ) → Whole (b ∷ bs) → (lineRun ((b ∷ bs) ++ y) ≡ lineRun (b ∷ bs)) × (lineRun (b ∷ bs) < suc (length bs))
+pub lineRun-whole : (b : ℕ) (bs y : List ℕ) → Whole (b ∷ bs) → (lineRun ((b ∷ bs) ++ y) ≡ lineRun (b ∷ bs))
+    × (lineRun (b ∷ bs) < suc (length bs))
 unfolding lineRun
 lineRun-whole b bs y w = run-whole (λ b. not (eqb b 10)) refl b bs y w
 
@@ -45,7 +46,8 @@ starts-on : (k j : ℕ) (s : List ℕ) → lineStartsAt (suc j) (drop k s) ≡ t
 unfolding lineStartsAt
 starts-on zero j s q = rw (zero-add (suc j)) q
 starts-on (suc k) j [] q = clash q refl
-starts-on (suc k) j (b ∷ bs) q = rw (suc-add k (suc j), add-suc k j) (subst (λ z. lineStartsAt z bs ≡ true) (add-suc k j) (starts-on k j bs q))
+starts-on (suc k) j (b ∷ bs) q =
+    rw (suc-add k (suc j), add-suc k j) (subst (λ z. lineStartsAt z bs ≡ true) (add-suc k j) (starts-on k j bs q))
 
 pub starts-later : (k j : ℕ) (s : List ℕ) → 0 < j → lineStartsAt j (drop k s) ≡ true → lineStartsAt (k + j) s ≡ true
 starts-later k zero s h q = absurd (not-suc-le-zero h)
@@ -63,10 +65,13 @@ eol-line (b ∷ bs) h = byCase (eqb b 10)
     (λ q. rw (q, eol) (omega (arith, lineRun-here b bs q)))
     (λ q. cr bs (rw (q, eol) at h) q)
   where
-    cr : (cs : List ℕ) → 0 < (elim (eqb b 13 && startsWith 10 cs) [ true ↦ 2 | false ↦ 0 ]) → eqb b 10 ≡ false → lineRun (b ∷ cs) + 1 ≡ eol (b ∷ cs)
+    cr : (cs : List ℕ) → 0 < (elim (eqb b 13 && startsWith 10 cs) [ true ↦ 2 | false ↦ 0 ]) → eqb b 10 ≡ false
+        → lineRun (b ∷ cs) + 1 ≡ eol (b ∷ cs)
     cr [] g q = byCase (eqb b 13) (λ r. absurd (not-suc-le-zero (rw r at g))) (λ r. absurd (not-suc-le-zero (rw r at g)))
     cr (c ∷ cs) g q = byCase (eqb b 13)
-        (λ r. byCase (eqb c 10) (λ t. rw (q, eol) (rw r (rw t (omega (arith, lineRun-on b (c ∷ cs) q, lineRun-here c cs t))))) (λ t. absurd (not-suc-le-zero (rw t at (rw r at g)))))
+        (λ r. byCase (eqb c 10)
+        (λ t. rw (q, eol) (rw r (rw t (omega (arith, lineRun-on b (c ∷ cs) q, lineRun-here c cs t)))))
+        (λ t. absurd (not-suc-le-zero (rw t at (rw r at g)))))
         (λ r. absurd (not-suc-le-zero (rw r at g)))
 
 -- a line end ends where a line starts
@@ -75,7 +80,8 @@ unfolding eol startsWith lineStartsAt
 eol-starts [] h = absurd (not-suc-le-zero h)
 eol-starts (b ∷ bs) h = byCase (eqb b 10) (λ q. rw (q, eol) q) (λ q. cr bs q (rw (q, eol) at h))
   where
-    cr : (cs : List ℕ) → eqb b 10 ≡ false → 0 < (elim (eqb b 13 && startsWith 10 cs) [ true ↦ 2 | false ↦ 0 ]) → lineStartsAt (eol (b ∷ cs)) (b ∷ cs) ≡ true
+    cr : (cs : List ℕ) → eqb b 10 ≡ false → 0 < (elim (eqb b 13 && startsWith 10 cs) [ true ↦ 2 | false ↦ 0 ])
+        → lineStartsAt (eol (b ∷ cs)) (b ∷ cs) ≡ true
     cr [] q g = byCase (eqb b 13) (λ r. absurd (not-suc-le-zero (rw r at g))) (λ r. absurd (not-suc-le-zero (rw r at g)))
     cr (c ∷ cs) q g = byCase (eqb b 13)
         (λ r. byCase (eqb c 10) (λ t. rw (q, eol) (rw r (rw t t))) (λ t. absurd (not-suc-le-zero (rw t at (rw r at g)))))

@@ -18,7 +18,8 @@ pub record Moves {S A : Type 0} (turn : S → List ℕ → Turn S A) : Type 0 wh
   pub moves : (st : S) (s : List ℕ) → Moved s (turn st s)
 
 module _ {S A : Type 0} {turn : S → List ℕ → Turn S A} where
-  pub turn-moves : Moves turn → (st : S) (s : List ℕ) {st′ : S} {ms : List Mark} {k : ℕ} → turn st s ≡ again st′ ms k → (0 < k) × (k ≤ length s)
+  pub turn-moves : Moves turn → (st : S) (s : List ℕ) {st′ : S} {ms : List Mark} {k : ℕ} → turn st s ≡ again st′ ms k
+      → (0 < k) × (k ≤ length s)
   turn-moves m st s e = subst (Moved s) e (m .moves st s)
 
   -- with more turns allowed than there are bytes, how many does not matter
@@ -29,7 +30,8 @@ module _ {S A : Type 0} {turn : S → List ℕ → Turn S A} where
   loop-fuel m (suc n) (suc n′) st s l l′ = go (turn st s) (m .moves st s) (λ st′ r h h′. loop-fuel m n n′ st′ r h h′)
     where
       go : (t : Turn S A) → Moved s t → ((st′ : S) (r : List ℕ) → length r < n → length r < n′ → loop n turn st′ r ≡ loop n′ turn st′ r)
-          → _≡_ {A = Out A} (elim t [ again st′ ms k ↦ after ms k (loop n turn st′ (drop k s)) | done o ↦ o ]) (elim t [ again st′ ms k ↦ after ms k (loop n′ turn st′ (drop k s)) | done o ↦ o ])
+          → _≡_ {A = Out A} (elim t [ again st′ ms k ↦ after ms k (loop n turn st′ (drop k s)) | done o ↦ o ])
+          (elim t [ again st′ ms k ↦ after ms k (loop n′ turn st′ (drop k s)) | done o ↦ o ])
       go (again st′ ms k) h f = ap (after ms k) (f st′ (drop k s) (omega (arith, length-drop k s)) (omega (arith, length-drop k s)))
       go (done o) h f = refl
 
@@ -38,8 +40,12 @@ module _ {S A : Type 0} {turn : S → List ℕ → Turn S A} where
   unfolding repeat loop
   repeat-again m st s {st′} {ms} {k} e =
       let h = turn-moves m st s e in
-      rw (e, loop) (ap (after ms k) (loop-fuel m (length s) (suc (length (drop k s))) st′ (drop k s) (omega (arith, length-drop k s)) (omega arith)))
+      rw (e, loop)
+      (ap (after ms k)
+      (loop-fuel m (length s) (suc (length (drop k s))) st′ (drop k s) (omega (arith, length-drop k s))
+      (omega arith)))
 
-pub repeat-done : {S A : Type 0} (turn : S → List ℕ → Turn S A) (st : S) (s : List ℕ) {o : Out A} → turn st s ≡ done o → repeat turn st s ≡ o
+pub repeat-done : {S A : Type 0} (turn : S → List ℕ → Turn S A) (st : S) (s : List ℕ) {o : Out A} → turn st s ≡ done o
+    → repeat turn st s ≡ o
 unfolding repeat loop
 repeat-done turn st s e = rw (e, loop)

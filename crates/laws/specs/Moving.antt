@@ -70,26 +70,41 @@ upKind-twice k j Errors.UnterminatedStringLiteral = refl
 upKind-twice k j Errors.PositionalArgumentFollowsNamed = refl
 upKind-twice k j (Errors.DuplicatedNamedArgument a e) = ap₂ Errors.DuplicatedNamedArgument (sym (add-assoc k j a)) (sym (add-assoc k j e))
 upKind-twice k j (Errors.UnknownEscapeSequence b) = refl
-upKind-twice k j (Errors.InvalidUnicodeEscapeSequence a e) = ap₂ Errors.InvalidUnicodeEscapeSequence (sym (add-assoc k j a)) (sym (add-assoc k j e))
+upKind-twice k j (Errors.InvalidUnicodeEscapeSequence a e) =
+    ap₂ Errors.InvalidUnicodeEscapeSequence (sym (add-assoc k j a)) (sym (add-assoc k j e))
 upKind-twice k j Errors.UnbalancedClosingBrace = refl
 upKind-twice k j Errors.ExpectedInlineExpression = refl
 upKind-twice k j Errors.ExpectedSimpleExpressionAsSelector = refl
 upKind-twice k j Errors.ExpectedLiteral = refl
 
 pub upFault-twice : (k j : ℕ) (f : ParserError) → upFault k (upFault j f) ≡ upFault (k + j) f
-upFault-twice k j f i = record { start = sym (add-assoc k j (f .start)) i; end = sym (add-assoc k j (f .end)) i; kind = upKind-twice k j (f .kind) i }
+upFault-twice k j f i =
+    record {
+      start = sym (add-assoc k j (f .start)) i;
+      end = sym (add-assoc k j (f .end)) i;
+      kind = upKind-twice k j (f .kind) i;
+    }
 
 upError-twice : (k j : ℕ) (e : Error) → upError k (upError j e) ≡ upError (k + j) e
 unfolding upError
-upError-twice k j e i = record { fault = upFault-twice k j (e .fault) i; junkFrom = sym (add-assoc k j (e .junkFrom)) i; junkTill = sym (add-assoc k j (e .junkTill)) i }
+upError-twice k j e i =
+    record {
+      fault = upFault-twice k j (e .fault) i;
+      junkFrom = sym (add-assoc k j (e .junkFrom)) i;
+      junkTill = sym (add-assoc k j (e .junkTill)) i;
+    }
 
 pub upErrors-twice : (k j : ℕ) (es : List Error) → map (upError k) (map (upError j) es) ≡ map (upError (k + j)) es
 upErrors-twice k j es = map-twice (upError k) (upError j) (upError (k + j)) (upError-twice k j) es
 
-pub marks-after : (ms : List Mark) (k : ℕ) (ns : List Mark) (j : ℕ) (os : List Mark) → ms ++ moveUp k (ns ++ moveUp j os) ≡ (ms ++ moveUp k ns) ++ moveUp (k + j) os
-marks-after ms k ns j os = ap (λ r. ms ++ r) (moveUp-append k ns (moveUp j os) ∙ ap (λ r. moveUp k ns ++ r) (moveUp-twice k j os)) ∙ sym (append-assoc ms (moveUp k ns) (moveUp (k + j) os))
+pub marks-after : (ms : List Mark) (k : ℕ) (ns : List Mark) (j : ℕ) (os : List Mark)
+    → ms ++ moveUp k (ns ++ moveUp j os) ≡ (ms ++ moveUp k ns) ++ moveUp (k + j) os
+marks-after ms k ns j os =
+    ap (λ r. ms ++ r) (moveUp-append k ns (moveUp j os) ∙ ap (λ r. moveUp k ns ++ r) (moveUp-twice k j os))
+    ∙ sym (append-assoc ms (moveUp k ns) (moveUp (k + j) os))
 
-pub after-after : {A : Type 0} (ms : List Mark) (k : ℕ) (ns : List Mark) (j : ℕ) (o : Out A) → after ms k (after ns j o) ≡ after (ms ++ moveUp k ns) (k + j) o
+pub after-after : {A : Type 0} (ms : List Mark) (k : ℕ) (ns : List Mark) (j : ℕ) (o : Out A)
+    → after ms k (after ns j o) ≡ after (ms ++ moveUp k ns) (k + j) o
 unfolding after
 after-after ms k ns j (ok a os i) = ap₂ (λ r n. ok a r n) (marks-after ms k ns j os) (sym (add-assoc k j i))
 after-after ms k ns j (bad f i) = ap₂ (λ g n. bad g n) (upFault-twice k j f) (sym (add-assoc k j i))
@@ -136,7 +151,10 @@ after-none (deep k) = ap deep (zero-add k)
 
 errors-after : (es : List Error) (k : ℕ) (fs : List Error) (j : ℕ) (gs : List Error)
     → es ++ map (upError k) (fs ++ map (upError j) gs) ≡ (es ++ map (upError k) fs) ++ map (upError (k + j)) gs
-errors-after es k fs j gs = ap (λ r. es ++ r) (map-append (upError k) fs (map (upError j) gs) ∙ ap (λ r. map (upError k) fs ++ r) (upErrors-twice k j gs)) ∙ sym (append-assoc es (map (upError k) fs) (map (upError (k + j)) gs))
+errors-after es k fs j gs =
+    ap (λ r. es ++ r)
+    (map-append (upError k) fs (map (upError j) gs) ∙ ap (λ r. map (upError k) fs ++ r) (upErrors-twice k j gs))
+    ∙ sym (append-assoc es (map (upError k) fs) (map (upError (k + j)) gs))
 
 pub following-twice : (ms : List Mark) (es : List Error) (k : ℕ) (ns : List Mark) (fs : List Error) (j : ℕ) (r : Reading)
     → following ms es k (following ns fs j r) ≡ following (ms ++ moveUp k ns) (es ++ map (upError k) fs) (k + j) r
@@ -146,13 +164,16 @@ following-twice ms es k ns fs j (refused i) = ap refused (sym (add-assoc k j i))
 
 -- ---- readers
 
-next-after : {A B : Type 0} (s : List ℕ) (ms : List Mark) (k : ℕ) (q : A → Reader B) (o : Out A) → next s q (after ms k o) ≡ after ms k (next (drop k s) q o)
+next-after : {A B : Type 0} (s : List ℕ) (ms : List Mark) (k : ℕ) (q : A → Reader B) (o : Out A)
+    → next s q (after ms k o) ≡ after ms k (next (drop k s) q o)
 unfolding next after
-next-after s ms k q (ok a ns j) = ap (λ r. after (ms ++ moveUp k ns) (k + j) (q a r)) (sym (drop-drop j k s)) ∙ sym (after-after ms k ns j (q a (drop j (drop k s))))
+next-after s ms k q (ok a ns j) = ap (λ r. after (ms ++ moveUp k ns) (k + j) (q a r)) (sym (drop-drop j k s))
+    ∙ sym (after-after ms k ns j (q a (drop j (drop k s))))
 next-after s ms k q (bad f j) = refl
 next-after s ms k q (deep j) = refl
 
-pub bind-bind : {A B C : Type 0} (p : Reader A) (q : A → Reader B) (r : B → Reader C) (s : List ℕ) → ((p >>= q) >>= r) s ≡ (p >>= λ a. q a >>= r) s
+pub bind-bind : {A B C : Type 0} (p : Reader A) (q : A → Reader B) (r : B → Reader C) (s : List ℕ)
+    → ((p >>= q) >>= r) s ≡ (p >>= λ a. q a >>= r) s
 unfolding _>>=_ next
 bind-bind {A} {B} {C} p q r s = go (p s)
   where

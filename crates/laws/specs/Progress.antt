@@ -69,7 +69,9 @@ TurnMoved (done o) = Moved o
 line-moved : (l : ℕ) (r : List ℕ) → 0 < l → TurnMoved (lineTurn 0 l r)
 unfolding lineTurn lineRead after fail
 line-moved l [] h = h
-line-moved l (b ∷ bs) h = pick TurnMoved (ltb 0 (eol (b ∷ bs))) _ _ (λ q. tt) (λ q. pick TurnMoved (eqb b 32) _ _ (λ q. tt) (λ q. omega arith))
+line-moved l (b ∷ bs) h =
+    pick TurnMoved (ltb 0 (eol (b ∷ bs))) _ _ (λ q. tt)
+    (λ q. pick TurnMoved (eqb b 32) _ _ (λ q. tt) (λ q. omega arith))
 
 getComment-moved : (s : List ℕ) → startsWith 35 s ≡ true → Moved (getComment s)
 unfolding getComment commentTurn
@@ -79,7 +81,8 @@ getComment-moved s h = go (commentTurn 0 s) refl (rw (starts, commentTurn) (line
     starts = ne-eqb (levelOf s) 0 (λ e. omega (arith, levelOf-some s h))
 
     go : (t : Turn ℕ ℕ) → commentTurn 0 s ≡ t → TurnMoved t → Moved (repeat commentTurn 0 s)
-    go (again st ms k) e m = let l = turn-moves commentTurn-moves 0 s e in rw (repeat-again commentTurn-moves 0 s e) (moved-after ms k (repeat commentTurn st (drop k s)) (l .0))
+    go (again st ms k) e m = let l = turn-moves commentTurn-moves 0 s e in
+        rw (repeat-again commentTurn-moves 0 s e) (moved-after ms k (repeat commentTurn st (drop k s)) (l .0))
     go (done o) e m = rw (repeat-done commentTurn 0 s e) m
 
 module _ (sub : Inside) where
@@ -87,9 +90,15 @@ module _ (sub : Inside) where
   unfolding getEntry startsWith fields termFields expectByte _>>=_ _>>_
   fresh-moved b bs f = byCase (eqb b 35) (λ q. rw (q, getEntry) (comment-moved (getComment (b ∷ bs)) (getComment-moved (b ∷ bs) q)))
       (λ q. byCase (eqb b 45)
-      (λ r. rw (q, getEntry) (rw r (term-moved (termFields sub (b ∷ bs)) (moved-next (b ∷ bs) (λ _. fields sub) (expectByte 45 (b ∷ bs)) (rw (r, expectByte) (omega arith))))))
+      (λ r. rw (q, getEntry)
+      (rw r
+      (term-moved (termFields sub (b ∷ bs))
+      (moved-next (b ∷ bs) (λ _. fields sub) (expectByte 45 (b ∷ bs)) (rw (r, expectByte) (omega arith))))))
       (λ r. byCase (isLetter b)
-      (λ t. rw (q, getEntry) (rw r (message-moved (fields sub (b ∷ bs)) (moved-next (b ∷ bs) _ (getIdentifier 9 (b ∷ bs)) (identifier-moved b bs t)))))
+      (λ t. rw (q, getEntry)
+      (rw r
+      (message-moved (fields sub (b ∷ bs))
+      (moved-next (b ∷ bs) _ (getIdentifier 9 (b ∷ bs)) (identifier-moved b bs t)))))
       (λ t. clash f (rw t (rw r (rw q refl))))))
 
   -- junk uses a byte
@@ -98,5 +107,7 @@ module _ (sub : Inside) where
   junk-moves b bs {f} {k} h = go k h
     where
       go : (k : ℕ) → getEntry sub (b ∷ bs) ≡ bad f k → 0 < junkEnd k (b ∷ bs)
-      go zero h = byCase (isFresh b) (λ q. absurd (not-suc-le-zero (subst Moved h (fresh-moved b bs q)))) (λ q. rw (q, toNextEntry) (omega arith))
+      go zero h =
+          byCase (isFresh b) (λ q. absurd (not-suc-le-zero (subst Moved h (fresh-moved b bs q))))
+          (λ q. rw (q, toNextEntry) (omega arith))
       go (suc k) h = omega arith

@@ -1,5 +1,6 @@
 -- What a reader does at a cut. Of a source x that is empty or ends in a newline, and of what follows it:
--- `stops`: where a '#' or nothing follows, it uses no more than x. `keeps`: it answers on x and y what it answered on x, where it left some of x
+-- `stops`: where a '#' or nothing follows, it uses no more than x. `keeps`: it answers on x and y what it answered on
+-- x, where it left some of x
 -- (loose), where what follows is fresh (fresh), always (any), or never (none).
 pub mod Helper
 pub mod Pattern
@@ -18,7 +19,8 @@ use lib.ListN.{drop, length, length-drop, length-append}
 use Rattle.syntax.specs.Marks.{Mark, node}
 use Rattle.syntax.specs.declared.errors.ErrorKind.{ErrorKind}
 use Rattle.syntax.specs.declared.errors.ParserError.{ParserError}
-use Rattle.syntax.specs.Reader.{Out, ok, bad, deep, Reader, after, next, _>>=_, _>>_, pure, fail, wrap, inNode, Turn, again, done, turnOf, loop, repeat}
+use Rattle.syntax.specs.Reader.{Out, ok, bad, deep, Reader, after, next, _>>=_, _>>_, pure, fail, wrap, inNode, Turn}
+use Rattle.syntax.specs.Reader.{again, done, turnOf, loop, repeat}
 pub use Rattle.laws.specs.Answers.{Holds, Takes, plain-next}
 use Rattle.laws.specs.Answers.{holds-map, holds-after, takes-next}
 use Rattle.laws.specs.Bytes.{Whole, whole-drop, Fresh, Stop, drop-app}
@@ -82,7 +84,13 @@ weaker N M h (bad f k) o′ c = tt
 weaker N M h (deep k) o′ c = tt
 
 pub from-any : {A : Type 0} (m : Mode) {p : Reader A} → Reads any p → Reads m p
-from-any m {p} r = record { stops = r .stops; keeps = λ x y w. weaker (Upto any y (length x)) (Upto m y (length x)) (λ k u. upto-le m y (length x) k u) (p x) (p (x ++ y)) (r .keeps x y w) }
+from-any m {p} r =
+    record {
+      stops = r .stops;
+      keeps =
+          λ x y w. weaker (Upto any y (length x)) (Upto m y (length x)) (λ k u. upto-le m y (length x) k u) (p x) (p (x ++ y))
+          (r .keeps x y w);
+    }
 
 pub after-within : {A : Type 0} (n k : ℕ) (ms : List Mark) (o : Out A) → k ≤ n → Within (n - k) o → Within n (after ms k o)
 after-within n k ms o h w = holds-after (λ a ns j. j ≤ n - k) (λ a ns j. j ≤ n) ms k (λ a ns j g. omega arith) o w
@@ -96,7 +104,8 @@ module _ {A B : Type 0} where
   pub next-within : (x y : List ℕ) (q : A → Reader B) (o : Out A) → Within (length x) o
       → ((a : A) (k : ℕ) → k ≤ length x → Within (length (drop k x)) (q a (drop k x ++ y))) → Within (length x) (next (x ++ y) q o)
   unfolding next
-  next-within x y q (ok a ms k) h f = rw (drop-app k x y) (after-within (length x) k ms (q a (drop k x ++ y)) h (rw length-drop at (f a k h)))
+  next-within x y q (ok a ms k) h f =
+      rw (drop-app k x y) (after-within (length x) k ms (q a (drop k x ++ y)) h (rw length-drop at (f a k h)))
   next-within x y q (bad f k) h g = tt
   next-within x y q (deep k) h g = tt
 
@@ -118,7 +127,8 @@ module _ {A B : Type 0} where
   unfolding next
   next-keeps m n x y q (ok a ms k) o′ c f d =
       next-ok (Upto m y (length x)) x y q a ms k o′ (q a (drop k x)) (λ j u. upto-le m y (length x) k (upto-down m y (length x) k j u))
-      (weaker (Upto m y (length (drop k x))) (λ j. Upto m y (length x) (k + j)) (λ j u. upto-rest m y x k j u) (q a (drop k x)) (q a (drop k x ++ y)) (f a k))
+      (weaker (Upto m y (length (drop k x))) (λ j. Upto m y (length x) (k + j)) (λ j u. upto-rest m y x k j u)
+      (q a (drop k x)) (q a (drop k x ++ y)) (f a k))
       (λ b ns j e u. c (d a b ns k j e u))
   next-keeps m n x y q (bad f k) o′ c g d = tt
   next-keeps m n x y q (deep k) o′ c g d = tt
@@ -127,7 +137,9 @@ module _ {A B : Type 0} where
   unfolding _>>=_
   bind {m} {p} {q} r f = record {
     stops = λ x y w s. next-within x y q (p (x ++ y)) (r .stops x y w s) (λ a k h. f a .stops (drop k x) y (whole-drop k x w) s);
-    keeps = λ x y w. next-keeps m m x y q (p x) (p (x ++ y)) (r .keeps x y w) (λ a k. f a .keeps (drop k x) y (whole-drop k x w)) (λ a b ns k j e u. upto-down m y (length x) k j u);
+    keeps =
+        λ x y w. next-keeps m m x y q (p x) (p (x ++ y)) (r .keeps x y w)
+        (λ a k. f a .keeps (drop k x) y (whole-drop k x w)) (λ a b ns k j e u. upto-down m y (length x) k j u);
   }
 
   pub then : {m : Mode} {p : Reader A} {q : Reader B} → Reads m p → Reads m q → Reads m (p >> q)
@@ -139,7 +151,9 @@ module _ {A B : Type 0} where
   bind-closes {p} {q} r f = record {
     reads = record {
       stops = λ x y w s. next-within x y q (p (x ++ y)) (r .stops x y w s) (λ a k h. f a .reads .stops (drop k x) y (whole-drop k x w) s);
-      keeps = λ x y w. next-keeps any loose x y q (p x) (p (x ++ y)) (r .keeps x y w) (λ a k. f a .reads .keeps (drop k x) y (whole-drop k x w))
+      keeps =
+          λ x y w. next-keeps any loose x y q (p x) (p (x ++ y)) (r .keeps x y w)
+          (λ a k. f a .reads .keeps (drop k x) y (whole-drop k x w))
           (λ a b ns k j e u. takes-upto y (length x) k j b ns (q a (drop k x)) (f a .takes (drop k x)) e u);
     };
     takes = λ s. takes-next s q (p s) (λ a r. f a .takes r);
@@ -175,7 +189,8 @@ module _ {A B : Type 0} {f : Out A → Out B} where
 
 -- given by what becomes of each kind of answer
 module _ {A B : Type 0} (f : Out A → Out B) (g : A → List Mark → ℕ → B) (h : A → List Mark → ℕ → List Mark)
-    (good : (a : A) (ms : List Mark) (k : ℕ) → f (ok a ms k) ≡ ok (g a ms k) (h a ms k) k) (wrong : (e : ParserError) (k : ℕ) → f (bad e k) ≡ bad e k) (far : (k : ℕ) → f (deep k) ≡ deep k) where
+    (good : (a : A) (ms : List Mark) (k : ℕ) → f (ok a ms k) ≡ ok (g a ms k) (h a ms k) k)
+    (wrong : (e : ParserError) (k : ℕ) → f (bad e k) ≡ bad e k) (far : (k : ℕ) → f (deep k) ≡ deep k) where
   relabels-within : (n : ℕ) (o : Out A) → Within n o → Within n (f o)
   relabels-within n (ok a ms k) w = subst (Within n) (sym (good a ms k)) w
   relabels-within n (bad e k) w = subst (Within n) (sym (wrong e k)) tt
@@ -219,7 +234,8 @@ TurnCarries H N (done (deep k)) t = Unit {0}
 
 pub record Turns {S A : Type 0} (m : Mode) (I : S → List ℕ → Type 0) (t : S → List ℕ → Turn S A) : Type 0 where
   pub stops : (st : S) (x y : List ℕ) → Whole x → I st x → Stop y → TurnWithin (λ st′ k. I st′ (drop k x)) (length x) (t st (x ++ y))
-  pub keeps : (st : S) (x y : List ℕ) → Whole x → I st x → TurnCarries (λ st′ k. I st′ (drop k x)) (Upto m y (length x)) (t st x) (t st (x ++ y))
+  pub keeps : (st : S) (x y : List ℕ) → Whole x → I st x
+      → TurnCarries (λ st′ k. I st′ (drop k x)) (Upto m y (length x)) (t st x) (t st (x ++ y))
 
 pub done-carries : {S A : Type 0} (H : S → ℕ → Type 0) (N : ℕ → Type 0) (o o′ : Out A) → Carries N o o′ → TurnCarries H N (done o) (done o′)
 done-carries H N (ok a ms k) o′ c = λ u. ap done (c u)
@@ -233,7 +249,8 @@ Free st k = Unit {0}
 abbrev pub Any : {S : Type 0} → S → List ℕ → Type 0
 Any st x = Unit {0}
 
-pub turnOf-carries : (A : Type 0) {S : Type 0} (N : ℕ → Type 0) (o o′ : Out S) → Carries N o o′ → TurnCarries {A = A} Free N (turnOf o) (turnOf o′)
+pub turnOf-carries : (A : Type 0) {S : Type 0} (N : ℕ → Type 0) (o o′ : Out S) → Carries N o o′
+    → TurnCarries {A = A} Free N (turnOf o) (turnOf o′)
 unfolding turnOf
 turnOf-carries A N (ok a ms k) o′ c = λ u. (ap turnOf (c u), tt)
 turnOf-carries A N (bad f k) o′ c = tt
@@ -249,7 +266,9 @@ module _ {S A : Type 0} (t : S → List ℕ → Turn S A) where
   step-within : (H : S → ℕ → Type 0) (n : ℕ) (x y : List ℕ) (w : Turn S A) → TurnWithin H (length x) w
       → ((st : S) (k : ℕ) → k ≤ length x → H st k → Within (length (drop k x)) (loop n t st (drop k x ++ y)))
       → Within {A = A} (length x) (elim w [ again st′ ms k ↦ after ms k (loop n t st′ (drop k (x ++ y))) | done o ↦ o ])
-  step-within H n x y (again st ms k) h f = rw (drop-app k x y (h .0)) (after-within (length x) k ms (loop n t st (drop k x ++ y)) (h .0) (rw length-drop at (f st k (h .0) (h .1))))
+  step-within H n x y (again st ms k) h f =
+      rw (drop-app k x y (h .0))
+      (after-within (length x) k ms (loop n t st (drop k x ++ y)) (h .0) (rw length-drop at (f st k (h .0) (h .1))))
   step-within H n x y (done o) h f = h
 
   step-carries : (H : S → ℕ → Type 0) (m : Mode) (n n′ : ℕ) (x y : List ℕ) (w w′ : Turn S A) → TurnCarries H (Upto m y (length x)) w w′
@@ -260,7 +279,8 @@ module _ {S A : Type 0} (t : S → List ℕ → Turn S A) where
   step-carries H m n n′ x y (again st ms k) w′ c f = go (loop n t st (drop k x)) (λ q. f st k q)
     where
       go : (o : Out A) → (H st k → Carries (Upto m y (length (drop k x))) o (loop n′ t st (drop k x ++ y)))
-          → Carries (Upto m y (length x)) (after ms k o) (elim w′ [ again st′ ms k ↦ after ms k (loop n′ t st′ (drop k (x ++ y))) | done o ↦ o ])
+          → Carries (Upto m y (length x)) (after ms k o)
+          (elim w′ [ again st′ ms k ↦ after ms k (loop n′ t st′ (drop k (x ++ y))) | done o ↦ o ])
       go (ok a ns j) h = λ u.
           let v = upto-down m y (length x) k j u in
           rw (c v .0) (rw (drop-app k x y (upto-le m y (length x) k v)) (ap (after ms k) (h (c v .1) (upto-rest m y x k j u))))
@@ -275,9 +295,11 @@ module _ {S A : Type 0} (t : S → List ℕ → Turn S A) where
     unfolding loop
     loop-stops zero st x y w i s = tt
     loop-stops (suc n) st x y w i s =
-        step-within (λ st′ k. I st′ (drop k x)) n x y (t st (x ++ y)) (r .stops st x y w i s) (λ st′ k h j. loop-stops n st′ (drop k x) y (whole-drop k x w) j s)
+        step-within (λ st′ k. I st′ (drop k x)) n x y (t st (x ++ y)) (r .stops st x y w i s)
+        (λ st′ k h j. loop-stops n st′ (drop k x) y (whole-drop k x w) j s)
 
-    pub loop-keeps : (n n′ : ℕ) (st : S) (x y : List ℕ) → n ≤ n′ → Whole x → I st x → Carries (Upto m y (length x)) (loop n t st x) (loop n′ t st (x ++ y))
+    pub loop-keeps : (n n′ : ℕ) (st : S) (x y : List ℕ) → n ≤ n′ → Whole x → I st x
+        → Carries (Upto m y (length x)) (loop n t st x) (loop n′ t st (x ++ y))
     unfolding loop
     loop-keeps zero n′ st x y le w i = tt
     loop-keeps (suc n) zero st x y le w i = absurd (not-suc-le-zero le)
@@ -311,7 +333,8 @@ pub record Inner {A : Type 0} (m : Mode) (p : Reader A) : Type 0 where
 short-after : {A : Type 0} (n k : ℕ) (ms : List Mark) (o : Out A) → k ≤ n → Short (n - k) o → Short n (after ms k o)
 short-after n k ms o h w = holds-after (λ a ns j. j < n - k) (λ a ns j. j < n) ms k (λ a ns j g. omega arith) o w
 
-pub inner-within : {B : Type 0} {m : Mode} {p : Reader B} → Inner m p → (x y : List ℕ) → 0 < length x → Whole x → Stop y → Within (length x) (p (x ++ y))
+pub inner-within : {B : Type 0} {m : Mode} {p : Reader B} → Inner m p → (x y : List ℕ) → 0 < length x → Whole x → Stop y
+    → Within (length x) (p (x ++ y))
 inner-within i [] y h w s = absurd (not-suc-le-zero h)
 inner-within i (b ∷ bs) y h w s = i .stops b bs y w s
 
@@ -325,15 +348,22 @@ module _ {A B : Type 0} {m : Mode} {p : Reader A} {q : A → Reader B} where
   bind-strict r f = record { short = λ x y w s. go x y w s (p (x ++ y)) (r .stops x y w s) }
     where
       go : (x y : List ℕ) → Whole x → Stop y → (o : Out A) → Within (length x) o → Short (length x) (next (x ++ y) q o)
-      go x y w s (ok a ms k) h = rw (drop-app k x y h) (short-after (length x) k ms (q a (drop k x ++ y)) h (rw length-drop at (f a .short (drop k x) y (whole-drop k x w) s)))
+      go x y w s (ok a ms k) h =
+          rw (drop-app k x y h)
+          (short-after (length x) k ms (q a (drop k x ++ y)) h
+          (rw length-drop at (f a .short (drop k x) y (whole-drop k x w) s)))
       go x y w s (bad e k) h = tt
       go x y w s (deep k) h = tt
 
   pub inner-bind : Inner m p → ((a : A) → Reads m (q a)) → Inner m (p >>= q)
   unfolding _>>=_
   inner-bind r f = record {
-    stops = λ b bs y w s. next-within (b ∷ bs) y q (p ((b ∷ bs) ++ y)) (r .stops b bs y w s) (λ a k h. f a .stops (drop k (b ∷ bs)) y (whole-drop k (b ∷ bs) w) s);
-    keeps = λ b bs y w. next-keeps m m (b ∷ bs) y q (p (b ∷ bs)) (p ((b ∷ bs) ++ y)) (r .keeps b bs y w) (λ a k. f a .keeps (drop k (b ∷ bs)) y (whole-drop k (b ∷ bs) w))
+    stops =
+        λ b bs y w s. next-within (b ∷ bs) y q (p ((b ∷ bs) ++ y)) (r .stops b bs y w s)
+        (λ a k h. f a .stops (drop k (b ∷ bs)) y (whole-drop k (b ∷ bs) w) s);
+    keeps =
+        λ b bs y w. next-keeps m m (b ∷ bs) y q (p (b ∷ bs)) (p ((b ∷ bs) ++ y)) (r .keeps b bs y w)
+        (λ a k. f a .keeps (drop k (b ∷ bs)) y (whole-drop k (b ∷ bs) w))
         (λ a c ns k j e u. upto-down m y (length (b ∷ bs)) k j u);
   }
 
@@ -341,13 +371,17 @@ module _ {A B : Type 0} {m : Mode} {p : Reader A} {q : A → Reader B} where
   unfolding _>>=_ next
   strict-bind r t f = record {
     stops = λ x y w s. go x y w s (p (x ++ y)) (t .short x y w s);
-    keeps = λ x y w. keep x y w (p x) (p (x ++ y)) (subst (λ z. Short (length x) (p z)) (append-nil x) (t .short x [] w tt)) (r .keeps x y w);
+    keeps =
+        λ x y w. keep x y w (p x) (p (x ++ y)) (subst (λ z. Short (length x) (p z)) (append-nil x) (t .short x [] w tt))
+        (r .keeps x y w);
   }
     where
       go : (x y : List ℕ) → Whole x → Stop y → (o : Out A) → Short (length x) o → Within (length x) (next (x ++ y) q o)
       go x y w s (ok a ms k) h =
           let le : k ≤ length x = omega arith in
-          rw (drop-app k x y le) (after-within (length x) k ms (q a (drop k x ++ y)) le (rw length-drop at (inner-within (f a) (drop k x) y (rw length-drop (omega arith)) (whole-drop k x w) s)))
+          rw (drop-app k x y le)
+          (after-within (length x) k ms (q a (drop k x ++ y)) le
+          (rw length-drop at (inner-within (f a) (drop k x) y (rw length-drop (omega arith)) (whole-drop k x w) s)))
       go x y w s (bad e k) h = tt
       go x y w s (deep k) h = tt
 
@@ -355,7 +389,9 @@ module _ {A B : Type 0} {m : Mode} {p : Reader A} {q : A → Reader B} where
           → Carries (Upto m y (length x)) (next x q o) (next (x ++ y) q o′)
       keep x y w (ok a ms k) o′ h c =
           next-ok (Upto m y (length x)) x y q a ms k o′ (q a (drop k x)) (λ j u. upto-le m y (length x) k (upto-down m y (length x) k j u))
-          (weaker (Upto m y (length (drop k x))) (λ j. Upto m y (length x) (k + j)) (λ j u. upto-rest m y x k j u) (q a (drop k x)) (q a (drop k x ++ y)) (inner-keeps (f a) (drop k x) y (rw length-drop (omega arith)) (whole-drop k x w)))
+          (weaker (Upto m y (length (drop k x))) (λ j. Upto m y (length x) (k + j)) (λ j u. upto-rest m y x k j u)
+          (q a (drop k x)) (q a (drop k x ++ y))
+          (inner-keeps (f a) (drop k x) y (rw length-drop (omega arith)) (whole-drop k x w)))
           (λ b ns j e u. c (upto-down m y (length x) k j u))
       keep x y w (bad e k) o′ h c = tt
       keep x y w (deep k) o′ h c = tt
@@ -376,12 +412,17 @@ module _ {A B : Type 0} {m : Mode} {p : Reader A} {q : Reader B} where
 -- what follows k bytes and some marks
 module _ {A : Type 0} (p : Reader A) (r : Reads loose p) (x y : List ℕ) (w : Whole x) (ms : List Mark) (k : ℕ) where
   pub cont-within : Stop y → k ≤ length x → Within (length x) (after ms k (p (drop k (x ++ y))))
-  cont-within s h = rw (drop-app k x y h) (after-within (length x) k ms (p (drop k x ++ y)) h (rw length-drop at (r .stops (drop k x) y (whole-drop k x w) s)))
+  cont-within s h =
+      rw (drop-app k x y h)
+      (after-within (length x) k ms (p (drop k x ++ y)) h
+      (rw length-drop at (r .stops (drop k x) y (whole-drop k x w) s)))
 
   pub cont-keeps : Carries (Upto loose y (length x)) (after ms k (p (drop k x))) (after ms k (p (drop k (x ++ y))))
   unfolding next
   cont-keeps = next-ok {A = Unit {0}} (Upto loose y (length x)) x y (λ _. p) tt ms k (ok tt ms k) (p (drop k x)) (λ j u. omega arith)
-      (weaker (Upto loose y (length (drop k x))) (λ j. Upto loose y (length x) (k + j)) (λ j u. upto-rest loose y x k j u) (p (drop k x)) (p (drop k x ++ y)) (r .keeps (drop k x) y (whole-drop k x w)))
+      (weaker (Upto loose y (length (drop k x))) (λ j. Upto loose y (length x) (k + j))
+      (λ j u. upto-rest loose y x k j u) (p (drop k x)) (p (drop k x ++ y))
+      (r .keeps (drop k x) y (whole-drop k x w)))
       (λ b ns j e u. refl)
 
 pub carries-trans : {A : Type 0} (N : ℕ → Type 0) (o o′ o″ : Out A) → Carries N o o′ → Holds (λ b ns j. N j → o″ ≡ o′) o → Carries N o o″
@@ -396,9 +437,12 @@ after-least ms k (ok a ns j) = omega arith
 after-least ms k (bad f j) = tt
 after-least ms k (deep j) = tt
 
-pub least-next : {A B : Type 0} (k : ℕ) (s : List ℕ) (q : A → Reader B) (o : Out A) → Holds (λ b ns j. k ≤ j) o → Holds (λ b ns j. k ≤ j) (next s q o)
+pub least-next : {A B : Type 0} (k : ℕ) (s : List ℕ) (q : A → Reader B) (o : Out A) → Holds (λ b ns j. k ≤ j) o
+    → Holds (λ b ns j. k ≤ j) (next s q o)
 unfolding next
-least-next k s q (ok a ms j) h = holds-map (λ b ns i. j ≤ i) (λ b ns i. k ≤ i) (λ b ns i l. omega arith) (after ms j (q a (drop j s))) (after-least ms j (q a (drop j s)))
+least-next k s q (ok a ms j) h =
+    holds-map (λ b ns i. j ≤ i) (λ b ns i. k ≤ i) (λ b ns i l. omega arith) (after ms j (q a (drop j s)))
+    (after-least ms j (q a (drop j s)))
 least-next k s q (bad f j) h = tt
 least-next k s q (deep j) h = tt
 

@@ -1,4 +1,5 @@
--- The writer's pieces without their fuel. Any fuel that is enough for the marks inside writes the same, and each piece is the row of its parts.
+-- The writer's pieces without their fuel. Any fuel that is enough for the marks inside writes the same, and each piece
+-- is the row of its parts.
 pub mod Fuel
 pub mod Length
 pub mod Utf8
@@ -12,7 +13,8 @@ use lib.Dec.{eqb}
 use Rattle.syntax.specs.Kind as Kind
 use Rattle.syntax.specs.Bytes.{ascii}
 use Rattle.syntax.specs.Marks.{Mark}
-use Rattle.syntax.specs.Serializer.{Node, nodes, Piece, _⊕_, empty, literal, newline, indented, star, each, if, first, ofKind, name, leadingDot, isMultiline, reference}
+use Rattle.syntax.specs.Serializer.{Node, nodes, Piece, _⊕_, empty, literal, newline, indented, star, each, if, first}
+use Rattle.syntax.specs.Serializer.{ofKind, name, leadingDot, isMultiline, reference}
 use Rattle.syntax.specs.Serializer as Serializer
 use Rattle.laws.specs.Text.Fuel.{total, total-nodes, total-ofKind, both, either, each-same, first-same, same}
 
@@ -83,7 +85,8 @@ module _ (source : List ℕ) where
   unfolding argumentsOf
   arguments-fuel n xs l = same source n _ .arguments xs l (omega arith)
 
-  separated-fuel : (n : ℕ) (written : Bool) (xs : List Node) → total xs < n → Serializer.separated source n written xs ≡ separatedOf written xs
+  separated-fuel : (n : ℕ) (written : Bool) (xs : List Node) → total xs < n
+      → Serializer.separated source n written xs ≡ separatedOf written xs
   unfolding separatedOf
   separated-fuel n written xs l = same source n _ .separated written xs l (omega arith)
 
@@ -96,22 +99,38 @@ module _ (source : List ℕ) where
   namedArgument-fuel n xs l = same source n _ .namedArgument xs l (omega arith)
 
   -- the patterns inside
-  patterns-same : (n : ℕ) (ms : List Mark) → length ms ≤ n → first source (λ p. Serializer.pattern source n (p .inner)) (ofKind source (λ k. eqb k Kind.pattern) (nodes ms)) ≡ first source (λ p. patternOf (p .inner)) (ofKind source (λ k. eqb k Kind.pattern) (nodes ms))
-  patterns-same n ms h = first-same source (λ p. Serializer.pattern source n (p .inner)) (λ p. patternOf (p .inner)) (length ms) _ (total-ofKind source (λ k. eqb k Kind.pattern) ms) (λ p l. pattern-fuel n (p .inner) (omega arith))
+  patterns-same : (n : ℕ) (ms : List Mark) → length ms ≤ n
+      → first source (λ p. Serializer.pattern source n (p .inner)) (ofKind source (λ k. eqb k Kind.pattern) (nodes ms))
+      ≡ first source (λ p. patternOf (p .inner)) (ofKind source (λ k. eqb k Kind.pattern) (nodes ms))
+  patterns-same n ms h =
+      first-same source (λ p. Serializer.pattern source n (p .inner)) (λ p. patternOf (p .inner)) (length ms) _
+      (total-ofKind source (λ k. eqb k Kind.pattern) ms) (λ p l. pattern-fuel n (p .inner) (omega arith))
 
   -- each as the row of its parts
   pub pattern-is : (ms : List Mark)
-      → patternOf ms ≡ (let es = nodes ms in elim (not (leadingDot source es) && isMultiline source es) [ true ↦ newline ⊕ indented (each elementOf es) | false ↦ literal (ascii " ") ⊕ each elementOf es ])
+      → patternOf ms
+      ≡ (let es = nodes ms in
+      elim
+      (not (leadingDot source es) && isMultiline source es) [
+        | true ↦ newline ⊕ indented (each elementOf es)
+        | false ↦ literal (ascii " ") ⊕ each elementOf es
+      ])
   unfolding patternOf Serializer.pattern
   pattern-is ms =
-      let r = each-same (Serializer.element source (length ms)) elementOf (length ms) (nodes ms) (total-nodes ms) (λ e l. element-fuel (length ms) e l) in
+      let r =
+      each-same (Serializer.element source (length ms)) elementOf (length ms) (nodes ms) (total-nodes ms)
+      (λ e l. element-fuel (length ms) e l) in
       either (not (leadingDot source (nodes ms)) && isMultiline source (nodes ms)) (both refl (ap indented r)) (both refl r)
 
-  pub element-is : (e : Node) → elementOf e ≡ elim (eqb (e .kind) Kind.text) [ true ↦ name source e | false ↦ first source inBracesOf (nodes (e .inner)) ]
+  pub element-is : (e : Node)
+      → elementOf e ≡ elim
+      (eqb (e .kind) Kind.text) [ true ↦ name source e | false ↦ first source inBracesOf (nodes (e .inner)) ]
   unfolding elementOf Serializer.element
   element-is e =
       let ms = e .inner in
-      either (eqb (e .kind) Kind.text) refl (first-same source (Serializer.inBraces source (suc (length ms))) inBracesOf (length ms) (nodes ms) (total-nodes ms) (λ x l. inBraces-fuel (suc (length ms)) x (omega arith)))
+      either (eqb (e .kind) Kind.text) refl
+      (first-same source (Serializer.inBraces source (suc (length ms))) inBracesOf (length ms) (nodes ms)
+      (total-nodes ms) (λ x l. inBraces-fuel (suc (length ms)) x (omega arith)))
 
   pub inBraces-is : (x : Node)
       → inBracesOf x ≡ elim (eqb (x .kind) Kind.placeable) [
@@ -126,26 +145,37 @@ module _ (source : List ℕ) where
       let ms = x .inner in
       let n = suc (suc (length ms)) in
       let r = expression-fuel n x (omega arith) in
-      either (eqb (x .kind) Kind.placeable) (both refl (both (first-same source (Serializer.expression source n) expressionOf (length ms) (nodes ms) (total-nodes ms) (λ z l. expression-fuel n z (omega arith))) refl))
+      either (eqb (x .kind) Kind.placeable)
+      (both refl
+      (both
+      (first-same source (Serializer.expression source n) expressionOf (length ms) (nodes ms) (total-nodes ms)
+      (λ z l. expression-fuel n z (omega arith))) refl))
       (either (eqb (x .kind) Kind.select) (both refl (both r refl)) (both refl (both r refl)))
 
-  pub expression-is : (x : Node) → expressionOf x ≡ elim (eqb (x .kind) Kind.select) [ true ↦ selectOf (nodes (x .inner)) | false ↦ inlineOf x ]
+  pub expression-is : (x : Node)
+      → expressionOf x ≡ elim (eqb (x .kind) Kind.select) [ true ↦ selectOf (nodes (x .inner)) | false ↦ inlineOf x ]
   unfolding expressionOf Serializer.expression
   expression-is x =
       let n = suc (length (x .inner)) in
       let l = total-nodes (x .inner) in
       either (eqb (x .kind) Kind.select) (select-fuel n (nodes (x .inner)) (omega arith)) (inline-fuel n x (omega arith))
 
-  pub select-is : (x : Node) (vs : List Node) → selectOf (x ∷ vs) ≡ (inlineOf x ⊕ literal (ascii " ->") ⊕ newline ⊕ indented (each (λ v. variantOf v ⊕ newline) vs))
+  pub select-is : (x : Node) (vs : List Node)
+      → selectOf (x ∷ vs)
+      ≡ (inlineOf x ⊕ literal (ascii " ->") ⊕ newline ⊕ indented (each (λ v. variantOf v ⊕ newline) vs))
   unfolding selectOf Serializer.select
   select-is x vs =
       let n = total (x ∷ vs) in
-      let r = each-same (λ v. Serializer.variant source n v ⊕ newline) (λ v. variantOf v ⊕ newline) (total vs) vs (omega arith) (λ v l. both (variant-fuel n v (omega arith)) refl) in
+      let r =
+      each-same (λ v. Serializer.variant source n v ⊕ newline) (λ v. variantOf v ⊕ newline) (total vs) vs
+      (omega arith) (λ v l. both (variant-fuel n v (omega arith)) refl) in
       both (inline-fuel n x (omega arith)) (both refl (both refl (ap indented r)))
 
   pub variant-is : (v : Node)
       → variantOf v
-      ≡ (if (eqb (v .kind) Kind.defaultVariant) star ⊕ literal (ascii "[") ⊕ first source (name source) (nodes (v .inner)) ⊕ literal (ascii "]") ⊕ first source (λ p. patternOf (p .inner)) (ofKind source (λ k. eqb k Kind.pattern) (nodes (v .inner))))
+      ≡ (if (eqb (v .kind) Kind.defaultVariant) star ⊕ literal (ascii "[")
+      ⊕ first source (name source) (nodes (v .inner)) ⊕ literal (ascii "]")
+      ⊕ first source (λ p. patternOf (p .inner)) (ofKind source (λ k. eqb k Kind.pattern) (nodes (v .inner))))
   unfolding variantOf Serializer.variant
   variant-is v =
       let n = suc (length (v .inner)) in
@@ -159,7 +189,9 @@ module _ (source : List ℕ) where
           | false ↦ elim (eqb (x .kind) Kind.placeable) [
             | true ↦ literal (ascii "{") ⊕ first source expressionOf (nodes (x .inner)) ⊕ literal (ascii "}")
             | false ↦ (if (eqb (x .kind) Kind.variable) (literal (ascii "$")) ⊕ if (eqb (x .kind) Kind.termReference) (literal (ascii "-"))
-                ⊕ reference source (ofKind source (λ j. eqb j Kind.identifier) (nodes (x .inner))) ⊕ each (λ a. argumentsOf (nodes (a .inner))) (ofKind source (λ j. eqb j Kind.arguments) (nodes (x .inner))))
+                ⊕ reference source (ofKind source (λ j. eqb j Kind.identifier) (nodes (x .inner)))
+                ⊕ each (λ a. argumentsOf (nodes (a .inner)))
+                (ofKind source (λ j. eqb j Kind.arguments) (nodes (x .inner))))
           ]
         ]
       ]
@@ -167,9 +199,16 @@ module _ (source : List ℕ) where
   inline-is x =
       let ms = x .inner in
       let n = length ms in
-      let r = first-same source (Serializer.expression source n) expressionOf n (nodes ms) (total-nodes ms) (λ z l. expression-fuel n z l) in
-      let q = each-same (λ a. Serializer.arguments source n (nodes (a .inner))) (λ a. argumentsOf (nodes (a .inner))) n _ (total-ofKind source (λ j. eqb j Kind.arguments) ms) (λ a l. let t = total-nodes (a .inner) in arguments-fuel n (nodes (a .inner)) (omega arith)) in
-      either (eqb (x .kind) Kind.string) refl (either (eqb (x .kind) Kind.number) refl (either (eqb (x .kind) Kind.placeable) (both refl (both r refl)) (both refl (both refl (both refl q)))))
+      let r =
+      first-same source (Serializer.expression source n) expressionOf n (nodes ms) (total-nodes ms)
+      (λ z l. expression-fuel n z l) in
+      let q =
+      each-same (λ a. Serializer.arguments source n (nodes (a .inner))) (λ a. argumentsOf (nodes (a .inner))) n _
+      (total-ofKind source (λ j. eqb j Kind.arguments) ms)
+      (λ a l. let t = total-nodes (a .inner) in arguments-fuel n (nodes (a .inner)) (omega arith)) in
+      either (eqb (x .kind) Kind.string) refl
+      (either (eqb (x .kind) Kind.number) refl
+      (either (eqb (x .kind) Kind.placeable) (both refl (both r refl)) (both refl (both refl (both refl q)))))
 
   pub arguments-is : (xs : List Node) → argumentsOf xs ≡ (literal (ascii "(") ⊕ separatedOf false xs ⊕ literal (ascii ")"))
   unfolding argumentsOf Serializer.arguments
@@ -179,32 +218,47 @@ module _ (source : List ℕ) where
   unfolding separatedOf Serializer.separated
   separated-none written = refl
 
-  pub separated-is : (written : Bool) (a : Node) (rest : List Node) → separatedOf written (a ∷ rest) ≡ (if written (literal (ascii ", ")) ⊕ argumentOf a ⊕ separatedOf true rest)
+  pub separated-is : (written : Bool) (a : Node) (rest : List Node)
+      → separatedOf written (a ∷ rest) ≡ (if written (literal (ascii ", ")) ⊕ argumentOf a ⊕ separatedOf true rest)
   unfolding separatedOf Serializer.separated
-  separated-is written a rest = let n = total (a ∷ rest) in both refl (both (argument-fuel n a (omega arith)) (separated-fuel n true rest (omega arith)))
+  separated-is written a rest = let n = total (a ∷ rest) in
+      both refl (both (argument-fuel n a (omega arith)) (separated-fuel n true rest (omega arith)))
 
-  pub argument-is : (a : Node) → argumentOf a ≡ elim (eqb (a .kind) Kind.namedArgument) [ true ↦ namedArgumentOf (nodes (a .inner)) | false ↦ inlineOf a ]
+  pub argument-is : (a : Node)
+      → argumentOf a ≡ elim
+      (eqb (a .kind) Kind.namedArgument) [ true ↦ namedArgumentOf (nodes (a .inner)) | false ↦ inlineOf a ]
   unfolding argumentOf Serializer.argument
   argument-is a =
       let n = suc (length (a .inner)) in
       let l = total-nodes (a .inner) in
       either (eqb (a .kind) Kind.namedArgument) (namedArgument-fuel n (nodes (a .inner)) (omega arith)) (inline-fuel n a (omega arith))
 
-  pub namedArgument-is : (i : Node) (xs : List Node) → namedArgumentOf (i ∷ xs) ≡ (name source i ⊕ literal (ascii ": ") ⊕ first source inlineOf xs)
+  pub namedArgument-is : (i : Node) (xs : List Node)
+      → namedArgumentOf (i ∷ xs) ≡ (name source i ⊕ literal (ascii ": ") ⊕ first source inlineOf xs)
   unfolding namedArgumentOf Serializer.namedArgument
-  namedArgument-is i xs = let n = total (i ∷ xs) in both refl (both refl (first-same source (Serializer.inline source n) inlineOf (total xs) xs (omega arith) (λ x l. inline-fuel n x (omega arith))))
+  namedArgument-is i xs = let n = total (i ∷ xs) in
+      both refl
+      (both refl
+      (first-same source (Serializer.inline source n) inlineOf (total xs) xs (omega arith)
+      (λ x l. inline-fuel n x (omega arith))))
 
   -- what has patterns
   pub attribute-is : (a : Node)
       → Serializer.attribute source a
-      ≡ (newline ⊕ literal (ascii ".") ⊕ first source (name source) (nodes (a .inner)) ⊕ literal (ascii " =") ⊕ first source (λ p. patternOf (p .inner)) (ofKind source (λ k. eqb k Kind.pattern) (nodes (a .inner))))
+      ≡ (newline ⊕ literal (ascii ".") ⊕ first source (name source) (nodes (a .inner)) ⊕ literal (ascii " =")
+      ⊕ first source (λ p. patternOf (p .inner)) (ofKind source (λ k. eqb k Kind.pattern) (nodes (a .inner))))
   unfolding Serializer.attribute
   attribute-is a = both refl (both refl (both refl (both refl (patterns-same (length (a .inner)) (a .inner) (omega arith)))))
 
   pub message-is : (ms : List Mark)
       → Serializer.message source ms
-      ≡ (first source (name source) (nodes ms) ⊕ literal (ascii " =") ⊕ each (λ p. patternOf (p .inner)) (ofKind source (λ k. eqb k Kind.pattern) (nodes ms)) ⊕ Serializer.attributes source (ofKind source (λ k. eqb k Kind.attribute) (nodes ms)) ⊕ newline)
+      ≡ (first source (name source) (nodes ms) ⊕ literal (ascii " =")
+      ⊕ each (λ p. patternOf (p .inner)) (ofKind source (λ k. eqb k Kind.pattern) (nodes ms))
+      ⊕ Serializer.attributes source (ofKind source (λ k. eqb k Kind.attribute) (nodes ms)) ⊕ newline)
   unfolding Serializer.message
   message-is ms =
-      let r = each-same (λ p. Serializer.pattern source (length ms) (p .inner)) (λ p. patternOf (p .inner)) (length ms) _ (total-ofKind source (λ k. eqb k Kind.pattern) ms) (λ p l. pattern-fuel (length ms) (p .inner) (omega arith)) in
+      let r =
+      each-same (λ p. Serializer.pattern source (length ms) (p .inner)) (λ p. patternOf (p .inner)) (length ms) _
+      (total-ofKind source (λ k. eqb k Kind.pattern) ms)
+      (λ p l. pattern-fuel (length ms) (p .inner) (omega arith)) in
       both refl (both refl (both r refl))

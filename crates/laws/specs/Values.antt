@@ -11,7 +11,10 @@ use Rattle.syntax.specs.Marks.{Mark}
 use Rattle.syntax.specs.Reader.{Out, ok, bad, deep, fail, _>>=_, _>>_, pure, next, after}
 use Rattle.syntax.specs.Helper.{expectByte, getIdentifier, getNumberLiteral}
 use Rattle.syntax.specs.Pattern.{Inside}
-use Rattle.syntax.specs.Expression.{Inline, string, number, variable, function, inner, message, term, asInline, stringLiteral, asString, numberLiteral, getCallArguments, getAttributeAccessor, termReference, variableReference, messageReference, functionReference, referenceBy, reference, nestedPlaceable, noInline, nonLiteral, getInlineExpression}
+use Rattle.syntax.specs.Expression.{Inline, string, number, variable, function, inner, message, term, asInline}
+use Rattle.syntax.specs.Expression.{stringLiteral, asString, numberLiteral, getCallArguments, getAttributeAccessor}
+use Rattle.syntax.specs.Expression.{termReference, variableReference, messageReference, functionReference, referenceBy}
+use Rattle.syntax.specs.Expression.{reference, nestedPlaceable, noInline, nonLiteral, getInlineExpression}
 use Rattle.laws.specs.Bytes.{byCase, pick}
 use Rattle.laws.specs.Answers.{Holds, holds-map, plain-next}
 
@@ -62,11 +65,15 @@ module _ (P : Inline → Type 0) where
 
   pub variable-value : P variable → (s : List ℕ) → Holds (λ a ms k. P a) (variableReference s)
   unfolding variableReference _>>_
-  variable-value h s = plain-next P s (λ _. getIdentifier 9 >> pure variable) (expectByte 36 s) (λ a r. plain-next P r (λ _. pure variable) (getIdentifier 9 r) (λ a r. pure-value variable h r))
+  variable-value h s =
+      plain-next P s (λ _. getIdentifier 9 >> pure variable) (expectByte 36 s)
+      (λ a r. plain-next P r (λ _. pure variable) (getIdentifier 9 r) (λ a r. pure-value variable h r))
 
   pub term-value : (sub : Inside) → ((t : Bool) → P (term t)) → (s : List ℕ) → Holds (λ a ms k. P a) (termReference sub s)
   unfolding termReference _>>_ _>>=_
-  term-value sub h s = plain-next P s (λ _. getIdentifier 9 >> (getAttributeAccessor >>= λ t. getCallArguments sub >> pure (term t))) (expectByte 45 s)
+  term-value sub h s =
+      plain-next P s (λ _. getIdentifier 9 >> (getAttributeAccessor >>= λ t. getCallArguments sub >> pure (term t)))
+      (expectByte 45 s)
       (λ a r. plain-next P r (λ _. getAttributeAccessor >>= λ t. getCallArguments sub >> pure (term t)) (getIdentifier 9 r)
       (λ a r. plain-next P r (λ t. getCallArguments sub >> pure (term t)) (getAttributeAccessor r)
       (λ t r. plain-next P r (λ _. pure (term t)) (getCallArguments sub r) (λ a r. pure-value (term t) (h t) r))))
@@ -75,12 +82,15 @@ module _ (P : Inline → Type 0) where
   unfolding nestedPlaceable _>>_
   nested-value sub h s = plain-next P s (λ _. pure inner) (sub .braced s) (λ a r. pure-value inner h r)
 
-  referenceBy-value : P function → (n : ℕ) → ((a : Bool) → P (message n a)) → (z : List ℕ) (v : Bool) (s : List ℕ) → Holds (λ a ms k. P a) (referenceBy z n v s)
+  referenceBy-value : P function → (n : ℕ) → ((a : Bool) → P (message n a)) → (z : List ℕ) (v : Bool) (s : List ℕ)
+      → Holds (λ a ms k. P a) (referenceBy z n v s)
   unfolding referenceBy functionReference messageReference pure fail _>>=_
-  referenceBy-value f n h z true s = byCase (all isCalleePart (take n z)) (λ q. rw (q, functionReference) f) (λ q. rw (q, functionReference) tt)
+  referenceBy-value f n h z true s =
+      byCase (all isCalleePart (take n z)) (λ q. rw (q, functionReference) f) (λ q. rw (q, functionReference) tt)
   referenceBy-value f n h z false s = plain-next P s (λ a. pure (message n a)) (getAttributeAccessor s) (λ a r. h a)
 
-  pub reference-value : (sub : Inside) → P function → ((n : ℕ) (a : Bool) → P (message n a)) → (s : List ℕ) → Holds (λ a ms k. P a) (reference sub s)
+  pub reference-value : (sub : Inside) → P function → ((n : ℕ) (a : Bool) → P (message n a)) → (s : List ℕ)
+      → Holds (λ a ms k. P a) (reference sub s)
   unfolding reference _>>=_
   reference-value sub f h s = plain-next P s (λ n. getCallArguments sub >>= (λ call. referenceBy s n call)) (getIdentifier 9 s)
       (λ n r. plain-next P r (λ call. referenceBy s n call) (getCallArguments sub r) (λ v z. referenceBy-value f n (h n) s v z))
@@ -103,10 +113,12 @@ module _ (sub : Inside) where
   after-fits m ms k (bad f j) e h = tt
   after-fits m ms k (deep j) e h = tt
 
-  named-fits : (m : ℕ) (z s : List ℕ) (o : Out ℕ) → Holds (λ n ms k. (n ≡ k) × (n ≡ m)) o → Fits m (next s (λ n. getCallArguments sub >>= (λ call. referenceBy z n call)) o)
+  named-fits : (m : ℕ) (z s : List ℕ) (o : Out ℕ) → Holds (λ n ms k. (n ≡ k) × (n ≡ m)) o
+      → Fits m (next s (λ n. getCallArguments sub >>= (λ call. referenceBy z n call)) o)
   unfolding next _>>=_
   named-fits m z s (ok n ms k) h = after-fits m ms k ((getCallArguments sub >>= (λ call. referenceBy z n call)) (drop k s)) (omega arith)
-      (plain-next (NameUpto m m) (drop k s) (λ call. referenceBy z n call) (getCallArguments sub (drop k s)) (λ v r. referenceBy-value (NameUpto m m) tt n (λ a. (omega arith, h .1)) z v r))
+      (plain-next (NameUpto m m) (drop k s) (λ call. referenceBy z n call) (getCallArguments sub (drop k s))
+      (λ v r. referenceBy-value (NameUpto m m) tt n (λ a. (omega arith, h .1)) z v r))
   named-fits m z s (bad f k) h = tt
   named-fits m z s (deep k) h = tt
 
@@ -118,12 +130,23 @@ module _ (sub : Inside) where
   unfolding getInlineExpression nonLiteral
   inline-fits v [] = nameless-fits _ (noInline v []) (noInline-nameless v [])
   inline-fits v (b ∷ bs) =
-      pick (Fits m) (eqb b 34) _ _ (λ q. asString-fits m (stringLiteral s)) (λ q. pick (Fits m) (isDigit b) _ _ (λ q. nameless-fits m (numberLiteral s) (number-value Nameless (λ m n. tt) s))
-      (λ q. pick (Fits m) (isLetter b) _ _ (λ q. asInline-fits m (reference sub s) (reference-fits s)) (λ q. pick (Fits m) v _ _ (λ q. nameless-fits m (noInline true s) (noInline-nameless true s))
+      pick (Fits m) (eqb b 34) _ _ (λ q. asString-fits m (stringLiteral s))
+      (λ q. pick (Fits m) (isDigit b) _ _
+      (λ q. nameless-fits m (numberLiteral s) (number-value Nameless (λ m n. tt) s))
+      (λ q. pick (Fits m) (isLetter b) _ _ (λ q. asInline-fits m (reference sub s) (reference-fits s))
+      (λ q. pick (Fits m) v _ _ (λ q. nameless-fits m (noInline true s) (noInline-nameless true s))
       (λ q. pick (Fits m) (eqb b 45) _ _
-      (λ q. pick (Fits m) (starts isLetter bs) _ _ (λ q. asInline-fits m (termReference sub s) (nameless-fits m (termReference sub s) (term-value Nameless sub (λ t m n. tt) s))) (λ q. nameless-fits m (numberLiteral s) (number-value Nameless (λ m n. tt) s)))
-      (λ q. pick (Fits m) (eqb b 36) _ _ (λ q. asInline-fits m (variableReference s) (nameless-fits m (variableReference s) (variable-value Nameless (λ m n. tt) s)))
-      (λ q. pick (Fits m) (eqb b 123) _ _ (λ q. asInline-fits m (nestedPlaceable sub s) (nameless-fits m (nestedPlaceable sub s) (nested-value Nameless sub (λ m n. tt) s))) (λ q. nameless-fits m (noInline false s) (noInline-nameless false s))))))))
+      (λ q. pick (Fits m) (starts isLetter bs) _ _
+      (λ q. asInline-fits m (termReference sub s)
+      (nameless-fits m (termReference sub s) (term-value Nameless sub (λ t m n. tt) s)))
+      (λ q. nameless-fits m (numberLiteral s) (number-value Nameless (λ m n. tt) s)))
+      (λ q. pick (Fits m) (eqb b 36) _ _
+      (λ q. asInline-fits m (variableReference s)
+      (nameless-fits m (variableReference s) (variable-value Nameless (λ m n. tt) s)))
+      (λ q. pick (Fits m) (eqb b 123) _ _
+      (λ q. asInline-fits m (nestedPlaceable sub s)
+      (nameless-fits m (nestedPlaceable sub s) (nested-value Nameless sub (λ m n. tt) s)))
+      (λ q. nameless-fits m (noInline false s) (noInline-nameless false s))))))))
     where
       s : List ℕ
       s = b ∷ bs

@@ -53,7 +53,8 @@ normal-fits {s} {t} {e} {o} {o′} {v = v} n h = byCase (eqb (numberOf a) 0) (λ
     refused q = absurd (q (ap numberOf (sym (refuses a _ a q) ∙ (sym (n .answers) ∙ h))))
 
 -- a source that is read is written
-pub normal-written : {s t t′ e e′ o o′ : List ℕ} {a r : Answer} {v : ℕ} → DidRead s t t′ e e′ a → a ≡ Accepted v → DidWrite s t′ o o′ true r → Normalized s t e o o′ r
+pub normal-written : {s t t′ e e′ o o′ : List ℕ} {a r : Answer} {v : ℕ} → DidRead s t t′ e e′ a → a ≡ Accepted v
+    → DidWrite s t′ o o′ true r → Normalized s t e o o′ r
 normal-written {s} {o = o} d h w =
     let q = ap numberOf (sym (d .answers) ∙ h) in
     record {
@@ -62,7 +63,8 @@ normal-written {s} {o = o} d h w =
     }
 
 -- a source that is refused is not
-pub normal-refused : {s t t′ e e′ o : List ℕ} {a : Answer} → DidRead s t t′ e e′ a → OneOf refusals (tagOf the-type a) → Normalized s t e o o a
+pub normal-refused : {s t t′ e e′ o : List ℕ} {a : Answer} → DidRead s t t′ e e′ a → OneOf refusals (tagOf the-type a)
+    → Normalized s t e o o a
 normal-refused {s} {t} {e = e} {a = a} d h = record { answers = d .answers ∙ sym (refuses _ _ _ other); output = sym (refuses _ _ _ other) }
   where
     other : numberOf (readAnswer s (length t) (length e)) ≡ 0 → ⊥

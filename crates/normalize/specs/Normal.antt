@@ -16,5 +16,6 @@ whereAccepted a x y = elim (eqb (numberOf a) 0) [ true ↦ x | false ↦ y ]
 
 -- a source s with the lent words t and e and the output o: the writing's answer and output, or the reading's refusal and nothing written
 pub record Normalized (s t e o o′ : List ℕ) (r : Answer) : Type 0 where
-  pub answers : r ≡ whereAccepted (readAnswer s (length t) (length e)) (writeAnswer s (treeAfter s t e) (length o) true) (readAnswer s (length t) (length e))
+  pub answers : r ≡ whereAccepted (readAnswer s (length t) (length e)) (writeAnswer s (treeAfter s t e) (length o) true)
+      (readAnswer s (length t) (length e))
   pub output : o′ ≡ whereAccepted (readAnswer s (length t) (length e)) (outputAfter s (treeAfter s t e) o true) o

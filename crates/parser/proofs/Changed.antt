@@ -9,17 +9,29 @@ use Rattle.entry.specs.Tree.{Word, word, marksIn, marksFrom, Step}
 use Rattle.entry.proofs.Steps.{marks-length, marks-same}
 use Rattle.entry.proofs.Insert.{marks-split}
 
-from-same : (cap i c : ℕ) (t t′ : List ℕ) → ((j : ℕ) → i ≤ j → getD t′ (j + 2) 0 ≡ getD t (j + 2) 0) → ((j : ℕ) → i ≤ j → getD t′ (cap + j + 2) 0 ≡ getD t (cap + j + 2) 0)
+from-same : (cap i c : ℕ) (t t′ : List ℕ) → ((j : ℕ) → i ≤ j → getD t′ (j + 2) 0 ≡ getD t (j + 2) 0)
+    → ((j : ℕ) → i ≤ j → getD t′ (cap + j + 2) 0 ≡ getD t (cap + j + 2) 0)
     → marksFrom cap i c t′ ≡ marksFrom cap i c t
 unfolding marksFrom
 from-same cap i zero t t′ f g = refl
-from-same cap i (suc c) t t′ f g = rw (from-same cap (i + 1) c t t′ (λ j h. f j (omega arith)) (λ j h. g j (omega arith)), f i (omega arith), g i (omega arith))
+from-same cap i (suc c) t t′ f g =
+    rw (
+      from-same cap (i + 1) c t t′ (λ j h. f j (omega arith)) (λ j h. g j (omega arith)),
+      f i (omega arith),
+      g i (omega arith),
+    )
 
-pub step-kind : {cap n : ℕ} {t₀ t : List ℕ} (i k k′ p : ℕ) (ws vs : List Word) → Step cap n t₀ t (ws ++ (word k p ∷ vs)) → i ≡ n + length ws → i < cap → i + 2 < length t
+pub step-kind : {cap n : ℕ} {t₀ t : List ℕ} (i k k′ p : ℕ) (ws vs : List Word) → Step cap n t₀ t (ws ++ (word k p ∷ vs))
+    → i ≡ n + length ws → i < cap → i + 2 < length t
     → Step cap n t₀ (set t (i + 2) k′) (ws ++ (word k′ p ∷ vs))
 unfolding marksFrom
 step-kind {cap} {n} {t₀} {t} i k k′ p ws vs s e l g =
-    record { long = length-set t (i + 2) k′ ∙ s .long; marks = ap (λ (j : ℕ). marksIn cap j u) (count k′) ∙ after ∙ append-assoc (marksIn cap n t₀) ws _; head = take-set-le 2 t (i + 2) k′ (omega arith) ∙ s .head; rest = drop-set-lt (2 + 2 * cap) t (i + 2) k′ (omega arith) ∙ s .rest }
+    record {
+      long = length-set t (i + 2) k′ ∙ s .long;
+      marks = ap (λ (j : ℕ). marksIn cap j u) (count k′) ∙ after ∙ append-assoc (marksIn cap n t₀) ws _;
+      head = take-set-le 2 t (i + 2) k′ (omega arith) ∙ s .head;
+      rest = drop-set-lt (2 + 2 * cap) t (i + 2) k′ (omega arith) ∙ s .rest;
+    }
   where
     u : List ℕ
     u = set t (i + 2) k′
@@ -31,7 +43,8 @@ step-kind {cap} {n} {t₀} {t} i k k′ p ws vs s e l g =
     first = marksIn cap n t₀ ++ ws
 
     before : marksIn cap i t ++ marksFrom cap i (suc (length vs)) t ≡ first ++ (word k p ∷ vs)
-    before = sym (marks-split cap i (suc (length vs)) t) ∙ ap (λ (j : ℕ). marksIn cap j t) (sym (count k)) ∙ s .marks ∙ sym (append-assoc (marksIn cap n t₀) ws _)
+    before = sym (marks-split cap i (suc (length vs)) t) ∙ ap (λ (j : ℕ). marksIn cap j t) (sym (count k)) ∙ s .marks
+        ∙ sym (append-assoc (marksIn cap n t₀) ws _)
 
     size : length first ≡ i
     size = length-append (marksIn cap n t₀) ws ∙ rw (marks-length cap n t₀) (sym e)
@@ -48,6 +61,10 @@ step-kind {cap} {n} {t₀} {t} i k k′ p ws vs s e l g =
         let place = getD-set-other t (i + 2) (cap + i + 2) k′ 0 (λ e. omega arith) in
         let here : getD t (cap + i + 2) 0 ≡ p = cc right in
         let rest : marksFrom cap (i + 1) (length vs) t ≡ vs = cc right in
-        let same = marks-same cap i t u (λ j h. getD-set-other t (i + 2) (j + 2) k′ 0 (λ e. omega arith)) (λ j h. getD-set-other t (i + 2) (cap + j + 2) k′ 0 (λ e. omega arith)) in
-        let later = from-same cap (i + 1) (length vs) t u (λ j h. getD-set-other t (i + 2) (j + 2) k′ 0 (λ e. omega arith)) (λ j h. getD-set-other t (i + 2) (cap + j + 2) k′ 0 (λ e. omega arith)) in
+        let same =
+        marks-same cap i t u (λ j h. getD-set-other t (i + 2) (j + 2) k′ 0 (λ e. omega arith))
+        (λ j h. getD-set-other t (i + 2) (cap + j + 2) k′ 0 (λ e. omega arith)) in
+        let later =
+        from-same cap (i + 1) (length vs) t u (λ j h. getD-set-other t (i + 2) (j + 2) k′ 0 (λ e. omega arith))
+        (λ j h. getD-set-other t (i + 2) (cap + j + 2) k′ 0 (λ e. omega arith)) in
         marks-split cap i (suc (length vs)) u ∙ cc (kind, place, here, rest, same, later, left)

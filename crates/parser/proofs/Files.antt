@@ -18,7 +18,8 @@ use Rattle.syntax.specs.Reader.{Out, ok, deep, next, _>>=_, fail}
 use Rattle.syntax.specs.Helper.{skipBlankBlock, getIdentifier}
 use Rattle.syntax.specs.Pattern.{Inside, usedBy}
 use Rattle.syntax.specs.Expression.{level}
-use Rattle.syntax.specs.Core.{Entry, comment, fields, asMessage, getEntry, toNextEntry, lineStartsAt, junkEnd, Error, upError, read, refused, following, isNamed, count, kindOfEntry, entries, parse}
+use Rattle.syntax.specs.Core.{Entry, comment, fields, asMessage, getEntry, toNextEntry, lineStartsAt, junkEnd, Error}
+use Rattle.syntax.specs.Core.{upError, read, refused, following, isNamed, count, kindOfEntry, entries, parse}
 use Rattle.syntax.specs.Reading.{marksOf, errorsOf}
 use Rattle.laws.specs.Bytes.{byCase}
 use Rattle.laws.specs.Bounds.{Uses, ok-uses, bad-within}
@@ -63,8 +64,10 @@ module _ {s : List ℕ} {k : ℕ} {b : BlankBlock} (n e : ℕ) (x : LastComment)
   moved-lost h = record { at = w .end; marks = refl; errors = refl; comment = rw (← w .count, kept, le-ltb (b .count) 2 h) }
 
 pub junked : {s t t₁ t′ e e′ : List ℕ} {x : State} {f : ParserError} {k end o m c : ℕ} {r : State}
-    → Passed s k (toNextEntry (lineStartsAt k s) (drop k s)) end → Step (8 * length s) (x .marks) t t₁ (word 7 (x .at) ∷ []) → o ≡ x .marks + 1
-    → Step (8 * length s) o t₁ t′ (word 107 end ∷ []) → m ≡ o + 1 → ErrorStep (length s) (x .errors) e e′ (withJunk f (x .at) end ∷ []) → c ≡ x .errors + 1
+    → Passed s k (toNextEntry (lineStartsAt k s) (drop k s)) end
+    → Step (8 * length s) (x .marks) t t₁ (word 7 (x .at) ∷ []) → o ≡ x .marks + 1
+    → Step (8 * length s) o t₁ t′ (word 107 end ∷ []) → m ≡ o + 1
+    → ErrorStep (length s) (x .errors) e e′ (withJunk f (x .at) end ∷ []) → c ≡ x .errors + 1
     → Moved s end m c None r → Junked s t t′ e e′ x f k r
 junked {x = x} {o = o} {m = m} p a i z q b j d =
     let n : m ≡ x .marks + 2 = omega arith in
@@ -80,12 +83,17 @@ self-step {cap} {n} {t} {t₁} {ws} s =
 -- ---- the marks of an entry
 
 -- it gets its kind and is closed
-entry-closed : {cap : ℕ} {t T : List ℕ} (at n m κ : ℕ) (M ms : List Mark) {t₃ : List ℕ} → Step cap 0 t T (wordsAt 0 M ++ (word 1 0 ∷ wordsAt at ms)) → n ≡ length M → m ≡ n + 1 + length ms → n < cap → n + 2 < length T
+entry-closed : {cap : ℕ} {t T : List ℕ} (at n m κ : ℕ) (M ms : List Mark) {t₃ : List ℕ}
+    → Step cap 0 t T (wordsAt 0 M ++ (word 1 0 ∷ wordsAt at ms)) → n ≡ length M → m ≡ n + 1 + length ms → n < cap
+    → n + 2 < length T
     → Step cap m (set T (n + 2) κ) t₃ (word (closing κ) 0 ∷ []) → Step cap 0 t t₃ (wordsAt 0 (M ++ moveUp at (node κ ms)))
 entry-closed {cap} {t} at n m κ M ms {t₃} S e f l g z =
     let a = step-kind n 1 κ 0 (wordsAt 0 M) (wordsAt at ms) S (omega (arith, words-length 0 M)) l g in
-    let size : m ≡ 0 + length (wordsAt 0 M ++ (word κ 0 ∷ wordsAt at ms)) = omega (arith, words-length 0 M, words-length at ms, length-append (wordsAt 0 M) (word κ 0 ∷ wordsAt at ms)) in
-    rw (words-append, words-up, zero-add, node-words) (subst (Step cap 0 t t₃) (append-assoc (wordsAt 0 M) (word κ 0 ∷ wordsAt at ms) (word (closing κ) 0 ∷ [])) (step-then a size z))
+    let size : m ≡ 0 + length (wordsAt 0 M ++ (word κ 0 ∷ wordsAt at ms)) =
+    omega (arith, words-length 0 M, words-length at ms, length-append (wordsAt 0 M) (word κ 0 ∷ wordsAt at ms)) in
+    rw (words-append, words-up, zero-add, node-words)
+    (subst (Step cap 0 t t₃) (append-assoc (wordsAt 0 M) (word κ 0 ∷ wordsAt at ms) (word (closing κ) 0 ∷ []))
+    (step-then a size z))
 
 node-length : (κ : ℕ) (ms : List Mark) → length (node κ ms) ≡ length ms + 2
 unfolding node
@@ -98,23 +106,38 @@ regroup B C ws u w = simp append-assoc
 
 module _ {i : ℕ} {marks : Bool → List Mark} (o : Open i marks) where
   open-length : (b : Bool) → length (marks b) ≡ i + length (o .inner) + 2
-  open-length b = ap length (o .is b) ∙ omega (arith, o .opens, length-append (o .before) (node (kindOfEntry (comment 1) b) (o .inner)), node-length (kindOfEntry (comment 1) b) (o .inner))
+  open-length b = ap length (o .is b)
+      ∙ omega (
+        arith,
+        o .opens,
+        length-append (o .before) (node (kindOfEntry (comment 1) b) (o .inner)),
+        node-length (kindOfEntry (comment 1) b) (o .inner),
+      )
 
-  open-words : (b : Bool) (ws : List Word) → wordsAt 0 (marks b) ++ ws ≡ wordsAt 0 (o .before) ++ (word (kindOfEntry (comment 1) b) 0 ∷ ((wordsAt 0 (o .inner) ++ (word (closing (kindOfEntry (comment 1) b)) 0 ∷ [])) ++ ws))
+  open-words : (b : Bool) (ws : List Word)
+      → wordsAt 0 (marks b) ++ ws ≡ wordsAt 0 (o .before)
+      ++ (word (kindOfEntry (comment 1) b) 0
+      ∷ ((wordsAt 0 (o .inner) ++ (word (closing (kindOfEntry (comment 1) b)) 0 ∷ [])) ++ ws))
   open-words b ws =
-      ap (λ (m : List Mark). wordsAt 0 m ++ ws) (o .is b) ∙ ap (λ (v : List Word). v ++ ws) (words-append 0 (o .before) _ ∙ ap (λ (v : List Word). wordsAt 0 (o .before) ++ v) (node-words 0 (kindOfEntry (comment 1) b) (o .inner)))
+      ap (λ (m : List Mark). wordsAt 0 m ++ ws) (o .is b)
+      ∙ ap (λ (v : List Word). v ++ ws)
+      (words-append 0 (o .before) _
+      ∙ ap (λ (v : List Word). wordsAt 0 (o .before) ++ v) (node-words 0 (kindOfEntry (comment 1) b) (o .inner)))
       ∙ append-assoc (wordsAt 0 (o .before)) _ ws
 
 pending-length : (c : LastComment) (marks : Bool → List Mark) → Pending c marks → length (marks true) ≡ length (marks false)
 pending-length None marks p = ap length p
 pending-length (At i) marks p = open-length p true ∙ sym (open-length p false)
 
-pending-attachable : (t : List ℕ) (c : LastComment) (marks : Bool → List Mark) (n : ℕ) → Pending c marks → n ≡ length (marks false) → n + 1 < length t → Attachable t c n
+pending-attachable : (t : List ℕ) (c : LastComment) (marks : Bool → List Mark) (n : ℕ) → Pending c marks
+    → n ≡ length (marks false) → n + 1 < length t → Attachable t c n
 pending-attachable t None marks n p e l = tt
 pending-attachable t (At i) marks n p e l = (omega (arith, open-length p false), l)
 
 -- it is attached: all that follows it stays
-comment-attached : {cap : ℕ} {t T : List ℕ} (marks : Bool → List Mark) (ws : List Word) (n : ℕ) (c : LastComment) → Pending c marks → Step cap 0 t T (wordsAt 0 (marks false) ++ ws) → n ≡ length (marks false) → n ≤ cap → n + 1 < length T
+comment-attached : {cap : ℕ} {t T : List ℕ} (marks : Bool → List Mark) (ws : List Word) (n : ℕ) (c : LastComment)
+    → Pending c marks → Step cap 0 t T (wordsAt 0 (marks false) ++ ws) → n ≡ length (marks false) → n ≤ cap
+    → n + 1 < length T
     → Step cap 0 t (attached c n T) (wordsAt 0 (marks true) ++ ws)
 unfolding kindOfEntry
 comment-attached marks ws n None p S e l g = rw p S
@@ -123,9 +146,13 @@ comment-attached {cap} {t} {T} marks ws n (At i) p S e l g =
     let C = wordsAt 0 (p .inner) in
     let size = open-length p false in
     let opens : i ≡ 0 + length B = omega (arith, p .opens, words-length 0 (p .before)) in
-    let closes : n - 1 ≡ 0 + length (B ++ (word 6 0 ∷ C)) = omega (arith, p .opens, words-length 0 (p .before), words-length 0 (p .inner), length-append B (word 6 0 ∷ C)) in
+    let closes : n - 1 ≡ 0 + length (B ++ (word 6 0 ∷ C)) =
+    omega
+    (arith, p .opens, words-length 0 (p .before), words-length 0 (p .inner), length-append B (word 6 0 ∷ C)) in
     let a : Step cap 0 t T (B ++ (word 3 0 ∷ ((C ++ (word 103 0 ∷ [])) ++ ws))) = subst (Step cap 0 t T) (open-words p false ws) S in
-    let b : Step cap 0 t (set T (i + 2) 6) ((B ++ (word 6 0 ∷ C)) ++ (word 103 0 ∷ ws)) = subst (Step cap 0 t (set T (i + 2) 6)) (regroup B C ws (word 6 0) (word 103 0)) (step-kind i 3 6 0 B ((C ++ (word 103 0 ∷ [])) ++ ws) a opens (omega arith) (omega arith)) in
+    let b : Step cap 0 t (set T (i + 2) 6) ((B ++ (word 6 0 ∷ C)) ++ (word 103 0 ∷ ws)) =
+    subst (Step cap 0 t (set T (i + 2) 6)) (regroup B C ws (word 6 0) (word 103 0))
+    (step-kind i 3 6 0 B ((C ++ (word 103 0 ∷ [])) ++ ws) a opens (omega arith) (omega arith)) in
     let d = step-kind (n - 1) 103 106 0 (B ++ (word 6 0 ∷ C)) ws b closes (omega arith) (omega (arith, length-set T (i + 2) 6)) in
     subst (Step cap 0 t (attached (At i) n T)) (sym (open-words p true ws ∙ regroup B C ws (word 6 0) (word 106 0))) d
 
@@ -171,9 +198,16 @@ withComment M at ms l c b = M ++ moveUp at (node (kindOfEntry (comment l) (ltb c
 
 module _ (M : List Mark) (at : ℕ) (ms : List Mark) (l c n : ℕ) (e : n ≡ length M) where
   comment-open : ltb c 2 ≡ true → l ≡ 1 → Open n (withComment M at ms l c)
-  comment-open q w = record { before = M; inner = moveUp at ms; opens = e; is = λ b. rw (q, w) (ap (λ (r : List Mark). M ++ r) (node-up at (kindOfEntry (comment 1) b) ms)) }
+  comment-open q w =
+      record {
+        before = M;
+        inner = moveUp at ms;
+        opens = e;
+        is = λ b. rw (q, w) (ap (λ (r : List Mark). M ++ r) (node-up at (kindOfEntry (comment 1) b) ms));
+      }
 
-  comment-same : (v w : Bool) → kindOfEntry (comment l) v ≡ kindOfEntry (comment l) w → M ++ moveUp at (node (kindOfEntry (comment l) v) ms) ≡ M ++ moveUp at (node (kindOfEntry (comment l) w) ms)
+  comment-same : (v w : Bool) → kindOfEntry (comment l) v ≡ kindOfEntry (comment l) w
+      → M ++ moveUp at (node (kindOfEntry (comment l) v) ms) ≡ M ++ moveUp at (node (kindOfEntry (comment l) w) ms)
   comment-same v w q = ap (λ (κ : ℕ). M ++ moveUp at (node κ ms)) q
 
   comment-pending : Pending (kept (regular l n) c) (withComment M at ms l c)
@@ -203,10 +237,16 @@ module _ {s t e : List ℕ} {x : State} (h : Held s t e x) (l : x .at < length s
     entries-on =
         let u = uses .0 in
         let short : length (drop (x .at + k) s) < length s = omega (arith, u .room, length-drop (x .at + k) s) in
-        rw first-byte (entries-first top (length s) first) ∙ ap (following ns fs k) (rw first-byte at (ap (entries (length s) top) (drop-drop k (x .at) s)) ∙ entries-fuel (level-bounds maxOpen) (length s) (suc (length s)) (drop (x .at + k) s) short (omega arith))
+        rw first-byte (entries-first top (length s) first)
+        ∙ ap (following ns fs k)
+        (rw first-byte at (ap (entries (length s) top) (drop-drop k (x .at) s))
+        ∙ entries-fuel (level-bounds maxOpen) (length s) (suc (length s)) (drop (x .at + k) s) short (omega arith))
 
-    pub held-next : {t′ e′ : List ℕ} (y : State) (marks : Bool → List Mark) → y .at ≡ x .at + k → marks (isNamed (getEntry top (drop (y .at) s))) ≡ h .marks (isNamed (getEntry top (drop (x .at) s))) ++ moveUp (x .at) ns
-        → length (marks false) ≡ x .marks + length ns → y .marks ≡ x .marks + length ns → y .errors ≡ x .errors + length fs → Pending (y .comment) marks
+    pub held-next : {t′ e′ : List ℕ} (y : State) (marks : Bool → List Mark) → y .at ≡ x .at + k
+        → marks (isNamed (getEntry top (drop (y .at) s))) ≡ h .marks (isNamed (getEntry top (drop (x .at) s)))
+        ++ moveUp (x .at) ns
+        → length (marks false) ≡ x .marks + length ns → y .marks ≡ x .marks + length ns
+        → y .errors ≡ x .errors + length fs → Pending (y .comment) marks
         → Step (8 * length s) 0 t t′ (wordsAt 0 (marks false)) → ErrorStep (length s) 0 e e′ (h .faults ++ map (upError (x .at)) fs)
         → Framed s t t′ e e′ × Held s t′ e′ y × (x .at < y .at)
     held-next {t′} {e′} y marks a q w n c p S R =
@@ -229,14 +269,17 @@ module _ {s t e : List ℕ} {x : State} (h : Held s t e x) (l : x .at < length s
             tree = self-step S;
             list = rows-self R;
             pending = p;
-            answer = h .answer ∙ ap (following (h .marks (isNamed (getEntry top (drop (x .at) s)))) (h .faults) (x .at)) entries-on ∙ following-twice _ (h .faults) (x .at) ns fs k _ ∙ rw (q, a) refl;
+            answer = h .answer
+                ∙ ap (following (h .marks (isNamed (getEntry top (drop (x .at) s)))) (h .faults) (x .at)) entries-on
+                ∙ following-twice _ (h .faults) (x .at) ns fs k _ ∙ rw (q, a) refl;
           },
           omega arith,
         )
 
   -- an opening mark was put, and an entry y was read after it
   module _ {opened : ℕ} {t₁ : List ℕ} (o : opened ≡ x .marks + 1) (p : Step (8 * length s) (x .marks) t t₁ (word 1 0 ∷ [])) where
-    module _ {y : Entry} {t₂ : List ℕ} {end m : ℕ} (g : Got y (8 * length s) (x .at) opened end m t₁ t₂ (getEntry top (drop (x .at) s))) where
+    module _ {y : Entry} {t₂ : List ℕ} {end m : ℕ}
+        (g : Got y (8 * length s) (x .at) opened end m t₁ t₂ (getEntry top (drop (x .at) s))) where
       within : Uses 6 (drop (x .at) s) (g .ms) (g .k)
       within = ok-uses (entry-bounds (level-bounds maxOpen)) (drop (x .at) s) (g .is)
 
@@ -256,7 +299,8 @@ module _ {s t e : List ℕ} {x : State} (h : Held s t e x) (l : x .at < length s
       spacious = omega (arith, entry-long, h .sized .tree)
 
       pub entry-attachable : Attachable t₂ (x .comment) (x .marks)
-      entry-attachable = let (a, b) = entry-room in pending-attachable t₂ (x .comment) (h .marks) (x .marks) (h .pending) (h .counted) (omega (arith, spacious))
+      entry-attachable = let (a, b) = entry-room in
+          pending-attachable t₂ (x .comment) (h .marks) (x .marks) (h .pending) (h .counted) (omega (arith, spacious))
 
       words : Step (8 * length s) 0 t t₂ (wordsAt 0 (h .marks false) ++ (word 1 0 ∷ wordsAt (x .at) (g .ms)))
       words = step-then (h .tree) (omega (arith, h .counted, words-length 0 (h .marks false))) (step-then p o (g .wrote))
@@ -268,26 +312,44 @@ module _ {s t e : List ℕ} {x : State} (h : Held s t e x) (l : x .at < length s
         place : r .at ≡ x .at + (g .k + usedBy (skipBlankBlock (drop (g .k) (drop (x .at) s))))
         place = omega (arith, v .at, ap usedBy blocks, g .place)
 
-        pub held-named : {t₃ : List ℕ} (κ : ℕ) → c ≡ None → isNamed (ok y (g .ms) (g .k)) ≡ true → ((b : Bool) → kindOfEntry y b ≡ κ) → Step (8 * length s) m (set (attached (x .comment) (x .marks) t₂) (x .marks + 2) κ) t₃ (word (closing κ) 0 ∷ [])
+        pub held-named : {t₃ : List ℕ} (κ : ℕ) → c ≡ None → isNamed (ok y (g .ms) (g .k)) ≡ true
+            → ((b : Bool) → kindOfEntry y b ≡ κ)
+            → Step (8 * length s) m (set (attached (x .comment) (x .marks) t₂) (x .marks + 2) κ) t₃
+            (word (closing κ) 0 ∷ [])
             → Framed s t t₃ e e × Held s t₃ e r × (x .at < r .at)
         held-named κ n d f z =
             let (a, b) = entry-room in
             let M = h .marks true in
             let size = pending-length (x .comment) (h .marks) (h .pending) in
-            let after = comment-attached (h .marks) (word 1 0 ∷ wordsAt (x .at) (g .ms)) (x .marks) (x .comment) (h .pending) words (h .counted) (omega arith) (omega (arith, spacious)) in
+            let after =
+            comment-attached (h .marks) (word 1 0 ∷ wordsAt (x .at) (g .ms)) (x .marks) (x .comment)
+            (h .pending) words (h .counted) (omega arith) (omega (arith, spacious)) in
             held-next (entry (g .is)) r (λ b. M ++ moveUp (x .at) (node κ (g .ms))) place
             (rw (g .is, d, f (near top (drop (x .at) s) (g .k))))
-            (omega (arith, h .counted, size, length-append M (moveUp (x .at) (node κ (g .ms))), moveUp-length (x .at) (node κ (g .ms)), node-length κ (g .ms), node-length (kindOfEntry y (near top (drop (x .at) s) (g .k))) (g .ms)))
+            (omega (
+              arith,
+              h .counted,
+              size,
+              length-append M (moveUp (x .at) (node κ (g .ms))),
+              moveUp-length (x .at) (node κ (g .ms)),
+              node-length κ (g .ms),
+              node-length (kindOfEntry y (near top (drop (x .at) s) (g .k))) (g .ms),
+            ))
             (omega (arith, v .marks, g .count, node-length (kindOfEntry y (near top (drop (x .at) s) (g .k))) (g .ms)))
             (omega (arith, v .errors))
             (rw (v .comment, n, kept-none) refl)
-            (entry-closed (x .at) (x .marks) m κ M (g .ms) after (omega (arith, h .counted, size)) (omega (arith, g .count)) (omega arith) (omega (arith, spacious, after .long, entry-long)) z)
+            (entry-closed (x .at) (x .marks) m κ M (g .ms) after (omega (arith, h .counted, size))
+            (omega (arith, g .count)) (omega arith) (omega (arith, spacious, after .long, entry-long)) z)
             (rw append-nil (h .list))
 
         nearby : near top (drop (x .at) s) (g .k) ≡ ltb (count (skipBlankBlock (drop end s))) 2 && isNamed (getEntry top (drop (r .at) s))
-        nearby = ap₂ (λ (u : Out ℕ) (w : List ℕ). ltb (count u) 2 && isNamed (getEntry top w)) blocks (drop-drop (g .k + usedBy (skipBlankBlock (drop (g .k) (drop (x .at) s)))) (x .at) s ∙ ap (λ (i : ℕ). drop i s) (sym place))
+        nearby =
+            ap₂ (λ (u : Out ℕ) (w : List ℕ). ltb (count u) 2 && isNamed (getEntry top w)) blocks
+            (drop-drop (g .k + usedBy (skipBlankBlock (drop (g .k) (drop (x .at) s)))) (x .at) s
+            ∙ ap (λ (i : ℕ). drop i s) (sym place))
 
-        pub held-comment : {t₃ : List ℕ} (j : ℕ) → y ≡ comment j → c ≡ regular j (x .marks) → Step (8 * length s) m (set t₂ (x .marks + 2) (2 + j)) t₃ (word (closing (2 + j)) 0 ∷ [])
+        pub held-comment : {t₃ : List ℕ} (j : ℕ) → y ≡ comment j → c ≡ regular j (x .marks)
+            → Step (8 * length s) m (set t₂ (x .marks + 2) (2 + j)) t₃ (word (closing (2 + j)) 0 ∷ [])
             → Framed s t t₃ e e × Held s t₃ e r × (x .at < r .at)
         unfolding isNamed
         held-comment j n d z =
@@ -298,15 +360,25 @@ module _ {s t e : List ℕ} {x : State} (h : Held s t e x) (l : x .at < length s
             let i : getEntry top (drop (x .at) s) ≡ ok (comment j) (g .ms) (g .k) = g .is ∙ ap (λ (w : Entry). ok w (g .ms) (g .k)) n in
             held-next (entry i) r (withComment M (x .at) (g .ms) j q) place
             (rw i (ap (λ (v : Bool). h .marks false ++ moveUp (x .at) (node (kindOfEntry (comment j) v) (g .ms))) (sym nearby)))
-            (omega (arith, h .counted, length-append M (moveUp (x .at) (node κ (g .ms))), moveUp-length (x .at) (node κ (g .ms)), node-length κ (g .ms), node-length (kindOfEntry (comment j) (near top (drop (x .at) s) (g .k))) (g .ms)))
+            (omega (
+              arith,
+              h .counted,
+              length-append M (moveUp (x .at) (node κ (g .ms))),
+              moveUp-length (x .at) (node κ (g .ms)),
+              node-length κ (g .ms),
+              node-length (kindOfEntry (comment j) (near top (drop (x .at) s) (g .k))) (g .ms),
+            ))
             (omega (arith, v .marks, g .count, node-length (kindOfEntry (comment j) (near top (drop (x .at) s) (g .k))) (g .ms)))
             (omega (arith, v .errors))
             (rw (v .comment, d) (comment-pending M (x .at) (g .ms) j q (x .marks) (h .counted)))
-            (rw (kind-free j (ltb q 2)) (entry-closed (x .at) (x .marks) m (2 + j) M (g .ms) words (h .counted) (omega (arith, g .count)) (omega arith) (omega (arith, spacious)) z))
+            (rw (kind-free j (ltb q 2))
+            (entry-closed (x .at) (x .marks) m (2 + j) M (g .ms) words (h .counted) (omega (arith, g .count))
+            (omega arith) (omega (arith, spacious)) z))
             (rw append-nil (h .list))
 
     -- it could not be read, and reading stopped at k
-    module _ {t₂ : List ℕ} {f : ParserError} {k : ℕ} (w : Step (8 * length s) opened t₁ t₂ []) (g : Lost (x .at) f k (getEntry top (drop (x .at) s))) where
+    module _ {t₂ : List ℕ} {f : ParserError} {k : ℕ} (w : Step (8 * length s) opened t₁ t₂ [])
+        (g : Lost (x .at) f k (getEntry top (drop (x .at) s))) where
       stopped : g .k ≤ length (drop (x .at) s)
       stopped = bad-within (entry-bounds (level-bounds maxOpen)) (drop (x .at) s) (g .is)
 
@@ -327,10 +399,15 @@ module _ {s t e : List ℕ} {x : State} (h : Held s t e x) (l : x .at < length s
       held-junk {t₃} {e₃} {r} v =
           let J = junkEnd (g .k) (drop (x .at) s) in
           let M = h .marks false in
-          let blocks : skipBlankBlock (drop J (drop (x .at) s)) ≡ skipBlankBlock (drop (junkTill k s) s) = ap skipBlankBlock (drop-drop J (x .at) s ∙ ap (λ (i : ℕ). drop i s) (sym ends)) in
-          let S = step-then (h .tree) (omega (arith, h .counted, words-length 0 M)) (step-then (step-failed p o w) (sym (add-zero (x .marks))) (v .tree)) in
+          let blocks : skipBlankBlock (drop J (drop (x .at) s)) ≡ skipBlankBlock (drop (junkTill k s) s) =
+          ap skipBlankBlock (drop-drop J (x .at) s ∙ ap (λ (i : ℕ). drop i s) (sym ends)) in
+          let S =
+          step-then (h .tree) (omega (arith, h .counted, words-length 0 M))
+          (step-then (step-failed p o w) (sym (add-zero (x .marks))) (v .tree)) in
           let R = rows-then (h .list) (omega (arith, h .listed)) (v .list) in
-          let err : withJunk f (x .at) (junkTill k s) ≡ upError (x .at) (record { fault = g .fault; junkFrom = 0; junkTill = J }) = λ i. record { fault = g .moved i; junkFrom = sym (add-zero (x .at)) i; junkTill = ends i } in
+          let err : withJunk f (x .at) (junkTill k s) ≡ upError (x .at)
+          (record { fault = g .fault; junkFrom = 0; junkTill = J }) =
+          λ i. record { fault = g .moved i; junkFrom = sym (add-zero (x .at)) i; junkTill = ends i } in
           held-next (junk (g .is)) r (λ b. M ++ moveUp (x .at) (textNode 7 0 J)) (omega (arith, v .moved .at, ap usedBy blocks, ends))
           (rw (g .is))
           (omega (arith, h .counted, length-append M (moveUp (x .at) (textNode 7 0 J)), moveUp-length (x .at) (textNode 7 0 J)))
@@ -341,9 +418,19 @@ module _ {s t e : List ℕ} {x : State} (h : Held s t e x) (l : x .at < length s
           (subst (λ (u : Error). ErrorStep (length s) 0 e e₃ (h .faults ++ (u ∷ []))) err R)
 
     -- an opening nests too deep
-    pub held-far : {t₂ : List ℕ} {k : ℕ} → Step (8 * length s) opened t₁ t₂ [] → Far (x .at) k (getEntry top (drop (x .at) s)) → Framed s t t₂ e e × (parse maxOpen s ≡ refused k)
+    pub held-far : {t₂ : List ℕ} {k : ℕ} → Step (8 * length s) opened t₁ t₂ []
+        → Far (x .at) k (getEntry top (drop (x .at) s)) → Framed s t t₂ e e × (parse maxOpen s ≡ refused k)
     unfolding following
-    held-far w g = (record { tree = step-cut (step-then (h .tree) (omega (arith, h .counted, words-length 0 (h .marks false))) (step-failed p o w)); list = rows-none (length s) e }, h .answer ∙ ap (following (h .marks (isNamed (getEntry top (drop (x .at) s)))) (h .faults) (x .at)) deeper ∙ ap refused (sym (g .place)))
+    held-far w g = (
+      record {
+        tree =
+            step-cut (step-then (h .tree) (omega (arith, h .counted, words-length 0 (h .marks false))) (step-failed p o w));
+        list = rows-none (length s) e;
+      },
+      h .answer
+          ∙ ap (following (h .marks (isNamed (getEntry top (drop (x .at) s)))) (h .faults) (x .at)) deeper
+          ∙ ap refused (sym (g .place)),
+    )
       where
         deeper : entries (suc (length s)) top (drop (x .at) s) ≡ refused (g .k)
         deeper = rw first-byte (entries-far top (length s) (getD s (x .at) 0) (drop (suc (x .at)) s) (rw first-byte at (g .is)))
@@ -386,7 +473,8 @@ module _ {s t t′ e e′ : List ℕ} (f : Framed s t t′ e e′) where
       none : drop (x .at) s ≡ []
       none = drop-of-length-le s n
 
-      last : following (h .marks (isNamed (getEntry top []))) (h .faults) (x .at) (entries (suc (length s)) top []) ≡ read (h .marks false) (h .faults)
+      last : following (h .marks (isNamed (getEntry top []))) (h .faults) (x .at) (entries (suc (length s)) top [])
+          ≡ read (h .marks false) (h .faults)
       last = unfold following entries in (rw (nothing-named top, moveUp-nil, append-nil, append-nil))
 
       all : parse maxOpen s ≡ read (h .marks false) (h .faults)

@@ -54,7 +54,8 @@ pub record Got (x : Entry) (cap at n a n′ : ℕ) (t t₁ : List ℕ) (o : Out 
   pub count : n′ ≡ n + length ms
   pub wrote : Step cap n t t₁ (wordsAt at ms)
 
-pub got : {cap at n a n′ : ℕ} {t t₁ : List ℕ} {r : ReadEntry} (x : Entry) (o : Out Entry) → Did entrying cap at n t t₁ r o → r ≡ entryRead x a n′ → Got x cap at n a n′ t t₁ o
+pub got : {cap at n a n′ : ℕ} {t t₁ : List ℕ} {r : ReadEntry} (x : Entry) (o : Out Entry)
+    → Did entrying cap at n t t₁ r o → r ≡ entryRead x a n′ → Got x cap at n a n′ t t₁ o
 got {at = at} {n} {a} {n′} x (ok y ms k) d e =
     let q = same-entry y x (at + k) a (n + length ms) n′ (sym (d .answers) ∙ e) in
     record { ms = ms; k = k; is = ap (λ (z : Entry). ok z ms k) (q .0); place = sym (q .1); count = sym (q .2); wrote = d .wrote }

@@ -46,7 +46,8 @@ errors-finished cap t t₁ es s =
     let n : 0 + length es ≡ length es = omega arith in
     ap (λ (r : List ℕ). length es ∷ cap ∷ r)
     (ap₂ (λ (a b : List ℕ). a ++ b)
-    (ap₂ (λ (a b : List ℕ). array cap a ++ array (6 * cap) b) (ap (λ k. take k (drop 2 t₁)) (sym n) ∙ s .kinds) (ap (λ k. take (6 * k) (drop (2 + cap) t₁)) (sym n) ∙ s .groups))
+    (ap₂ (λ (a b : List ℕ). array cap a ++ array (6 * cap) b) (ap (λ k. take k (drop 2 t₁)) (sym n) ∙ s .kinds)
+    (ap (λ k. take (6 * k) (drop (2 + cap) t₁)) (sym n) ∙ s .groups))
     (ap (λ k. drop k t₁) e ∙ s .rest))
 
 zeroed-all : (n : ℕ) (t t₁ : List ℕ) → drop n t₁ ≡ drop n t → take 0 t₁ ++ (replicate (n - 0) 0 ++ drop n t₁) ≡ replicate n 0 ++ drop n t
@@ -72,7 +73,8 @@ module _ (s t t₁ e e₁ : List ℕ) (r : Parsed) (z : Sized s t e) (d : DidPar
           record { ms = ms; es = es; reads = q; marks = cc; errors = cc; room = omega (arith, u .0 .room); few = u .1 }
       go (refused j) q = let a : r ≡ Deep j = d .answers ∙ ap parsedOf q in let y : _≡_ {A = ℕ} 0 1 = cc in absurd (omega arith)
 
-  pub accepted : (n k : ℕ) (t₂ e₂ : List ℕ) → r ≡ Counts n k → t₂ ≡ finished (8 * length s) n (8 * length s) n t₁ → e₂ ≡ finished (length s) k (6 * length s) (6 * k) e₁
+  pub accepted : (n k : ℕ) (t₂ e₂ : List ℕ) → r ≡ Counts n k → t₂ ≡ finished (8 * length s) n (8 * length s) n t₁
+      → e₂ ≡ finished (length s) k (6 * length s) (6 * k) e₁
       → DidReadInto s t t₂ e e₂ (Accepted 0)
   unfolding answerOf sliceAfter effectOf sliceBy marksOf errorsOf
   accepted n k t₂ e₂ h x y =
@@ -81,24 +83,37 @@ module _ (s t t₁ e e₁ : List ℕ) (r : Parsed) (z : Sized s t e) (d : DidPar
       let rows : ErrorStep (length s) 0 e e₁ (c .es) = rw (c .reads) at (d .errors) in
       record {
         answers = rw (c .reads);
-        tree = rw (c .reads) (x ∙ ap (λ j. finished (8 * length s) j (8 * length s) j t₁) (c .marks) ∙ tree-finished (8 * length s) t t₁ (c .ms) step (c .room) (z .tree));
-        errors = rw (c .reads) (y ∙ ap (λ j. finished (length s) j (6 * length s) (6 * j) e₁) (c .errors) ∙ errors-finished (length s) e e₁ (c .es) rows);
+        tree =
+            rw (c .reads)
+            (x ∙ ap (λ j. finished (8 * length s) j (8 * length s) j t₁) (c .marks)
+            ∙ tree-finished (8 * length s) t t₁ (c .ms) step (c .room) (z .tree));
+        errors =
+            rw (c .reads)
+            (y ∙ ap (λ j. finished (length s) j (6 * length s) (6 * j) e₁) (c .errors)
+            ∙ errors-finished (length s) e e₁ (c .es) rows);
       }
 
-  pub too-deep : (j : ℕ) (t₂ e₂ : List ℕ) → r ≡ Deep j → t₂ ≡ take 0 t₁ ++ (replicate (2 + 16 * length s - 0) 0 ++ drop (2 + 16 * length s) t₁)
+  pub too-deep : (j : ℕ) (t₂ e₂ : List ℕ) → r ≡ Deep j
+      → t₂ ≡ take 0 t₁ ++ (replicate (2 + 16 * length s - 0) 0 ++ drop (2 + 16 * length s) t₁)
       → e₂ ≡ take 0 e₁ ++ (replicate (2 + 7 * length s - 0) 0 ++ drop (2 + 7 * length s) e₁) → DidReadInto s t t₂ e e₂ (TooDeep j)
   unfolding answerOf sliceAfter effectOf sliceBy
   too-deep j t₂ e₂ h x y = go (parse maxOpen s) refl
     where
       go : (o : Reading) → parse maxOpen s ≡ o → DidReadInto s t t₂ e e₂ (TooDeep j)
-      go (read ms es) q = let a : r ≡ Counts (length ms) (length es) = d .answers ∙ ap parsedOf q in let w : _≡_ {A = ℕ} 0 1 = cc in absurd (omega arith)
+      go (read ms es) q = let a : r ≡ Counts (length ms) (length es) = d .answers ∙ ap parsedOf q in
+          let w : _≡_ {A = ℕ} 0 1 = cc in absurd (omega arith)
       go (refused k) q =
           let a : r ≡ Deep k = d .answers ∙ ap parsedOf q in
           let same : j ≡ k = cc in
           let n : 2 + 16 * length s ≡ 2 + 2 * (8 * length s) = omega arith in
           record {
             answers = rw q (ap TooDeep same);
-            tree = rw q (x ∙ zeroed-all (2 + 16 * length s) t t₁ (ap (λ i. drop i t₁) n ∙ d .tree .rest ∙ ap (λ i. drop i t) (sym n)) ∙ ap (λ i. replicate i 0 ++ drop i t) n);
+            tree =
+                rw q
+                (x
+                ∙ zeroed-all (2 + 16 * length s) t t₁
+                (ap (λ i. drop i t₁) n ∙ d .tree .rest ∙ ap (λ i. drop i t) (sym n))
+                ∙ ap (λ i. replicate i 0 ++ drop i t) n);
             errors = rw q (y ∙ zeroed-all (2 + 7 * length s) e e₁ (d .errors .rest));
           }
 
@@ -128,7 +143,12 @@ module _ (s t e : List ℕ) where
       where
         go : (o : Option ℕ) → firstIllFormed s ≡ o → IllFormed k ≡ checkedOf o → DidRead s t t e e (NotUtf8 k)
         go none q d = let z : _≡_ {A = ℕ} 0 1 = cc in absurd (omega arith)
-        go (some j) q d = let same : k ≡ j = cc in record { answers = rw (short, readAnswer, q) (ap NotUtf8 same); tree = rw (short, readAnswer, q); errors = rw (short, readAnswer, q) }
+        go (some j) q d = let same : k ≡ j = cc in
+            record {
+              answers = rw (short, readAnswer, q) (ap NotUtf8 same);
+              tree = rw (short, readAnswer, q);
+              errors = rw (short, readAnswer, q);
+            }
 
     module _ (f : firstIllFormed s ≡ none) where
       pub tree-short : length t < 2 + 16 * length s → DidRead s t t e e (TreeTooShort (2 + 16 * length s))
@@ -136,7 +156,11 @@ module _ (s t e : List ℕ) where
       tree-short l =
           let n : 2 + 16 * length s ≡ treeLayout (length s) = omega arith in
           let q = lt-ltb (length t) (treeLayout (length s)) (omega arith) in
-          record { answers = rw (short, readAnswer, f, q) (ap TreeTooShort n); tree = rw (short, readAnswer, f, q); errors = rw (short, readAnswer, f, q) }
+          record {
+            answers = rw (short, readAnswer, f, q) (ap TreeTooShort n);
+            tree = rw (short, readAnswer, f, q);
+            errors = rw (short, readAnswer, f, q);
+          }
 
       module _ (l : 2 + 16 * length s ≤ length t) where
         roomy : ltb (length t) (treeLayout (length s)) ≡ false
@@ -146,10 +170,18 @@ module _ (s t e : List ℕ) where
         unfolding readAnswer treeAfter errorsAfter sliceAfter effectOf sliceBy
         errors-short g =
             let q = lt-ltb (length e) (errorLayout (length s)) g in
-            record { answers = rw (short, readAnswer, f, roomy, q); tree = rw (short, readAnswer, f, roomy, q); errors = rw (short, readAnswer, f, roomy, q) }
+            record {
+              answers = rw (short, readAnswer, f, roomy, q);
+              tree = rw (short, readAnswer, f, roomy, q);
+              errors = rw (short, readAnswer, f, roomy, q);
+            }
 
         pub none-short : (t′ e′ : List ℕ) (r : Answer) → 2 + 7 * length s ≤ length e → DidReadInto s t t′ e e′ r → DidRead s t t′ e e′ r
         unfolding readAnswer treeAfter errorsAfter
         none-short t′ e′ r g d =
             let q = le-ltb (length e) (errorLayout (length s)) g in
-            record { answers = rw (short, readAnswer, f, roomy, q) (d .answers); tree = rw (short, readAnswer, f, roomy, q) (d .tree); errors = rw (short, readAnswer, f, roomy, q) (d .errors) }
+            record {
+              answers = rw (short, readAnswer, f, roomy, q) (d .answers);
+              tree = rw (short, readAnswer, f, roomy, q) (d .tree);
+              errors = rw (short, readAnswer, f, roomy, q) (d .errors);
+            }

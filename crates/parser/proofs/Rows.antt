@@ -14,15 +14,22 @@ unfolding groups
 groups-append [] fs = refl
 groups-append (e ∷ es) fs = ap (λ (r : List ℕ). group e ++ r) (groups-append es fs) ∙ sym (append-assoc (group e) (groups es) (groups fs))
 
-pub rows-then : {cap n m : ℕ} {t t₁ t₂ : List ℕ} {es fs : List Error} → ErrorStep cap n t t₁ es → m ≡ n + length es → ErrorStep cap m t₁ t₂ fs → ErrorStep cap n t t₂ (es ++ fs)
+pub rows-then : {cap n m : ℕ} {t t₁ t₂ : List ℕ} {es fs : List Error} → ErrorStep cap n t t₁ es → m ≡ n + length es
+    → ErrorStep cap m t₁ t₂ fs → ErrorStep cap n t t₂ (es ++ fs)
 rows-then {cap} {n} {m} {t} {t₁} {t₂} {es} {fs} s e r =
     let k : n + length (es ++ fs) ≡ m + length fs = omega (arith, e, length-append es fs) in
     let p : take m (drop 2 t₁) ≡ take n (drop 2 t) ++ map errorNumber es = rw e (s .kinds) in
     let q : take (groupSize * m) (drop (2 + cap) t₁) ≡ take (groupSize * n) (drop (2 + cap) t) ++ groups es = rw e (s .groups) in
     record {
       long = r .long ∙ s .long;
-      kinds = rw (k, map-append) (r .kinds ∙ ap (λ (l : List ℕ). l ++ map errorNumber fs) p ∙ append-assoc (take n (drop 2 t)) (map errorNumber es) (map errorNumber fs));
-      groups = rw (k, groups-append) (r .groups ∙ ap (λ (l : List ℕ). l ++ groups fs) q ∙ append-assoc (take (groupSize * n) (drop (2 + cap) t)) (groups es) (groups fs));
+      kinds =
+          rw (k, map-append)
+          (r .kinds ∙ ap (λ (l : List ℕ). l ++ map errorNumber fs) p
+          ∙ append-assoc (take n (drop 2 t)) (map errorNumber es) (map errorNumber fs));
+      groups =
+          rw (k, groups-append)
+          (r .groups ∙ ap (λ (l : List ℕ). l ++ groups fs) q
+          ∙ append-assoc (take (groupSize * n) (drop (2 + cap) t)) (groups es) (groups fs));
       rest = r .rest ∙ s .rest;
     }
 

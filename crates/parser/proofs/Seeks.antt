@@ -27,7 +27,8 @@ unfolding lineStartsAt
 starts-first s i h = rw h
 
 pub starts-after : (s : List ℕ) (i : ℕ) → (i ≡ 0 → ⊥) → i ≤ length s → eqb (getD s (i - 1) 0) Byte.lineFeed ≡ lineStartsAt i s
-starts-after s i h l = let e : i ≡ suc (i - 1) = omega arith in sym (ap (λ (k : ℕ). lineStartsAt k s) e ∙ start-after (i - 1) s (omega arith))
+starts-after s i h l = let e : i ≡ suc (i - 1) = omega arith in
+    sym (ap (λ (k : ℕ). lineStartsAt k s) e ∙ start-after (i - 1) s (omega arith))
 
 -- past a place, whether a line starts does not depend on the place
 pub starts-past : (s : List ℕ) (i k : ℕ) → i + suc k ≤ length s → lineStartsAt (i + suc k) s ≡ lineStartsAt (suc k) (drop i s)

@@ -24,7 +24,8 @@ use Rattle.syntax.specs.Pattern.{usedBy}
 use Rattle.syntax.specs.Expression.{level}
 use Rattle.syntax.specs.Core.{Entry, comment, message, term, getEntry, toNextEntry, lineStartsAt, junkEnd}
 use Rattle.syntax.specs.Layout.{treeLayout}
-use Rattle.syntax.specs.Next.{stopOf, firstPlace, Ahead, entryAt, nothing, short, aheadFrom, ahead, stopped, answerBy, nextAnswer, Scratched, TreeBy, NextTree}
+use Rattle.syntax.specs.Next.{stopOf, firstPlace, Ahead, entryAt, nothing, short, aheadFrom, ahead, stopped, answerBy}
+use Rattle.syntax.specs.Next.{nextAnswer, Scratched, TreeBy, NextTree}
 use Rattle.laws.specs.Bytes.{byCase}
 use Rattle.laws.specs.Bounds.{bad-within}
 use Rattle.laws.specs.Bounds.Expression.{level-bounds}
@@ -62,12 +63,19 @@ module _ (s : List ℕ) (a : ℕ) (l : a < length s) where
       go : (r : List ℕ) → drop a s ≡ r → toNextEntry (lineStartsAt a s) (drop a s) ≡ toNextEntry true (drop a s)
       go [] q = absurd (omega (arith, ap length q, length-drop a s))
       go (b ∷ bs) q =
-          ap (toNextEntry (lineStartsAt a s)) q ∙ seek-any b bs (not-fresh b bs (junk-moves (level maxOpen) b bs (sym (ap (getEntry (level maxOpen)) q) ∙ h))) (lineStartsAt a s) true
+          ap (toNextEntry (lineStartsAt a s)) q
+          ∙ seek-any b bs
+          (not-fresh b bs (junk-moves (level maxOpen) b bs (sym (ap (getEntry (level maxOpen)) q) ∙ h)))
+          (lineStartsAt a s) true
           ∙ sym (ap (toNextEntry true) q)
   seeks {f} (suc k) h =
-      ap₂ toNextEntry (starts-past s a k (omega (arith, bad-within (entry-bounds (level-bounds maxOpen)) (drop a s) h, length-drop a s))) (sym (drop-drop (suc k) a s))
+      ap₂ toNextEntry
+      (starts-past s a k
+      (omega (arith, bad-within (entry-bounds (level-bounds maxOpen)) (drop a s) h, length-drop a s)))
+      (sym (drop-drop (suc k) a s))
 
-  stops-as : (o : Out Entry) → getEntry (level maxOpen) (drop a s) ≡ o → stoppedAt s a (answer entrying a 0 o) ≡ stopped a (stopOf (drop a s) o)
+  stops-as : (o : Out Entry) → getEntry (level maxOpen) (drop a s) ≡ o
+      → stoppedAt s a (answer entrying a 0 o) ≡ stopped a (stopOf (drop a s) o)
   unfolding stopOf stopped junkEnd
   stops-as (ok message ms k) h = refl
   stops-as (ok term ms k) h = refl
@@ -82,13 +90,23 @@ module _ (s : List ℕ) (a : ℕ) (l : a < length s) where
       go (ok message ms k) h = tt
       go (ok term ms k) h = tt
       go (ok (comment j) ms k) h = tt
-      go (bad f k) h = record { inside = omega (arith, bad-within (entry-bounds (level-bounds maxOpen)) (drop a s) h, length-drop a s); short = m }
+      go (bad f k) h =
+          record {
+            inside =
+                omega (arith, bad-within (entry-bounds (level-bounds maxOpen)) (drop a s) h, length-drop a s);
+            short = m;
+          }
       go (deep k) h = tt
 
   -- an entry was read into the tree
-  pub entry-read : {t t₁ : List ℕ} {r : ReadEntry} {x : Next} → Did entrying (8 * length s) a 0 t t₁ r (getEntry (level maxOpen) (drop a s)) → x ≡ stoppedAt s a r
+  pub entry-read : {t t₁ : List ℕ} {r : ReadEntry} {x : Next}
+      → Did entrying (8 * length s) a 0 t t₁ r (getEntry (level maxOpen) (drop a s)) → x ≡ stoppedAt s a r
       → (x ≡ stopped a (stopOf (drop a s) (getEntry (level maxOpen) (drop a s)))) × Scratched (treeLayout (length s)) t t₁
-  entry-read d e = (e ∙ ap (stoppedAt s a) (d .answers) ∙ stops-as (getEntry (level maxOpen) (drop a s)) refl, record { long = d .wrote .long; sizes = d .wrote .head; rest = d .wrote .rest })
+  entry-read d e = (
+    e ∙ ap (stoppedAt s a) (d .answers)
+        ∙ stops-as (getEntry (level maxOpen) (drop a s)) refl,
+    record { long = d .wrote .long; sizes = d .wrote .head; rest = d .wrote .rest },
+  )
 
 -- ---- the tests
 
@@ -138,9 +156,11 @@ module _ (s : List ℕ) (at : ℕ) (t : List ℕ) where
             finds short t (from-there ∙ rw (here, aheadFrom, q)) (ap answers.TreeTooShort n) refl
 
         pub asked-entry : 2 + 16 * length s ≤ length t → {t′ : List ℕ} {r : Next}
-            → (r ≡ stopped (b .end) (stopOf (drop (b .end) s) (getEntry (level maxOpen) (drop (b .end) s)))) × Scratched (treeLayout (length s)) t t′ → Answers s at t t′ r
+            → (r ≡ stopped (b .end) (stopOf (drop (b .end) s) (getEntry (level maxOpen) (drop (b .end) s))))
+            × Scratched (treeLayout (length s)) t t′ → Answers s at t t′ r
         unfolding aheadFrom answerBy
-        asked-entry m {t′} (x, y) = let q = le-ltb (length t) (treeLayout (length s)) (omega arith) in finds (entryAt (b .end)) t′ (from-there ∙ rw (here, aheadFrom, q)) x y
+        asked-entry m {t′} (x, y) = let q = le-ltb (length t) (treeLayout (length s)) (omega arith) in
+            finds (entryAt (b .end)) t′ (from-there ∙ rw (here, aheadFrom, q)) x y
 
 -- ---- the first place
 

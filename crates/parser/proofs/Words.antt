@@ -34,7 +34,8 @@ map-map : (f : Word → ℕ) (g : Mark → ℕ) → ((m : Mark) → f (wordOf m)
 map-map f g e [] = refl
 map-map f g e (m ∷ ms) = ap₂ (λ (x : ℕ) (l : List ℕ). x ∷ l) (e m) (map-map f g e ms)
 
-module _ (cap : ℕ) (t t′ : List ℕ) (ms : List Mark) (s : Step cap 0 t t′ (wordsAt 0 ms)) (h : length ms ≤ cap) (l : 2 + 2 * cap ≤ length t) where
+module _ (cap : ℕ) (t t′ : List ℕ) (ms : List Mark) (s : Step cap 0 t t′ (wordsAt 0 ms)) (h : length ms ≤ cap)
+    (l : 2 + 2 * cap ≤ length t) where
   marks-are : marksIn cap (length ms) t′ ≡ map wordOf ms
   unfolding marksIn wordsAt moveUp
   marks-are =
@@ -50,5 +51,8 @@ module _ (cap : ℕ) (t t′ : List ℕ) (ms : List Mark) (s : Step cap 0 t t′
   pub places-are : take (length ms) (drop (2 + cap) t′) ≡ map placeOf ms
   unfolding placeIn
   places-are =
-      sym (column placeIn (2 + cap) cap (λ n u. let e : cap + n + 2 ≡ 2 + cap + n = omega arith in ap (λ k. getD u k 0) e) (length ms) t′ (omega (arith, s .long)))
+      sym
+      (column placeIn (2 + cap) cap
+      (λ n u. let e : cap + n + 2 ≡ 2 + cap + n = omega arith in ap (λ k. getD u k 0) e) (length ms) t′
+      (omega (arith, s .long)))
       ∙ ap (map placeIn) marks-are ∙ map-map placeIn placeOf (λ m. refl) ms

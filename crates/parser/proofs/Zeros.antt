@@ -4,7 +4,8 @@ use native.Mathlib.Numerals.{add-one}
 use native.Mathlib.Omega.{arith}
 use mathlib.Core.Path.{_≡_, refl, sym, ap, ap₂, _∙_}
 use mathlib.Core.List.{List, [], _∷_, _++_, append-assoc}
-use lib.ListN.{length, getD, take, drop, set, replicate, length-append, length-take, length-drop, length-replicate, replicate-append-replicate, take-append-drop}
+use lib.ListN.{length, getD, take, drop, set, replicate, length-append, length-take, length-drop, length-replicate}
+use lib.ListN.{replicate-append-replicate, take-append-drop}
 use lib.Seq.{set-at, drop-cons, drop-drop, take-append-add, drop-append-add}
 use Rattle.syntax.specs.Layout.{array}
 use Rattle.parser.specs.Laid.{Laid, finished}
@@ -14,7 +15,8 @@ unfoldable pub zeroed : (from i : ℕ) → List ℕ → List ℕ
 zeroed from i t = take from t ++ (replicate (i - from) 0 ++ drop i t)
 
 -- as the contract of `layout::zero` says it
-pub zero-length : (from i : ℕ) (t t′ : List ℕ) → from ≤ i → i ≤ length t → t′ ≡ take from t ++ (replicate (i - from) 0 ++ drop i t) → length t′ ≡ length t
+pub zero-length : (from i : ℕ) (t t′ : List ℕ) → from ≤ i → i ≤ length t
+    → t′ ≡ take from t ++ (replicate (i - from) 0 ++ drop i t) → length t′ ≡ length t
 zero-length from i t t′ h l e = ap length e ∙ simp (length-append, length-take, length-replicate, length-drop) (omega arith)
 
 pub zeroed-none : (from : ℕ) (t : List ℕ) → t ≡ zeroed from from t
@@ -35,7 +37,8 @@ zeroed-more from i t h l =
     ∙ append-assoc head zeros (0 ∷ drop (suc i) t)
     ∙ ap (λ r. head ++ r)
     (sym (append-assoc zeros (0 ∷ []) (drop (suc i) t))
-    ∙ ap₂ (λ (a b : List ℕ). a ++ b) (replicate-append-replicate (i - from) 1 0 ∙ ap (λ n. replicate n 0) one) (ap (λ n. drop n t) (sym (add-one i))))
+    ∙ ap₂ (λ (a b : List ℕ). a ++ b) (replicate-append-replicate (i - from) 1 0 ∙ ap (λ n. replicate n 0) one)
+    (ap (λ n. drop n t) (sym (add-one i))))
 
 -- past a part that is left alone
 zeroed-past : (p t : List ℕ) (m i j : ℕ) → length p ≡ m → i ≤ j → zeroed (m + i) (m + j) (p ++ t) ≡ p ++ zeroed i j t
@@ -68,10 +71,13 @@ finish-is (a ∷ b ∷ r) cap n size used l =
     let room : cap + size ≤ length r = omega (arith, l .layout) in
     let k : length kept ≡ cap = array-long cap (take n r) (simp length-take (omega (arith, l .held))) in
     let past : drop (2 + cap) (a ∷ b ∷ r) ≡ drop cap r = drop-append-add (a ∷ b ∷ []) r cap in
-    let end : drop (2 + cap + size) (a ∷ b ∷ r) ≡ drop size (drop cap r) = sym (drop-drop size (2 + cap) (a ∷ b ∷ r)) ∙ ap (drop size) past in
+    let end : drop (2 + cap + size) (a ∷ b ∷ r) ≡ drop size (drop cap r) = sym (drop-drop size (2 + cap) (a ∷ b ∷ r))
+    ∙ ap (drop size) past in
     ap (zeroed (2 + cap + used) (2 + cap + size))
     (zeroed-past (n ∷ cap ∷ []) r 2 n cap refl (l .held) ∙ ap (λ (z : List ℕ). n ∷ cap ∷ z) (zeroed-array n cap r (l .held) (omega arith)))
     ∙ zeroed-past (n ∷ cap ∷ kept) (drop cap r) (2 + cap) used size (omega arith) (l .filled)
     ∙ ap (λ (z : List ℕ). n ∷ cap ∷ z)
-    (ap (λ z. kept ++ z) (zeroed-array used size (drop cap r) (l .filled) (simp length-drop (omega arith)) ∙ ap₂ (λ (x y : List ℕ). array size (take used x) ++ y) (sym past) (sym end))
+    (ap (λ z. kept ++ z)
+    (zeroed-array used size (drop cap r) (l .filled) (simp length-drop (omega arith))
+    ∙ ap₂ (λ (x y : List ℕ). array size (take used x) ++ y) (sym past) (sym end))
     ∙ sym (append-assoc kept (array size (take used (drop (2 + cap) (a ∷ b ∷ r)))) (drop (2 + cap + size) (a ∷ b ∷ r))))

@@ -33,7 +33,8 @@ pub record DidParse (s t t′ e e′ : List ℕ) (r : Parsed) (o : Reading) : Ty
 -- the reading where no earlier test refuses: its answer, and every word of both slices
 pub record DidReadInto (s t t′ e e′ : List ℕ) (r : Answer) : Type 0 where
   pub answers : r ≡ answerOf (parse maxOpen s)
-  pub tree : t′ ≡ sliceAfter (answerOf (parse maxOpen s)) (treeLayout (length s)) (treeWords (treeCapacity (length s)) (marksOf (parse maxOpen s))) t
+  pub tree : t′ ≡ sliceAfter (answerOf (parse maxOpen s)) (treeLayout (length s))
+      (treeWords (treeCapacity (length s)) (marksOf (parse maxOpen s))) t
   pub errors : e′ ≡ sliceAfter (answerOf (parse maxOpen s)) (errorLayout (length s)) (errorWords (length s) (errorsOf (parse maxOpen s))) e
 
 -- the reading call: its answer, and every word of both slices

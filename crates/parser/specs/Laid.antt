@@ -13,4 +13,5 @@ pub record Laid (t : List ℕ) (cap n size used : ℕ) : Type 0 where
 
 -- its words once the sizes stand there and the rest of both arrays is 0
 unfoldable pub finished : (cap n size used : ℕ) → List ℕ → List ℕ
-finished cap n size used t = n ∷ cap ∷ ((array cap (take n (drop 2 t)) ++ array size (take used (drop (2 + cap) t))) ++ drop (2 + cap + size) t)
+finished cap n size used t = n ∷ cap
+    ∷ ((array cap (take n (drop 2 t)) ++ array size (take used (drop (2 + cap) t))) ++ drop (2 + cap + size) t)

@@ -11,7 +11,8 @@ use Rattle.syntax.specs.Marks.{Mark, node}
 use Rattle.syntax.specs.Helper.{skipBlankBlock}
 use Rattle.syntax.specs.Pattern.{usedBy}
 use Rattle.syntax.specs.Expression.{level}
-use Rattle.syntax.specs.Core.{comment, getEntry, toNextEntry, lineStartsAt, Error, refused, following, isNamed, count, kindOfEntry, entries, parse}
+use Rattle.syntax.specs.Core.{comment, getEntry, toNextEntry, lineStartsAt, Error, refused, following, isNamed, count}
+use Rattle.syntax.specs.Core.{kindOfEntry, entries, parse}
 use Rattle.entry.specs.Tree.{word, Step, wordsAt}
 use Rattle.parser.specs.ErrorList.{ErrorStep, withJunk}
 use Rattle.parser.specs.Call.{Sized}
@@ -93,7 +94,8 @@ pub record Held (s t e : List ℕ) (x : State) : Type 0 where
   pub tree : Step (8 * length s) 0 t t (wordsAt 0 (marks false))
   pub list : ErrorStep (length s) 0 e e faults
   pub pending : Pending (x .comment) marks
-  pub answer : parse maxOpen s ≡ following (marks (isNamed (getEntry (level maxOpen) (drop (x .at) s)))) faults (x .at) (entries (suc (length s)) (level maxOpen) (drop (x .at) s))
+  pub answer : parse maxOpen s ≡ following (marks (isNamed (getEntry (level maxOpen) (drop (x .at) s)))) faults (x .at)
+      (entries (suc (length s)) (level maxOpen) (drop (x .at) s))
 
 -- ---- an entry
 

@@ -36,7 +36,9 @@ named-after j (deep k) = tt
 
 named : {A : Type 0} (q : ℕ → Reader A) (s : List ℕ) → Holds Named ((getIdentifier Kind.identifier >>= q) s)
 unfolding _>>=_ next getIdentifier fail
-named q s = pick (λ o. Holds Named (next s q o)) (starts isLetter s) _ _ (λ _. named-after (run isNamePart s) (q (run isNamePart s) (drop (run isNamePart s) s))) (λ _. tt)
+named q s =
+    pick (λ o. Holds Named (next s q o)) (starts isLetter s) _ _
+    (λ _. named-after (run isNamePart s) (q (run isNamePart s) (drop (run isNamePart s) s))) (λ _. tt)
 
 module _ (sub : Inside) where
   fields-named : (s : List ℕ) → Holds Named (fields sub s)
@@ -46,7 +48,9 @@ module _ (sub : Inside) where
   pub entry-begins : (s : List ℕ) → Holds (λ e ms k. Begun e s ms) (getEntry sub s)
   unfolding getEntry
   entry-begins s = pick (Holds (λ e ms k. Begun e s ms)) (startsWith Byte.hash s) _ _ (λ q. ofComment q (getComment s))
-      (λ _. pick (Holds (λ e ms k. Begun e s ms)) (startsWith Byte.minus s) _ _ (λ q. rw (term-reads q) (ofTerm q (fields sub (drop 1 s)) (fields-named (drop 1 s)))) (λ _. ofMessage (fields sub s) (fields-named s)))
+      (λ _. pick (Holds (λ e ms k. Begun e s ms)) (startsWith Byte.minus s) _ _
+      (λ q. rw (term-reads q) (ofTerm q (fields sub (drop 1 s)) (fields-named (drop 1 s))))
+      (λ _. ofMessage (fields sub s) (fields-named s)))
     where
       ofComment : startsWith Byte.hash s ≡ true → (o : Out ℕ) → Holds (λ e ms k. Begun e s ms) (asComment o)
       ofComment q (ok l ms k) = unfold asComment in q
@@ -54,7 +58,8 @@ module _ (sub : Inside) where
       ofComment q (deep k) = unfold asComment in tt
 
       ofMessage : (o : Out Fields) → Holds Named o → Holds (λ e ms k. Begun e s ms) (asMessage o)
-      ofMessage (ok f ms k) h = unfold asMessage Named in (pick (Holds (λ e ms k. Begun e s ms)) (f .value || not (eqb (f .attributes) 0)) _ _ (λ _. h) (λ _. tt))
+      ofMessage (ok f ms k) h = unfold asMessage Named in
+          (pick (Holds (λ e ms k. Begun e s ms)) (f .value || not (eqb (f .attributes) 0)) _ _ (λ _. h) (λ _. tt))
       ofMessage (bad f k) h = unfold asMessage in tt
       ofMessage (deep k) h = unfold asMessage in tt
 
@@ -64,6 +69,14 @@ module _ (sub : Inside) where
       ofTerm : startsWith Byte.minus s ≡ true → (o : Out Fields) → Holds Named o → Holds (λ e ms k. Begun e s ms) (asTerm (after [] 1 o))
       ofTerm q (ok f ms k) h = unfold asTerm after Named in
           let (j, ns, e) = h in
-          (pick (Holds (λ e ms k. Begun e s ms)) (f .value) _ _ (λ _. (q, j, moveUp 1 ns, ap (moveUp 1) e ∙ moveUp-append 1 (textNode Kind.identifier 0 j) ns ∙ ap (λ r. r ++ moveUp 1 ns) (text-up 1 Kind.identifier j))) (λ _. tt))
+          (pick (Holds (λ e ms k. Begun e s ms)) (f .value) _ _
+          (λ _. (
+            q,
+            j,
+            moveUp 1 ns,
+            ap (moveUp 1) e ∙ moveUp-append 1 (textNode Kind.identifier 0 j) ns
+                ∙ ap (λ r. r ++ moveUp 1 ns) (text-up 1 Kind.identifier j),
+          ))
+          (λ _. tt))
       ofTerm q (bad f k) h = unfold asTerm after in tt
       ofTerm q (deep k) h = unfold asTerm after in tt

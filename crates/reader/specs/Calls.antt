@@ -1,4 +1,5 @@
--- Calls one after the other: from the first place on a reader answers the entries of its source in order, and then that none is left (`reader-tells`), for ever
+-- Calls one after the other: from the first place on a reader answers the entries of its source in order, and then that
+-- none is left (`reader-tells`), for ever
 -- (`end-tells`). A call that is lent too short a tree says so, and leaves the reader where it was (`short-stays`).
 use Prim.Native.Nat.{ℕ, zero, suc, _+_, _≤_, _<_}
 use native.Mathlib.Omega.{arith}
@@ -15,7 +16,8 @@ use Rattle.syntax.specs.declared.next.Next.the-variants.{Entry, None, TreeTooSh
 use Rattle.syntax.specs.Limits.{maxLength, maxOpen}
 use Rattle.syntax.specs.Expression.{level}
 use Rattle.syntax.specs.Layout.{treeLayout}
-use Rattle.syntax.specs.Next.{Extent, parseExtents, entriesOf, firstPlace, Ahead, entryAt, nothing, short, aheadFrom, ahead, stopped, answerBy, nextAnswer, placeAfter}
+use Rattle.syntax.specs.Next.{Extent, parseExtents, entriesOf, firstPlace, Ahead, entryAt, nothing, short, aheadFrom}
+use Rattle.syntax.specs.Next.{ahead, stopped, answerBy, nextAnswer, placeAfter}
 use Rattle.laws.specs.Bytes.{byCase, pick}
 use Rattle.laws.specs.Bounds.Expression.{level-bounds}
 use Rattle.reader.specs.Extents.{stopAt, ups-zero, restExtents, startAfter, stop-within, rest-nil, rest-none, rest-some}
@@ -45,11 +47,14 @@ entriesAfter s at = elim (ltb maxLength (length s)) [ true ↦ [] | false ↦ re
 -- refusal 1 holds, or it does not
 data Tested (s : List ℕ) : Type 0 where
   refused : ((at m : ℕ) → ahead s at m ≡ nothing) → ((at : ℕ) → entriesAfter s at ≡ []) → Tested s
-  passed : ((at m : ℕ) → ahead s at m ≡ aheadFrom s (startAfter s at) m) → ((at : ℕ) → entriesAfter s at ≡ restExtents maxOpen s at) → Tested s
+  passed : ((at m : ℕ) → ahead s at m ≡ aheadFrom s (startAfter s at) m)
+      → ((at : ℕ) → entriesAfter s at ≡ restExtents maxOpen s at) → Tested s
 
 tested : (s : List ℕ) → Tested s
 unfolding ahead entriesAfter
-tested s = byCase (ltb maxLength (length s)) (λ q. refused (λ at m. rw (q, ahead)) (λ at. rw (q, entriesAfter))) (λ q. passed (λ at m. rw (q, ahead)) (λ at. rw (q, entriesAfter)))
+tested s =
+    byCase (ltb maxLength (length s)) (λ q. refused (λ at m. rw (q, ahead)) (λ at. rw (q, entriesAfter)))
+    (λ q. passed (λ at m. rw (q, ahead)) (λ at. rw (q, entriesAfter)))
 
 -- nothing stands after the end
 module _ (s : List ℕ) where
@@ -105,7 +110,9 @@ module _ (s : List ℕ) where
 -- what a call answers is the first of the entries after the place, or that there is none
 pub data Answered (s : List ℕ) (at m : ℕ) : Type 0 where
   ends : nextAnswer s at m ≡ None → entriesAfter s at ≡ [] → Answered s at m
-  finds : {a e : ℕ} → nextAnswer s at m ≡ Entry a e → entriesAfter s at ≡ record { start = a; stop = e } ∷ entriesAfter s e → at ≤ a → a < e → e ≤ length s → Answered s at m
+  finds : {a e : ℕ} → nextAnswer s at m ≡ Entry a e
+      → entriesAfter s at ≡ record { start = a; stop = e } ∷ entriesAfter s e → at ≤ a → a < e → e ≤ length s
+      → Answered s at m
 
 module _ (s : List ℕ) where
   answer-nothing : (at m : ℕ) → ahead s at m ≡ nothing → nextAnswer s at m ≡ None
@@ -144,7 +151,9 @@ module _ (s : List ℕ) where
               by : (o : Option ℕ) → stopAt (level maxOpen) (b ∷ bs) ≡ o → Answered s at m
               by (some k) e =
                   let w = stop-within (level-bounds maxOpen) b bs e in
-                  finds (is (some k) e) (q at ∙ rest-some maxOpen s at b bs h e ∙ ap (λ xs. record { start = a; stop = a + k } ∷ xs) (sym (q (a + k))))
+                  finds (is (some k) e)
+                  (q at ∙ rest-some maxOpen s at b bs h e
+                  ∙ ap (λ xs. record { start = a; stop = a + k } ∷ xs) (sym (q (a + k))))
                   (omega arith) (omega (arith, w)) (omega (arith, w, ap length h, length-drop a s))
               by none e = ends (is none e) (q at ∙ rest-none maxOpen s at b bs h e)
 
@@ -169,9 +178,12 @@ unfolding answers told
 from-place s [] at l = refl
 from-place s (m ∷ ms) at l = go (answered s at m (l .0)) (λ p. from-place s ms p (l .1))
   where
-    go : Answered s at m → ((p : ℕ) → answers s p ms ≡ told (entriesAfter s p) (length ms)) → answers s at (m ∷ ms) ≡ told (entriesAfter s at) (suc (length ms))
-    go (ends h q) ih = ap (λ r. r ∷ answers s (placeAfter s at r) ms) h ∙ ap (λ r. None ∷ r) (end-tells s ms) ∙ sym (ap (λ xs. told xs (suc (length ms))) q)
-    go (finds {a} {e} h q g i j) ih = ap (λ r. r ∷ answers s (placeAfter s at r) ms) h ∙ ap (λ r. Entry a e ∷ r) (ih e) ∙ sym (ap (λ xs. told xs (suc (length ms))) q)
+    go : Answered s at m → ((p : ℕ) → answers s p ms ≡ told (entriesAfter s p) (length ms))
+        → answers s at (m ∷ ms) ≡ told (entriesAfter s at) (suc (length ms))
+    go (ends h q) ih = ap (λ r. r ∷ answers s (placeAfter s at r) ms) h ∙ ap (λ r. None ∷ r) (end-tells s ms)
+        ∙ sym (ap (λ xs. told xs (suc (length ms))) q)
+    go (finds {a} {e} h q g i j) ih = ap (λ r. r ∷ answers s (placeAfter s at r) ms) h ∙ ap (λ r. Entry a e ∷ r) (ih e)
+        ∙ sym (ap (λ xs. told xs (suc (length ms))) q)
 
 -- the answers from the first place on
 pub reader-tells : (s ms : List ℕ) → Long (treeLayout (length s)) ms → answers s (firstPlace s) ms ≡ told (entriesOf s) (length ms)
@@ -194,10 +206,13 @@ module _ (s : List ℕ) (at m : ℕ) where
       go (refused p q) = absurd (no (ahead s at m) (p at m) h)
       go (passed p q) =
           pick (λ x. x ≡ short → m < treeLayout (length s)) (ltb (startAfter s at) (length s)) _ _
-          (λ v. pick (λ x. x ≡ short → m < treeLayout (length s)) (ltb m (treeLayout (length s))) short (entryAt (startAfter s at)) (λ w e. ltb-true m (treeLayout (length s)) w) (λ w e. absurd (found (startAfter s at) e)))
+          (λ v. pick (λ x. x ≡ short → m < treeLayout (length s)) (ltb m (treeLayout (length s))) short
+          (entryAt (startAfter s at)) (λ w e. ltb-true m (treeLayout (length s)) w)
+          (λ w e. absurd (found (startAfter s at) e)))
           (λ v e. absurd (no nothing refl e)) (sym (p at m) ∙ h)
 
-  pub short-stays : {n : ℕ} → nextAnswer s at m ≡ TreeTooShort n → (m < treeLayout (length s)) × (n ≡ treeLayout (length s)) × (placeAfter s at (nextAnswer s at m) ≡ at)
+  pub short-stays : {n : ℕ} → nextAnswer s at m ≡ TreeTooShort n → (m < treeLayout (length s))
+      × (n ≡ treeLayout (length s)) × (placeAfter s at (nextAnswer s at m) ≡ at)
   unfolding nextAnswer answerBy stopped
   short-stays {n} h = let (l, e) = go (ahead s at m) refl h in (l, e, ap (placeAfter s at) h)
     where

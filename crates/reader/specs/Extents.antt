@@ -49,7 +49,8 @@ stopAt sub s = stopOf s (getEntry sub s)
 
 module _ (sub : Inside) where
   pub extents-some : (m b : ℕ) (bs : List ℕ) {k : ℕ} → stopAt sub (b ∷ bs) ≡ some k
-      → extents (suc m) sub (b ∷ bs) ≡ record { start = 0; stop = k } ∷ map (upExtent (k + blanks (drop k (b ∷ bs)))) (extents m sub (drop (k + blanks (drop k (b ∷ bs))) (b ∷ bs)))
+      → extents (suc m) sub (b ∷ bs) ≡ record { start = 0; stop = k }
+      ∷ map (upExtent (k + blanks (drop k (b ∷ bs)))) (extents m sub (drop (k + blanks (drop k (b ∷ bs))) (b ∷ bs)))
   unfolding extents
   extents-some m b bs h = rw (h, extents)
 
@@ -68,7 +69,8 @@ module _ {n : ℕ} {sub : Inside} (law : InsideBounds n sub) where
   stop-within b bs {k} h = go (getEntry sub (b ∷ bs)) refl h
     where
       go : (o : Out Entry) → getEntry sub (b ∷ bs) ≡ o → stopOf (b ∷ bs) o ≡ some k → (0 < k) × (k ≤ length (b ∷ bs))
-      go (ok e ms j) g q = let z : j ≡ k = cc in let u = ok-uses (entry-bounds law) (b ∷ bs) g in (omega (arith, u .room), omega (arith, u .within))
+      go (ok e ms j) g q = let z : j ≡ k = cc in let u = ok-uses (entry-bounds law) (b ∷ bs) g in
+          (omega (arith, u .room), omega (arith, u .within))
       go (bad f j) g q =
           let z : junkEnd j (b ∷ bs) ≡ k = cc in
           (omega (arith, junk-moves sub b bs g), omega (arith, junkEnd-within j (b ∷ bs) (bad-within (entry-bounds law) (b ∷ bs) g)))
@@ -86,7 +88,11 @@ module _ {n : ℕ} {sub : Inside} (law : InsideBounds n sub) where
       go (some k) h ih =
           let j = k + blanks (drop k (b ∷ bs)) in
           let w = stop-within b bs h in
-          extents-some sub m b bs h ∙ ap (λ r. record { start = 0; stop = k } ∷ map (upExtent j) r) (ih (drop j (b ∷ bs)) (omega (arith, w, length-drop j (b ∷ bs))) (omega (arith, w, length-drop j (b ∷ bs)))) ∙ sym (extents-some sub m′ b bs h)
+          extents-some sub m b bs h
+          ∙ ap (λ r. record { start = 0; stop = k } ∷ map (upExtent j) r)
+          (ih (drop j (b ∷ bs)) (omega (arith, w, length-drop j (b ∷ bs)))
+          (omega (arith, w, length-drop j (b ∷ bs))))
+          ∙ sym (extents-some sub m′ b bs h)
       go none h ih = extents-none sub m b bs h ∙ sym (extents-none sub m′ b bs h)
 
 -- ---- the entries after a place
@@ -122,12 +128,14 @@ module _ (n : ℕ) (s : List ℕ) where
 
   -- there is none
   pub rest-nil : (at : ℕ) → drop (startAfter s at) s ≡ [] → restExtents n s at ≡ []
-  rest-nil at h = rest-from at ∙ ap (startingWith at) h ∙ ap (map (upExtent (startAfter s at))) (extents-nil (level n) (suc (length (drop at s))))
+  rest-nil at h = rest-from at ∙ ap (startingWith at) h
+      ∙ ap (map (upExtent (startAfter s at))) (extents-nil (level n) (suc (length (drop at s))))
 
   module _ (at b : ℕ) (bs : List ℕ) (h : drop (startAfter s at) s ≡ b ∷ bs) where
     -- it nests too deep
     pub rest-none : stopAt (level n) (b ∷ bs) ≡ none → restExtents n s at ≡ []
-    rest-none q = rest-from at ∙ ap (startingWith at) h ∙ ap (map (upExtent (startAfter s at))) (extents-none (level n) (length (drop at s)) b bs q)
+    rest-none q = rest-from at ∙ ap (startingWith at) h
+        ∙ ap (map (upExtent (startAfter s at))) (extents-none (level n) (length (drop at s)) b bs q)
 
     -- it stops after k bytes; those after it are those after where it stopped
     pub rest-some : {k : ℕ} → stopAt (level n) (b ∷ bs) ≡ some k
@@ -147,7 +155,9 @@ module _ (n : ℕ) (s : List ℕ) where
         others =
             ups-twice a j (extents (length (drop at s)) (level n) (drop j (b ∷ bs)))
             ∙ ap₂ (λ i r. map (upExtent i) (extents (length (drop at s)) (level n) r)) (next-start s a b bs h k) (next-rest s a b bs h k)
-            ∙ ap (map (upExtent (startAfter s (a + k)))) (extents-fuel (level-bounds n) (length (drop at s)) (suc (length (drop (a + k) s))) (drop (startAfter s (a + k)) s) fewer less)
+            ∙ ap (map (upExtent (startAfter s (a + k))))
+            (extents-fuel (level-bounds n) (length (drop at s)) (suc (length (drop (a + k) s)))
+            (drop (startAfter s (a + k)) s) fewer less)
             ∙ sym (rest-from (a + k))
           where
             w : (0 < k) × (k ≤ length (b ∷ bs))

@@ -1,4 +1,5 @@
--- Calls on a reader one after the other, as the contracts of `new` and `next` give them: the entries of the source in order, and then that none
+-- Calls on a reader one after the other, as the contracts of `new` and `next` give them: the entries of the source in
+-- order, and then that none
 -- is left (`new-tells`).
 use Prim.Native.Nat.{ℕ}
 use mathlib.Core.Path.{_≡_, refl, ap, _∙_}
@@ -20,7 +21,9 @@ run r (m ∷ ms) = nextAnswer (now (r .source)) (r .at) m ∷ run (moved r m) ms
 runs : (source : RefT (List ℕ)) (at : ℕ) (ms : List ℕ) → run (record { source = source; at = at }) ms ≡ answers (now source) at ms
 unfolding run answers
 runs source at [] = refl
-runs source at (m ∷ ms) = ap (λ r. nextAnswer (now source) at m ∷ r) (runs source (placeAfter (now source) at (nextAnswer (now source) at m)) ms)
+runs source at (m ∷ ms) =
+    ap (λ r. nextAnswer (now source) at m ∷ r)
+    (runs source (placeAfter (now source) at (nextAnswer (now source) at m)) ms)
 
 pub new-tells : (source : RefT (List ℕ)) (ms : List ℕ) → Long (treeLayout (length (now source))) ms
     → run (record { source = source; at = firstPlace (now source) }) ms ≡ told (entriesOf (now source)) (length ms)

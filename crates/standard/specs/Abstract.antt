@@ -12,7 +12,8 @@ use Rattle.syntax.specs.Marks.{Mark, moveUp, node, textNode}
 use Rattle.standard.specs.Dialect.{Dialect}
 use Rattle.standard.specs.Peg.{Parser, fits, _/_, eof, given}
 
--- CommentLine ---------------------------------------------------------------------------------------------------------------------------------
+-- CommentLine
+-- ---------------------------------------------------------------------------------------------------------------------------------
 
 unfoldable pub empty-line : Parser (Unit {0})
 empty-line s = fits tt (textNode Kind.commentLine 0 0) 0
@@ -21,7 +22,8 @@ empty-line s = fits tt (textNode Kind.commentLine 0 0) 0
 unfoldable pub A1 : Dialect → Parser (Unit {0})
 A1 d = given (d .hash-at-end) eof / empty-line
 
--- Resource ------------------------------------------------------------------------------------------------------------------------------------
+-- Resource
+-- ------------------------------------------------------------------------------------------------------------------------------------
 
 -- what the source is made of; a comment with its level
 pub data Item : Type 0 where
@@ -44,8 +46,11 @@ levelOf blank = 0
 unfoldable pub beside : Part → List Part → List Part
 beside p [] = p ∷ []
 beside p (q ∷ qs) =
-    elim (not (eqb (levelOf (p .item)) 0) && eqb (levelOf (p .item)) (levelOf (q .item)))
-    [ true ↦ record { item = p .item; inside = p .inside ++ moveUp (p .size) (q .inside); size = p .size + q .size } ∷ qs | false ↦ p ∷ q ∷ qs ]
+    elim (not (eqb (levelOf (p .item)) 0) && eqb (levelOf (p .item)) (levelOf (q .item))) [
+      | true ↦ record { item = p .item; inside = p .inside ++ moveUp (p .size) (q .inside); size = p .size + q .size }
+          ∷ qs
+      | false ↦ p ∷ q ∷ qs
+    ]
 
 -- A2. Neighbouring comment lines of one level are one comment
 unfoldable pub A2 : List Part → List Part
@@ -76,14 +81,16 @@ unfoldable pub A3 : List Part → List Mark
 A3 [] = []
 A3 (p ∷ ps) = partMarks (p .item) (namedFirst ps) (p .inside) ++ moveUp (p .size) (A3 ps)
 
--- Pattern -------------------------------------------------------------------------------------------------------------------------------------
+-- Pattern
+-- -------------------------------------------------------------------------------------------------------------------------------------
 
 -- a line of a blank-block: its spaces, and the bytes of its line end
 pub record Line : Type 0 where
   pub spaces : ℕ
   pub ending : ℕ
 
--- What the elements of a pattern matched, by the bytes used. Raw elements stand without a gap from the pattern's start, so that their sizes say where
+-- What the elements of a pattern matched, by the bytes used. Raw elements stand without a gap from the pattern's start,
+-- so that their sizes say where
 -- they are. A placeable has its marks, counted from its own start
 pub data Raw : Type 0 where
   text : ℕ → Raw
@@ -120,7 +127,8 @@ pub data Piece : Type 0 where
 unfoldable pub dedented : Option ℕ → ℕ → ℕ → Piece
 dedented c p n = span (p + cut c n) (p + n)
 
--- A5. A blank-block is as many newlines as it has line ends; its spaces are dropped, and CR LF is one newline. Departure blank-line-spaces. (The first of
+-- A5. A blank-block is as many newlines as it has line ends; its spaces are dropped, and CR LF is one newline.
+-- Departure blank-line-spaces. (The first of
 -- the lines has no spaces: they belong to the text before it)
 unfoldable pub A5 : Dialect → Option ℕ → ℕ → List Line → List Piece → List Piece
 A5 d c p [] rest = rest
@@ -139,7 +147,8 @@ pieces d c p [] = []
 pieces d c p (text n ∷ rs) = span p (p + n) ∷ pieces d c (p + n) rs
 pieces d c p (lines ls ∷ rs) = A5 d c p ls (pieces d c (p + width ls) rs)
 pieces d c p (indent n ∷ rs) = dedented c p n ∷ pieces d c (p + n) rs
-pieces d c p (brace-indent n ∷ rs) = elim (d .brace-indent) [ true ↦ pieces d c (p + n) rs | false ↦ dedented c p n ∷ pieces d c (p + n) rs ]
+pieces d c p (brace-indent n ∷ rs) =
+    elim (d .brace-indent) [ true ↦ pieces d c (p + n) rs | false ↦ dedented c p n ∷ pieces d c (p + n) rs ]
 pieces d c p (placeable ms n ∷ rs) = inner (moveUp p ms) ∷ pieces d c (p + n) rs
 
 unfoldable pub piecesFrom : Dialect → ℕ → List Raw → List Piece
@@ -159,7 +168,8 @@ pub record Span : Type 0 where
   pub from : ℕ
   pub till : ℕ
 
--- An element of the tree. A text of the standard need not be one run of the source (the indent between two lines is not in it): it is the bytes of its
+-- An element of the tree. A text of the standard need not be one run of the source (the indent between two lines is not
+-- in it): it is the bytes of its
 -- first span, then those of its further spans. No two of its spans touch. With texts-apart on there are no further ones
 pub data Element : Type 0 where
   joined : Span → List Span → Element
@@ -221,14 +231,20 @@ unfoldable pub trimText : Dialect → List ℕ → Span → List Span → List E
 trimText d s t ts =
     elim (trimSpans (isTrimmed d) s (t ∷ ts)) [
       | u ∷ us ↦ joined u us ∷ []
-      | [] ↦ elim (d .trim-cr && not (onlySpaces s (t ∷ ts))) [ true ↦ joined (record { from = t .from; till = t .from }) [] ∷ [] | false ↦ [] ]
+      | [] ↦ elim
+          (d .trim-cr && not (onlySpaces s (t ∷ ts))) [
+            | true ↦ joined (record { from = t .from; till = t .from }) []
+                ∷ []
+            | false ↦ []
+          ]
     ]
 
 unfoldable pub trimLast : Dialect → List ℕ → Element → List Element
 trimLast d s (joined t ts) = trimText d s t ts
 trimLast d s (nested ms) = nested ms ∷ []
 
--- A7, at the end. Spaces at the end of the last text go, and so does the text if nothing is left. s is the pattern's source. Departure trim-cr
+-- A7, at the end. Spaces at the end of the last text go, and so does the text if nothing is left. s is the pattern's
+-- source. Departure trim-cr
 unfoldable pub A7 : Dialect → List ℕ → List Element → List Element
 A7 d s [] = []
 A7 d s (e ∷ es) = elim es [ [] ↦ trimLast d s e | f ∷ fs ↦ e ∷ A7 d s es ]
@@ -250,7 +266,8 @@ elementMarks (nested ms ∷ es) = ms ++ elementMarks es
 unfoldable pub patternNode : Dialect → List ℕ → List Raw → List Mark
 patternNode d s rs = node Kind.pattern (elementMarks (A7 d s (A6 d (allPieces d rs))))
 
--- Expressions ---------------------------------------------------------------------------------------------------------------------------------
+-- Expressions
+-- ---------------------------------------------------------------------------------------------------------------------------------
 
 -- what an inline expression is; of a term reference, whether it has an attribute
 pub data Form : Type 0 where

@@ -16,8 +16,11 @@ use Rattle.syntax.specs.Reader.{ok, loop, repeat}
 use Rattle.syntax.specs.Helper.{blankTurn, skipBlank}
 use Rattle.laws.specs.Bytes.{byCase, clash}
 use Rattle.standard.specs.Peg as Peg
-use Rattle.standard.specs.Steps.{moveUp-none, some-run, first, second, turns-on, turns-end, turns-still, opt-fits, opt-fails, void-fits, void-fails, some-fits, some-fails, byte-fits, byte-fails, then-fits, then-fails, after-fails, bind-fits, bind-fails, turns-more}
-use Rattle.standard.specs.Peg.{fits, fails, Parser, _/_, opt, many, some, turns, one, byte, sized, void, eof, _>>=_, _>>_, Answer, withFirst}
+use Rattle.standard.specs.Steps.{moveUp-none, some-run, first, second, turns-on, turns-end, turns-still, opt-fits}
+use Rattle.standard.specs.Steps.{opt-fails, void-fits, void-fails, some-fits, some-fails, byte-fits, byte-fails}
+use Rattle.standard.specs.Steps.{then-fits, then-fails, after-fails, bind-fits, bind-fails, turns-more}
+use Rattle.standard.specs.Peg.{fits, fails, Parser, _/_, opt, many, some, turns, one, byte, sized, void, eof}
+use Rattle.standard.specs.Peg.{_>>=_, _>>_, Answer, withFirst}
 use Rattle.standard.specs.Abstract.{Line}
 use Rattle.standard.specs.Lexical.{line-end, blank-inline, blank-inline?, blank, blank?, blank-line, blank-block}
 
@@ -56,7 +59,8 @@ blank-of [] = none refl refl
 blank-of (b ∷ bs) = byCase (eqb b 32) (λ q. subst (λ x. Blank (x ∷ bs)) (sym (eqb-true b 32 q)) (space bs))
     (λ q. byCase (eqb b 10) (λ r. subst (λ x. Blank (x ∷ bs)) (sym (eqb-true b 10 r)) (lf bs))
     (λ r. byCase (eqb b 13)
-    (λ t. byCase (startsWith 10 bs) (λ u. subst (λ x. Blank (x ∷ bs)) (sym (eqb-true b 13 t)) (cr-blank bs u)) (λ u. none q (rw (r, eol, t, u) refl)))
+    (λ t. byCase (startsWith 10 bs) (λ u. subst (λ x. Blank (x ∷ bs)) (sym (eqb-true b 13 t)) (cr-blank bs u))
+    (λ u. none q (rw (r, eol, t, u) refl)))
     (λ t. none q (rw (r, eol, t) refl))))
 
 none-blanks : (s : List ℕ) → startsWith 32 s ≡ false → eol s ≡ 0 → blanks s ≡ 0
@@ -88,7 +92,9 @@ blanks-on (suc k) (b ∷ bs) h = byCase (isBlankAt b bs)
 pub spaces-blanks : (s : List ℕ) → spaces s ≤ blanks s
 unfolding spaces run blanks isBlankAt
 spaces-blanks [] = omega arith
-spaces-blanks (b ∷ bs) = byCase (eqb b 32) (λ q. rw (q, run, blanks, isBlankAt) (omega (arith, spaces-blanks bs))) (λ q. rw (q, run) (omega arith))
+spaces-blanks (b ∷ bs) =
+    byCase (eqb b 32) (λ q. rw (q, run, blanks, isBlankAt) (omega (arith, spaces-blanks bs)))
+    (λ q. rw (q, run) (omega arith))
 
 pub eol-blanks : (s : List ℕ) → eol s ≤ blanks s
 unfolding eol blanks isBlankAt startsWith
@@ -106,7 +112,9 @@ unfolding loop blankTurn startsWith eol blanks isBlankAt Reader.after moveUp
 blank-loop zero s h = absurd (not-suc-le-zero h)
 blank-loop (suc n) s h = go (blank-of s) h (λ r l. blank-loop n r l)
   where
-    go : {s : List ℕ} → Blank s → length s < suc n → ((r : List ℕ) → length r < n → loop n blankTurn tt r ≡ ok tt [] (blanks r)) → loop (suc n) blankTurn tt s ≡ ok tt [] (blanks s)
+    go : {s : List ℕ} → Blank s → length s < suc n
+        → ((r : List ℕ) → length r < n → loop n blankTurn tt r ≡ ok tt [] (blanks r))
+        → loop (suc n) blankTurn tt s ≡ ok tt [] (blanks s)
     go (space s) l f = rw (f s (omega arith)) (ap (ok tt []) (omega arith))
     go (lf s) l f = rw (f s (omega arith)) (ap (ok tt []) (omega arith))
     go (crlf s) l f = rw (f s (omega arith)) (ap (ok tt []) (omega arith))
@@ -134,7 +142,9 @@ no-spaces (b ∷ bs) e = rw (e, run) refl
 
 pub opt-inline : (s : List ℕ) → opt 0 blank-inline s ≡ fits (spaces s) [] (spaces s)
 unfolding opt _/_ Peg.pure
-opt-inline s = byCase (startsWith 32 s) (λ e. rw (space-run s e, opt, _/_) refl) (λ e. rw (no-space s e, opt, _/_) (ap (λ k. fits k [] k) (sym (no-spaces s e))))
+opt-inline s =
+    byCase (startsWith 32 s) (λ e. rw (space-run s e, opt, _/_) refl)
+    (λ e. rw (no-space s e, opt, _/_) (ap (λ k. fits k [] k) (sym (no-spaces s e))))
 
 pub blank-inline?-is : (s : List ℕ) → blank-inline? s ≡ fits tt [] (spaces s)
 unfolding blank-inline? void _>>_ Peg.next Peg.after Peg.pure moveUp
@@ -166,9 +176,12 @@ no-line-end [] e = clash refl e
 no-line-end (b ∷ bs) e =
     let q : eqb b 10 ≡ false = byCase (eqb b 10) (λ q. clash (rw (q, eol) refl) e) (λ q. q) in
     let r : (byte 13 >> byte 10) (b ∷ bs) ≡ fails = byCase (eqb b 13)
-    (λ r. byCase (startsWith 10 bs) (λ t. clash (rw (q, eol, r, t) refl) e) (λ t. then-fits (byte 13) (byte 10) (b ∷ bs) (byte-fits 13 (b ∷ bs) r) ∙ after-fails [] 1 (byte-fails 10 bs t)))
+    (λ r. byCase (startsWith 10 bs) (λ t. clash (rw (q, eol, r, t) refl) e)
+    (λ t. then-fits (byte 13) (byte 10) (b ∷ bs) (byte-fits 13 (b ∷ bs) r) ∙ after-fails [] 1 (byte-fails 10 bs t)))
     (λ r. then-fails (byte 13) (byte 10) (b ∷ bs) (byte-fails 13 (b ∷ bs) r)) in
-    let t : ((byte 13 >> byte 10) / byte 10 / eof) (b ∷ bs) ≡ fails = second (byte 13 >> byte 10) (byte 10 / eof) (b ∷ bs) r ∙ second (byte 10) eof (b ∷ bs) (byte-fails 10 (b ∷ bs) q) in
+    let t : ((byte 13 >> byte 10) / byte 10 / eof) (b ∷ bs) ≡ fails =
+    second (byte 13 >> byte 10) (byte 10 / eof) (b ∷ bs) r
+    ∙ second (byte 10) eof (b ∷ bs) (byte-fails 10 (b ∷ bs) q) in
     rw (t, line-end, sized) refl
 
 -- turns of blank
@@ -183,37 +196,68 @@ blank-turns (suc n) s h = go (blank-of s) h (λ r l. blank-turns n r l)
   where
     end : (s : List ℕ) → startsWith 32 s ≡ false → eol s ≡ 0 → turns (suc n) (blank-inline / line-end) s ≡ fits [] [] 0
     end [] e f = turns-still (suc n) (blank-inline / line-end) [] (second blank-inline line-end [] (no-space [] e) ∙ line-end-is [] refl)
-    end (b ∷ bs) e f = turns-end (suc n) (blank-inline / line-end) (b ∷ bs) (second blank-inline line-end (b ∷ bs) (no-space (b ∷ bs) e) ∙ no-line-end (b ∷ bs) (rw f refl))
+    end (b ∷ bs) e f =
+        turns-end (suc n) (blank-inline / line-end) (b ∷ bs)
+        (second blank-inline line-end (b ∷ bs) (no-space (b ∷ bs) e) ∙ no-line-end (b ∷ bs) (rw f refl))
 
     go : {s : List ℕ} → Blank s → length s ≤ suc n → ((r : List ℕ) → length r ≤ n → Turned n r) → Turned (suc n) s
     go (space s) l f =
-        let (us, e) = f (drop (spaces s) s) (omega (arith, length-drop (spaces s) s)) in
-        (suc (spaces s) ∷ us, turns-on n (blank-inline / line-end) (32 ∷ s) (first blank-inline line-end (32 ∷ s) (space-run (32 ∷ s) refl)) (omega arith) e ∙ ap (fits (suc (spaces s) ∷ us) []) (omega (arith, blanks-on (spaces s) s (spaces-blanks s))))
+        let (us, e) = f (drop (spaces s) s) (omega (arith, length-drop (spaces s) s)) in (
+          suc (spaces s)
+              ∷ us,
+          turns-on n (blank-inline / line-end) (32 ∷ s)
+              (first blank-inline line-end (32 ∷ s) (space-run (32 ∷ s) refl)) (omega arith) e
+              ∙ ap (fits (suc (spaces s) ∷ us) []) (omega (arith, blanks-on (spaces s) s (spaces-blanks s))),
+        )
     go (lf s) l f =
-        let (us, e) = f s (omega arith) in
-        (1 ∷ us, turns-on n (blank-inline / line-end) (10 ∷ s) (second blank-inline line-end (10 ∷ s) (no-space (10 ∷ s) refl) ∙ line-end-is (10 ∷ s) refl) (omega arith) e ∙ ap (fits (1 ∷ us) []) (omega arith))
+        let (us, e) = f s (omega arith) in (
+          1
+              ∷ us,
+          turns-on n (blank-inline / line-end) (10 ∷ s)
+              (second blank-inline line-end (10 ∷ s) (no-space (10 ∷ s) refl) ∙ line-end-is (10 ∷ s) refl) (omega arith) e
+              ∙ ap (fits (1 ∷ us) []) (omega arith),
+        )
     go (crlf s) l f =
-        let (us, e) = f s (omega arith) in
-        (2 ∷ us, turns-on n (blank-inline / line-end) (13 ∷ 10 ∷ s) (second blank-inline line-end (13 ∷ 10 ∷ s) (no-space (13 ∷ 10 ∷ s) refl) ∙ line-end-is (13 ∷ 10 ∷ s) refl) (omega arith) e ∙ ap (fits (2 ∷ us) []) (omega arith))
+        let (us, e) = f s (omega arith) in (
+          2
+              ∷ us,
+          turns-on n (blank-inline / line-end) (13 ∷ 10 ∷ s)
+              (second blank-inline line-end (13 ∷ 10 ∷ s) (no-space (13 ∷ 10 ∷ s) refl) ∙ line-end-is (13 ∷ 10 ∷ s) refl)
+              (omega arith) e
+              ∙ ap (fits (2 ∷ us) []) (omega arith),
+        )
     go {s} (none d e) l f = ([], end s d e ∙ ap (fits [] []) (sym (none-blanks s d e)))
 
 pub blank?-is : (s : List ℕ) → blank? s ≡ fits tt [] (blanks s)
 unfolding blank? blank many blanks isBlankAt eol startsWith spaces run moveUp turns lineEnds
 blank?-is s = go (blank-of s)
   where
-    yes-blank : (s : List ℕ) {a : ℕ} {k : ℕ} → (blank-inline / line-end) s ≡ fits a [] k → k + blanks (drop k s) ≡ blanks s → blank? s ≡ fits tt [] (blanks s)
+    yes-blank : (s : List ℕ) {a : ℕ} {k : ℕ} → (blank-inline / line-end) s ≡ fits a [] k
+        → k + blanks (drop k s) ≡ blanks s → blank? s ≡ fits tt [] (blanks s)
     yes-blank s {a} {k} e h =
         let (us, f) = blank-turns (length (drop k s)) (drop k s) (omega arith) in
         opt-fits tt blank s (void-fits (some (blank-inline / line-end)) s (some-fits (blank-inline / line-end) s e f)) ∙ ap (fits tt []) h
 
     end : (s : List ℕ) → startsWith 32 s ≡ false → eol s ≡ 0 → blank? s ≡ fits tt [] (blanks s)
     end [] e f = yes-blank [] (second blank-inline line-end [] (no-space [] e) ∙ line-end-is [] refl) refl
-    end (b ∷ bs) e f = opt-fails tt blank (b ∷ bs) (void-fails (some (blank-inline / line-end)) (b ∷ bs) (some-fails (blank-inline / line-end) (b ∷ bs) (second blank-inline line-end (b ∷ bs) (no-space (b ∷ bs) e) ∙ no-line-end (b ∷ bs) (rw f refl)))) ∙ ap (fits tt []) (sym (none-blanks (b ∷ bs) e f))
+    end (b ∷ bs) e f =
+        opt-fails tt blank (b ∷ bs)
+        (void-fails (some (blank-inline / line-end)) (b ∷ bs)
+        (some-fails (blank-inline / line-end) (b ∷ bs)
+        (second blank-inline line-end (b ∷ bs) (no-space (b ∷ bs) e) ∙ no-line-end (b ∷ bs) (rw f refl))))
+        ∙ ap (fits tt []) (sym (none-blanks (b ∷ bs) e f))
 
     go : {s : List ℕ} → Blank s → blank? s ≡ fits tt [] (blanks s)
-    go (space s) = yes-blank (32 ∷ s) (first blank-inline line-end (32 ∷ s) (space-run (32 ∷ s) refl)) (omega (arith, blanks-on (spaces s) s (spaces-blanks s)))
-    go (lf s) = yes-blank (10 ∷ s) (second blank-inline line-end (10 ∷ s) (no-space (10 ∷ s) refl) ∙ line-end-is (10 ∷ s) refl) (omega arith)
-    go (crlf s) = yes-blank (13 ∷ 10 ∷ s) (second blank-inline line-end (13 ∷ 10 ∷ s) (no-space (13 ∷ 10 ∷ s) refl) ∙ line-end-is (13 ∷ 10 ∷ s) refl) (omega arith)
+    go (space s) =
+        yes-blank (32 ∷ s) (first blank-inline line-end (32 ∷ s) (space-run (32 ∷ s) refl))
+        (omega (arith, blanks-on (spaces s) s (spaces-blanks s)))
+    go (lf s) =
+        yes-blank (10 ∷ s) (second blank-inline line-end (10 ∷ s) (no-space (10 ∷ s) refl) ∙ line-end-is (10 ∷ s) refl)
+        (omega arith)
+    go (crlf s) =
+        yes-blank (13 ∷ 10 ∷ s)
+        (second blank-inline line-end (13 ∷ 10 ∷ s) (no-space (13 ∷ 10 ∷ s) refl) ∙ line-end-is (13 ∷ 10 ∷ s) refl)
+        (omega arith)
     go {s} (none e f) = end s e f
 
 -- to skip twice is to skip once
@@ -240,34 +284,43 @@ pub over-blanks : (s : List ℕ) → over s (blanks s) ≡ blanks s
 unfolding over
 over-blanks s = omega (arith, no-blanks s)
 
--- Blank lines ---------------------------------------------------------------------------------------------------------------------------------
+-- Blank lines
+-- ---------------------------------------------------------------------------------------------------------------------------------
 
 -- a line that is blank
-pub line-is : (s : List ℕ) → lineEnds (drop (spaces s) s) ≡ true → blank-line s ≡ fits (record { spaces = spaces s; ending = eol (drop (spaces s) s) }) [] (spaces s + eol (drop (spaces s) s))
+pub line-is : (s : List ℕ) → lineEnds (drop (spaces s) s) ≡ true
+    → blank-line s ≡ fits (record { spaces = spaces s; ending = eol (drop (spaces s) s) }) []
+    (spaces s + eol (drop (spaces s) s))
 unfolding blank-line Peg.after Peg.pure moveUp
-line-is s e = bind-fits (opt 0 blank-inline) _ s (opt-inline s) ∙ ap (Peg.after [] (spaces s)) (bind-fits line-end _ (drop (spaces s) s) (line-end-is (drop (spaces s) s) e))
+line-is s e = bind-fits (opt 0 blank-inline) _ s (opt-inline s)
+    ∙ ap (Peg.after [] (spaces s)) (bind-fits line-end _ (drop (spaces s) s) (line-end-is (drop (spaces s) s) e))
     ∙ ap (λ k. fits (record { spaces = spaces s; ending = eol (drop (spaces s) s) }) [] (spaces s + k)) (add-zero (eol (drop (spaces s) s)))
 
 pub no-line : (s : List ℕ) → lineEnds (drop (spaces s) s) ≡ false → blank-line s ≡ fails
 unfolding blank-line
-no-line s e = bind-fits (opt 0 blank-inline) _ s (opt-inline s) ∙ after-fails [] (spaces s) (bind-fails line-end _ (drop (spaces s) s) (no-line-end (drop (spaces s) s) e))
+no-line s e = bind-fits (opt 0 blank-inline) _ s (opt-inline s)
+    ∙ after-fails [] (spaces s) (bind-fails line-end _ (drop (spaces s) s) (no-line-end (drop (spaces s) s) e))
 
 -- k bytes that are blanks
 abbrev pub Blanked : List ℕ → ℕ → Type 0
 Blanked s k = k + blanks (drop k s) ≡ blanks s
 
 blanked-on : (s : List ℕ) (k j : ℕ) → Blanked s k → Blanked (drop k s) j → Blanked s (k + j)
-blanked-on s k j h l = ap (λ r. k + j + blanks r) (sym (drop-drop j k s)) ∙ add-assoc k j (blanks (drop j (drop k s))) ∙ ap (λ n. k + n) l ∙ h
+blanked-on s k j h l = ap (λ r. k + j + blanks r) (sym (drop-drop j k s)) ∙ add-assoc k j (blanks (drop j (drop k s)))
+    ∙ ap (λ n. k + n) l ∙ h
 
 line-blanked : (s : List ℕ) → Blanked s (spaces s + eol (drop (spaces s) s))
-line-blanked s = blanked-on s (spaces s) (eol (drop (spaces s) s)) (blanks-on (spaces s) s (spaces-blanks s)) (blanks-on (eol (drop (spaces s) s)) (drop (spaces s) s) (eol-blanks (drop (spaces s) s)))
+line-blanked s =
+    blanked-on s (spaces s) (eol (drop (spaces s) s)) (blanks-on (spaces s) s (spaces-blanks s))
+    (blanks-on (eol (drop (spaces s) s)) (drop (spaces s) s) (eol-blanks (drop (spaces s) s)))
 
 -- blank lines are blanks
 abbrev pub Lines : List ℕ → Answer (List Line) → Type 0
 Lines s (fits ls ms k) = (ms ≡ []) × Blanked s k
 Lines s fails = ⊥
 
-lines-on : (s : List ℕ) (l : Line) (k : ℕ) (a : Answer (List Line)) → Blanked s k → Lines (drop k s) a → Lines s (withFirst l (Peg.after [] k a))
+lines-on : (s : List ℕ) (l : Line) (k : ℕ) (a : Answer (List Line)) → Blanked s k → Lines (drop k s) a
+    → Lines s (withFirst l (Peg.after [] k a))
 unfolding withFirst Peg.after moveUp
 lines-on s l k (fits ls ms j) h (m, b) = (ap (map (up k)) m, blanked-on s k j h b)
 lines-on s l k fails h b = b
@@ -277,9 +330,16 @@ unfolding turns
 lines-turns zero s = (refl, zero-add (blanks s))
 lines-turns (suc n) s = byCase (lineEnds (drop (spaces s) s))
     (λ e. byCase (eqb (spaces s + eol (drop (spaces s) s)) 0)
-    (λ z. rw (turns-still (suc n) blank-line s (line-is s e ∙ ap (fits (record { spaces = spaces s; ending = eol (drop (spaces s) s) }) []) (eqb-true (spaces s + eol (drop (spaces s) s)) 0 z))) (refl, zero-add (blanks s)))
+    (λ z. rw
+    (turns-still (suc n) blank-line s
+    (line-is s e
+    ∙ ap (fits (record { spaces = spaces s; ending = eol (drop (spaces s) s) }) [])
+    (eqb-true (spaces s + eol (drop (spaces s) s)) 0 z)))
+    (refl, zero-add (blanks s)))
     (λ z. rw (turns-more n blank-line s (line-is s e) (omega (arith, eqb-false (spaces s + eol (drop (spaces s) s)) 0 z)))
-    (lines-on s (record { spaces = spaces s; ending = eol (drop (spaces s) s) }) (spaces s + eol (drop (spaces s) s)) (turns n blank-line (drop (spaces s + eol (drop (spaces s) s)) s)) (line-blanked s) (lines-turns n (drop (spaces s + eol (drop (spaces s) s)) s)))))
+    (lines-on s (record { spaces = spaces s; ending = eol (drop (spaces s) s) }) (spaces s + eol (drop (spaces s) s))
+    (turns n blank-line (drop (spaces s + eol (drop (spaces s) s)) s)) (line-blanked s)
+    (lines-turns n (drop (spaces s + eol (drop (spaces s) s)) s)))))
     (λ e. rw (turns-end (suc n) blank-line s (no-line s e)) (refl, zero-add (blanks s)))
 
 pub ends-spaces : (s : List ℕ) → lineEnds s ≡ true → spaces s ≡ 0
@@ -294,8 +354,16 @@ ends-spaces s e = go (blank-of s) e
 
 pub block-lines : (s : List ℕ) → lineEnds (drop (spaces s) s) ≡ true → Lines s (blank-block s)
 unfolding blank-block many
-block-lines s e = go (many blank-line (drop (spaces s + eol (drop (spaces s) s)) s)) refl (lines-turns (length (drop (spaces s + eol (drop (spaces s) s)) s)) (drop (spaces s + eol (drop (spaces s) s)) s))
+block-lines s e =
+    go (many blank-line (drop (spaces s + eol (drop (spaces s) s)) s)) refl
+    (lines-turns (length (drop (spaces s + eol (drop (spaces s) s)) s)) (drop (spaces s + eol (drop (spaces s) s)) s))
   where
-    go : (a : Answer (List Line)) → many blank-line (drop (spaces s + eol (drop (spaces s) s)) s) ≡ a → Lines (drop (spaces s + eol (drop (spaces s) s)) s) a → Lines s (blank-block s)
-    go (fits ls ms j) h (m, b) = rw (some-fits blank-line s (line-is s e) h) (ap (moveUp (spaces s + eol (drop (spaces s) s))) m ∙ moveUp-none (spaces s + eol (drop (spaces s) s)), blanked-on s (spaces s + eol (drop (spaces s) s)) j (line-blanked s) b)
+    go : (a : Answer (List Line)) → many blank-line (drop (spaces s + eol (drop (spaces s) s)) s) ≡ a
+        → Lines (drop (spaces s + eol (drop (spaces s) s)) s) a → Lines s (blank-block s)
+    go (fits ls ms j) h (m, b) =
+        rw (some-fits blank-line s (line-is s e) h) (
+          ap (moveUp (spaces s + eol (drop (spaces s) s))) m
+              ∙ moveUp-none (spaces s + eol (drop (spaces s) s)),
+          blanked-on s (spaces s + eol (drop (spaces s) s)) j (line-blanked s) b,
+        )
     go fails h b = absurd b

@@ -15,7 +15,8 @@ use Rattle.syntax.specs.Marks.{moveUp}
 use Rattle.syntax.specs.Reader as Reader
 use Rattle.syntax.specs.Reader.{Out, ok, bad, deep, repeat}
 use Rattle.syntax.specs.Pattern as Pattern
-use Rattle.syntax.specs.Pattern.{Inside, lineFeed, crlf, Slice, State, isBlank, isTextByte, isLineStart, roleAfter, isLineFeed, isElement, isContinuation, goesOn, patternTurn, getTextSlice}
+use Rattle.syntax.specs.Pattern.{Inside, lineFeed, crlf, Slice, State, isBlank, isTextByte, isLineStart, roleAfter}
+use Rattle.syntax.specs.Pattern.{isLineFeed, isElement, isContinuation, goesOn, patternTurn, getTextSlice}
 use Rattle.laws.specs.Bytes.{byCase, clash}
 use Rattle.laws.specs.Moving.{after-after, moveUp-zero, upErrors-zero}
 use Rattle.syntax.specs.declared.errors.ParserError.{ParserError}
@@ -108,49 +109,68 @@ module _ (sub : Inside) (takes : (s : List ℕ) → Takes (sub .braced s)) (src 
     pub common : state .common ≡ st .common
     pub passed : Passed src k₀ st state f
 
-  one-feed : (st : State) (p : ℕ) (s t : List ℕ) → isLineStart (st .role) ≡ true → st .used ≡ k₀ + p → drop (spaces s) s ≡ 10 ∷ t → Blanked st p s (spaces s + 1) (λ c es. joined (run-of (p + cut c (spaces s)) (p + spaces s + 1)) [] ∷ es)
+  one-feed : (st : State) (p : ℕ) (s t : List ℕ) → isLineStart (st .role) ≡ true → st .used ≡ k₀ + p
+      → drop (spaces s) s ≡ 10 ∷ t
+      → Blanked st p s (spaces s + 1) (λ c es. joined (run-of (p + cut c (spaces s)) (p + spaces s + 1)) [] ∷ es)
   one-feed st p s t r q d =
       let n = spaces s in
       let st₁ = textState st n feedSlice 1 in
       let e : isElement st feedSlice ≡ true = unfold isElement isLineFeed in (rw r refl) in
       record {
         state = st₁;
-        reads = repeat-again (patternTurn sub) (turn-shrinks sub takes) st s st₁ [] (n + 1) (turn-on sub st s 10 t d (goes-lf n) (no-brace-first s 10 t d refl) r ∙ rw (slice-lf t) (text-again st n feedSlice [] 1));
+        reads =
+            repeat-again (patternTurn sub) (turn-shrinks sub takes) st s st₁ [] (n + 1)
+            (turn-on sub st s 10 t d (goes-lf n) (no-brace-first s 10 t d refl) r
+            ∙ rw (slice-lf t) (text-again st n feedSlice [] 1));
         role = unfold textState roleAfter isLineStart in refl;
         used = unfold textState in (omega arith);
         common = blank-common st n 1 feedSlice refl;
-        passed = passed-one src k₀ st st₁ (Pattern.text (st .used) (st .used + n + 1) n true) (λ c. joined (run-of (p + cut c n) (p + n + 1)) []) (text-elements st n 1 feedSlice (omega arith) e ∙ rw r refl) (blank-kept st n 1 feedSlice refl) (λ c. (refl, rw q (unfold fromAt in (dedent-from true k₀ p n c)), omega arith));
+        passed =
+            passed-one src k₀ st st₁ (Pattern.text (st .used) (st .used + n + 1) n true)
+            (λ c. joined (run-of (p + cut c n) (p + n + 1)) [])
+            (text-elements st n 1 feedSlice (omega arith) e ∙ rw r refl) (blank-kept st n 1 feedSlice refl)
+            (λ c. (refl, rw q (unfold fromAt in (dedent-from true k₀ p n c)), omega arith));
       }
 
-  one-cr : (st : State) (p : ℕ) (s t : List ℕ) → isLineStart (st .role) ≡ true → st .used ≡ k₀ + p → drop (spaces s) s ≡ 13 ∷ 10 ∷ t → Blanked st p s (spaces s + 1) (λ c es. es)
+  one-cr : (st : State) (p : ℕ) (s t : List ℕ) → isLineStart (st .role) ≡ true → st .used ≡ k₀ + p
+      → drop (spaces s) s ≡ 13 ∷ 10 ∷ t → Blanked st p s (spaces s + 1) (λ c es. es)
   one-cr st p s t r q d =
       let n = spaces s in
       let st₁ = textState st n crSlice 1 in
       record {
         state = st₁;
-        reads = repeat-again (patternTurn sub) (turn-shrinks sub takes) st s st₁ [] (n + 1) (turn-on sub st s 13 (10 ∷ t) d (goes-cr n) (no-brace-first s 13 (10 ∷ t) d refl) r ∙ rw (slice-crlf t) (text-again st n crSlice [] 1));
+        reads =
+            repeat-again (patternTurn sub) (turn-shrinks sub takes) st s st₁ [] (n + 1)
+            (turn-on sub st s 13 (10 ∷ t) d (goes-cr n) (no-brace-first s 13 (10 ∷ t) d refl) r
+            ∙ rw (slice-crlf t) (text-again st n crSlice [] 1));
         role = unfold textState roleAfter isLineStart in refl;
         used = unfold textState in (omega arith);
         common = blank-common st n 1 crSlice refl;
         passed = passed-none src k₀ st st₁ (unfold textState isElement in refl) (blank-kept st n 1 crSlice refl);
       }
 
-  pub blanked-then : (st : State) (p : ℕ) (s : List ℕ) (u v : ℕ) (f g : Option ℕ → List Element → List Element) (b : Blanked st p s u f) → Blanked (b .state) (p + u) (drop u s) v g → Blanked st p s (u + v) (λ c es. f c (g c es))
+  pub blanked-then : (st : State) (p : ℕ) (s : List ℕ) (u v : ℕ) (f g : Option ℕ → List Element → List Element)
+      (b : Blanked st p s u f)
+      → Blanked (b .state) (p + u) (drop u s) v g → Blanked st p s (u + v) (λ c es. f c (g c es))
   unfolding moveUp
   blanked-then st p s u v f g b d = record {
     state = d .state;
-    reads = b .reads ∙ ap (Reader.after [] u) (d .reads) ∙ after-after [] u [] v (repeat (patternTurn sub) (d .state) (drop v (drop u s))) ∙ rw (drop-drop v u s) refl;
+    reads = b .reads ∙ ap (Reader.after [] u) (d .reads)
+        ∙ after-after [] u [] v (repeat (patternTurn sub) (d .state) (drop v (drop u s))) ∙ rw (drop-drop v u s) refl;
     role = d .role;
     used = d .used ∙ ap (λ k. k₀ + k) (add-assoc p u v);
     common = d .common ∙ b .common;
     passed = passed-then src k₀ st (b .state) (d .state) f g (b .passed) (d .passed);
   }
 
-  pub blanked-as : (st : State) (p : ℕ) (s : List ℕ) (u v : ℕ) (f g : Option ℕ → List Element → List Element) → u ≡ v → ((c : Option ℕ) (es : List Element) → f c es ≡ g c es) → Blanked st p s u f → Blanked st p s v g
-  blanked-as st p s u v f g q e b = subst (λ k. Blanked st p s k g) q (subst (λ h. Blanked st p s u h) (fun-ext (λ c. fun-ext (λ es. e c es))) b)
+  pub blanked-as : (st : State) (p : ℕ) (s : List ℕ) (u v : ℕ) (f g : Option ℕ → List Element → List Element) → u ≡ v
+      → ((c : Option ℕ) (es : List Element) → f c es ≡ g c es) → Blanked st p s u f → Blanked st p s v g
+  blanked-as st p s u v f g q e b =
+      subst (λ k. Blanked st p s k g) q (subst (λ h. Blanked st p s u h) (fun-ext (λ c. fun-ext (λ es. e c es))) b)
 
   -- a block of blank lines
-  pub block-passes : (st : State) (p : ℕ) {s : List ℕ} {ls : List Line} {u : ℕ} → isLineStart (st .role) ≡ true → st .used ≡ k₀ + p → Block s ls u → Blanked st p s u (λ c es. feeds c p ls es)
+  pub block-passes : (st : State) (p : ℕ) {s : List ℕ} {ls : List Line} {u : ℕ} → isLineStart (st .role) ≡ true
+      → st .used ≡ k₀ + p → Block s ls u → Blanked st p s u (λ c es. feeds c p ls es)
   unfolding feeds feedFrom
   block-passes st p {s} r q (stop z) = record {
     state = st;
@@ -166,26 +186,48 @@ module _ (sub : Inside) (takes : (s : List ℕ) → Takes (sub .braced s)) (src 
       Goal e = Blanked st p s (spaces s + suc e + u) (λ c es. feeds c p (record { spaces = spaces s; ending = suc e } ∷ ls) es)
 
       Others : ℕ → Type 0
-      Others e = (st′ : State) (p′ : ℕ) → isLineStart (st′ .role) ≡ true → st′ .used ≡ k₀ + p′ → Blanked st′ p′ (drop (spaces s + suc e) s) u (λ c es. feeds c p′ ls es)
+      Others e = (st′ : State) (p′ : ℕ) → isLineStart (st′ .role) ≡ true → st′ .used ≡ k₀ + p′
+          → Blanked st′ p′ (drop (spaces s + suc e) s) u (λ c es. feeds c p′ ls es)
 
       by-feed : (t : List ℕ) → drop (spaces s) s ≡ 10 ∷ t → Others 0 → Goal 0
       by-feed t d f =
           let a = one-feed st p s t r q d in
-          blanked-as st p s (spaces s + 1 + u) (spaces s + 1 + u) (λ c es. joined (run-of (p + cut c (spaces s)) (p + spaces s + 1)) [] ∷ feeds c (p + (spaces s + 1)) ls es) (λ c es. feeds c p (record { spaces = spaces s; ending = 1 } ∷ ls) es) refl
-          (λ c es. ap (λ k. joined (run-of (p + cut c (spaces s)) (p + spaces s + 1)) [] ∷ feeds c k ls es) (sym (add-assoc p (spaces s) 1)))
-          (blanked-then st p s (spaces s + 1) u (λ c es. joined (run-of (p + cut c (spaces s)) (p + spaces s + 1)) [] ∷ es) (λ c es. feeds c (p + (spaces s + 1)) ls es) a (f (a .state) (p + (spaces s + 1)) (a .role) (a .used)))
+          blanked-as st p s (spaces s + 1 + u) (spaces s + 1 + u)
+          (λ c es. joined (run-of (p + cut c (spaces s)) (p + spaces s + 1)) []
+          ∷ feeds c (p + (spaces s + 1)) ls es)
+          (λ c es. feeds c p (record { spaces = spaces s; ending = 1 } ∷ ls) es) refl
+          (λ c es. ap (λ k. joined (run-of (p + cut c (spaces s)) (p + spaces s + 1)) [] ∷ feeds c k ls es)
+          (sym (add-assoc p (spaces s) 1)))
+          (blanked-then st p s (spaces s + 1) u
+          (λ c es. joined (run-of (p + cut c (spaces s)) (p + spaces s + 1)) [] ∷ es)
+          (λ c es. feeds c (p + (spaces s + 1)) ls es) a (f (a .state) (p + (spaces s + 1)) (a .role) (a .used)))
 
       by-cr : (t : List ℕ) → drop (spaces s) s ≡ 13 ∷ 10 ∷ t → Others 1 → Goal 1
       by-cr t d f =
           let a = one-cr st p s t r q d in
           let w : 10 ∷ t ≡ drop (spaces s + 1) s = sym (ap (drop 1) d) ∙ drop-drop 1 (spaces s) s in
-          let fed : Blanked (a .state) (p + (spaces s + 1)) (10 ∷ t) 1 (λ c es. joined (run-of (p + (spaces s + 1) + cut c 0) (p + (spaces s + 1) + 0 + 1)) [] ∷ es) = unfold spaces run in (one-feed (a .state) (p + (spaces s + 1)) (10 ∷ t) t (a .role) (a .used) refl) in
-          let l = blanked-as st p s (spaces s + 1 + 1) (spaces s + 2) _ (λ c es. joined (run-of (p + spaces s + 2 - 1) (p + spaces s + 2)) [] ∷ es) (add-assoc (spaces s) 1 1)
+          let fed : Blanked (a .state) (p + (spaces s + 1)) (10 ∷ t) 1
+          (λ c es. joined (run-of (p + (spaces s + 1) + cut c 0) (p + (spaces s + 1) + 0 + 1)) [] ∷ es) =
+          unfold spaces run in
+          (one-feed (a .state) (p + (spaces s + 1)) (10 ∷ t) t (a .role) (a .used) refl) in
+          let l =
+          blanked-as st p s (spaces s + 1 + 1) (spaces s + 2) _
+          (λ c es. joined (run-of (p + spaces s + 2 - 1) (p + spaces s + 2)) [] ∷ es) (add-assoc (spaces s) 1 1)
           (λ c es. ap₂ (λ x y. joined (run-of x y) [] ∷ es) (starts c) (tills (spaces s)))
-          (blanked-then st p s (spaces s + 1) 1 (λ c es. es) (λ c es. joined (run-of (p + (spaces s + 1) + cut c 0) (p + (spaces s + 1) + 0 + 1)) [] ∷ es) a (subst (λ x. Blanked (a .state) (p + (spaces s + 1)) x 1 (λ c es. joined (run-of (p + (spaces s + 1) + cut c 0) (p + (spaces s + 1) + 0 + 1)) [] ∷ es)) w fed)) in
-          blanked-as st p s (spaces s + 2 + u) (spaces s + 2 + u) (λ c es. joined (run-of (p + spaces s + 2 - 1) (p + spaces s + 2)) [] ∷ feeds c (p + (spaces s + 2)) ls es) (λ c es. feeds c p (record { spaces = spaces s; ending = 2 } ∷ ls) es) refl
-          (λ c es. ap (λ k. joined (run-of (p + spaces s + 2 - 1) (p + spaces s + 2)) [] ∷ feeds c k ls es) (sym (add-assoc p (spaces s) 2)))
-          (blanked-then st p s (spaces s + 2) u (λ c es. joined (run-of (p + spaces s + 2 - 1) (p + spaces s + 2)) [] ∷ es) (λ c es. feeds c (p + (spaces s + 2)) ls es) l (f (l .state) (p + (spaces s + 2)) (l .role) (l .used)))
+          (blanked-then st p s (spaces s + 1) 1 (λ c es. es)
+          (λ c es. joined (run-of (p + (spaces s + 1) + cut c 0) (p + (spaces s + 1) + 0 + 1)) [] ∷ es) a
+          (subst
+          (λ x. Blanked (a .state) (p + (spaces s + 1)) x 1
+          (λ c es. joined (run-of (p + (spaces s + 1) + cut c 0) (p + (spaces s + 1) + 0 + 1)) [] ∷ es)) w fed)) in
+          blanked-as st p s (spaces s + 2 + u) (spaces s + 2 + u)
+          (λ c es. joined (run-of (p + spaces s + 2 - 1) (p + spaces s + 2)) []
+          ∷ feeds c (p + (spaces s + 2)) ls es)
+          (λ c es. feeds c p (record { spaces = spaces s; ending = 2 } ∷ ls) es) refl
+          (λ c es. ap (λ k. joined (run-of (p + spaces s + 2 - 1) (p + spaces s + 2)) [] ∷ feeds c k ls es)
+          (sym (add-assoc p (spaces s) 2)))
+          (blanked-then st p s (spaces s + 2) u
+          (λ c es. joined (run-of (p + spaces s + 2 - 1) (p + spaces s + 2)) [] ∷ es)
+          (λ c es. feeds c (p + (spaces s + 2)) ls es) l (f (l .state) (p + (spaces s + 2)) (l .role) (l .used)))
         where
           starts : (c : Option ℕ) → p + (spaces s + 1) + cut c 0 ≡ p + spaces s + 2 - 1
           starts c = omega (arith, cut-within c 0)

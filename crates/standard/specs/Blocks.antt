@@ -31,12 +31,16 @@ Ended (l ∷ ls) = (0 < l .ending) × Ended ls
 -- s starts with the blank lines ls, of u bytes together, each with its line end; no further one follows
 pub data Block : List ℕ → List Line → ℕ → Type 0 where
   stop : {s : List ℕ} → eol (drop (spaces s) s) ≡ 0 → Block s [] 0
-  step : {s : List ℕ} {ls : List Line} {u : ℕ} (e : ℕ) → eol (drop (spaces s) s) ≡ suc e → Block (drop (spaces s + suc e) s) ls u → Block s (record { spaces = spaces s; ending = suc e } ∷ ls) (spaces s + suc e + u)
+  step : {s : List ℕ} {ls : List Line} {u : ℕ} (e : ℕ) → eol (drop (spaces s) s) ≡ suc e
+      → Block (drop (spaces s + suc e) s) ls u
+      → Block s (record { spaces = spaces s; ending = suc e } ∷ ls) (spaces s + suc e + u)
 
 eol-within : (s : List ℕ) → eol s ≤ length s
 unfolding eol startsWith
 eol-within [] = omega arith
-eol-within (b ∷ bs) = byCase (eqb b 10) (λ q. rw (q, eol) (omega arith)) (λ q. byCase (eqb b 13) (λ r. cr bs q r) (λ r. rw (q, eol, r) (omega arith)))
+eol-within (b ∷ bs) =
+    byCase (eqb b 10) (λ q. rw (q, eol) (omega arith))
+    (λ q. byCase (eqb b 13) (λ r. cr bs q r) (λ r. rw (q, eol, r) (omega arith)))
   where
     cr : (bs : List ℕ) → eqb b 10 ≡ false → eqb b 13 ≡ true → eol (b ∷ bs) ≤ suc (length bs)
     cr [] q r = rw (q, eol, r) (omega arith)
@@ -54,7 +58,8 @@ block-by (suc n) s h = go (eol (drop (spaces s) s)) refl (λ r l. block-by n r l
   where
     go : (e : ℕ) → eol (drop (spaces s) s) ≡ e → ((r : List ℕ) → length r < n → Blocked r) → Blocked s
     go zero q f = ([], 0, stop q)
-    go (suc e) q f = let (ls, u, b) = f (drop (spaces s + suc e) s) (omega (arith, line-within s e q)) in (record { spaces = spaces s; ending = suc e } ∷ ls, spaces s + suc e + u, step e q b)
+    go (suc e) q f = let (ls, u, b) = f (drop (spaces s + suc e) s) (omega (arith, line-within s e q)) in
+        (record { spaces = spaces s; ending = suc e } ∷ ls, spaces s + suc e + u, step e q b)
 
 pub block-of : (s : List ℕ) → Blocked s
 block-of s = block-by (suc (length s)) s (omega arith)
@@ -92,7 +97,10 @@ block-shrinks n s = go (eol (drop (spaces s) s)) refl
 block-turns : (n : ℕ) {s : List ℕ} {ls : List Line} {u : ℕ} → Block s ls u → repeat blockTurn n s ≡ ok (n + length ls) [] u
 unfolding Reader.after moveUp
 block-turns n {s} (stop q) = repeat-done blockTurn n s (ok n [] 0) (block-done n s q) ∙ ap (λ k. ok k [] 0) (sym (add-zero n))
-block-turns n {s} (step {ls = ls} {u = u} e q b) = repeat-again blockTurn block-shrinks n s (suc n) [] (spaces s + suc e) (block-again n s e q) ∙ ap (Reader.after [] (spaces s + suc e)) (block-turns (suc n) b) ∙ ap (λ k. ok k [] (spaces s + suc e + u)) (shift (length ls))
+block-turns n {s} (step {ls = ls} {u = u} e q b) =
+    repeat-again blockTurn block-shrinks n s (suc n) [] (spaces s + suc e) (block-again n s e q)
+    ∙ ap (Reader.after [] (spaces s + suc e)) (block-turns (suc n) b)
+    ∙ ap (λ k. ok k [] (spaces s + suc e + u)) (shift (length ls))
   where
     shift : (m : ℕ) → suc n + m ≡ n + suc m
     shift m = omega arith
@@ -102,13 +110,25 @@ unfolding skipBlankBlock
 skip-block {ls} {u} b = block-turns 0 b ∙ ap (λ k. ok k [] u) (zero-add (length ls))
 
 -- the grammar's blank lines: further spaces before the end are one, too
-pub line-fits : (s : List ℕ) → lineEnds (drop (spaces s) s) ≡ true → blank-line s ≡ fits (record { spaces = spaces s; ending = eol (drop (spaces s) s) }) [] (spaces s + eol (drop (spaces s) s))
+pub line-fits : (s : List ℕ) → lineEnds (drop (spaces s) s) ≡ true
+    → blank-line s ≡ fits (record { spaces = spaces s; ending = eol (drop (spaces s) s) }) []
+    (spaces s + eol (drop (spaces s) s))
 unfolding blank-line Peg.after pure moveUp
-line-fits s h = bind-fits (opt 0 blank-inline) (λ n. line-end >>= λ e. pure (record { spaces = n; ending = e })) s (opt-inline s) ∙ ap (Peg.after [] (spaces s)) (bind-fits line-end (λ e. pure (record { spaces = spaces s; ending = e })) (drop (spaces s) s) (line-end-is (drop (spaces s) s) h)) ∙ ap (fits (record { spaces = spaces s; ending = eol (drop (spaces s) s) }) []) (ap (λ k. spaces s + k) (add-zero (eol (drop (spaces s) s))))
+line-fits s h =
+    bind-fits (opt 0 blank-inline) (λ n. line-end >>= λ e. pure (record { spaces = n; ending = e })) s (opt-inline s)
+    ∙ ap (Peg.after [] (spaces s))
+    (bind-fits line-end (λ e. pure (record { spaces = spaces s; ending = e })) (drop (spaces s) s)
+    (line-end-is (drop (spaces s) s) h))
+    ∙ ap (fits (record { spaces = spaces s; ending = eol (drop (spaces s) s) }) [])
+    (ap (λ k. spaces s + k) (add-zero (eol (drop (spaces s) s))))
 
 pub line-fails : (s : List ℕ) → lineEnds (drop (spaces s) s) ≡ false → blank-line s ≡ fails
 unfolding blank-line Peg.after
-line-fails s h = bind-fits (opt 0 blank-inline) (λ n. line-end >>= λ e. pure (record { spaces = n; ending = e })) s (opt-inline s) ∙ ap (Peg.after [] (spaces s)) (bind-fails line-end (λ e. pure (record { spaces = spaces s; ending = e })) (drop (spaces s) s) (no-line-end (drop (spaces s) s) h))
+line-fails s h =
+    bind-fits (opt 0 blank-inline) (λ n. line-end >>= λ e. pure (record { spaces = n; ending = e })) s (opt-inline s)
+    ∙ ap (Peg.after [] (spaces s))
+    (bind-fails line-end (λ e. pure (record { spaces = spaces s; ending = e })) (drop (spaces s) s)
+    (no-line-end (drop (spaces s) s) h))
 
 pub line-at-end : AtEnd (blank-line [])
 unfolding spaces run eol lineEnds
@@ -123,20 +143,25 @@ ends-zero : (s : List ℕ) (b : ℕ) (bs : List ℕ) → s ≡ b ∷ bs → eol 
 unfolding lineEnds
 ends-zero s b bs e q = rw e (rw (rw e at q) refl)
 
-line-again : (s : List ℕ) (e : ℕ) → eol (drop (spaces s) s) ≡ suc e → blank-line s ≡ fits (record { spaces = spaces s; ending = suc e }) [] (spaces s + suc e)
-line-again s e q = line-fits s (ends-suc (drop (spaces s) s) e q) ∙ ap (λ k. fits (record { spaces = spaces s; ending = k }) [] (spaces s + k)) q
+line-again : (s : List ℕ) (e : ℕ) → eol (drop (spaces s) s) ≡ suc e
+    → blank-line s ≡ fits (record { spaces = spaces s; ending = suc e }) [] (spaces s + suc e)
+line-again s e q = line-fits s (ends-suc (drop (spaces s) s) e q)
+    ∙ ap (λ k. fits (record { spaces = spaces s; ending = k }) [] (spaces s + k)) q
 
 -- where something follows
-pub lines-many : {s : List ℕ} {ls : List Line} {u : ℕ} → Block s ls u → (b : ℕ) (bs : List ℕ) → drop (spaces (drop u s)) (drop u s) ≡ b ∷ bs → many blank-line s ≡ fits ls [] u
+pub lines-many : {s : List ℕ} {ls : List Line} {u : ℕ} → Block s ls u → (b : ℕ) (bs : List ℕ)
+    → drop (spaces (drop u s)) (drop u s) ≡ b ∷ bs → many blank-line s ≡ fits ls [] u
 unfolding withFirst Peg.after moveUp
 lines-many {s} (stop q) b bs h = many-none blank-line line-at-end s (line-fails s (ends-zero (drop (spaces s) s) b bs h q))
 lines-many {s} (step {ls = ls} {u = u} e q k) b bs h =
     let l : Line = record { spaces = spaces s; ending = suc e } in
     many-again blank-line line-at-end s l [] (spaces s + suc e) (line-again s e q) (omega arith)
-    ∙ ap (λ o. withFirst l (Peg.after [] (spaces s + suc e) o)) (lines-many k b bs (subst (λ r. drop (spaces r) r ≡ b ∷ bs) (sym (drop-drop u (spaces s + suc e) s)) h))
+    ∙ ap (λ o. withFirst l (Peg.after [] (spaces s + suc e) o))
+    (lines-many k b bs (subst (λ r. drop (spaces r) r ≡ b ∷ bs) (sym (drop-drop u (spaces s + suc e) s)) h))
 
 -- where the end follows
-pub lines-end : {s : List ℕ} {ls : List Line} {u : ℕ} → Block s ls u → drop (spaces (drop u s)) (drop u s) ≡ [] → (ks : List Line) × (many blank-line s ≡ fits ks [] (u + spaces (drop u s)))
+pub lines-end : {s : List ℕ} {ls : List Line} {u : ℕ} → Block s ls u → drop (spaces (drop u s)) (drop u s) ≡ []
+    → (ks : List Line) × (many blank-line s ≡ fits ks [] (u + spaces (drop u s)))
 unfolding withFirst Peg.after moveUp lineEnds eol
 lines-end {s} (stop q) h = go (spaces s) refl
   where
@@ -147,20 +172,37 @@ lines-end {s} (stop q) h = go (spaces s) refl
     nothing-left = unfold many turns in refl
 
     go : (n : ℕ) → spaces s ≡ n → (ks : List Line) × (many blank-line s ≡ fits ks [] (0 + spaces s))
-    go zero e = ([], many-still blank-line line-at-end s (record { spaces = spaces s; ending = 0 }) [] (here ∙ ap (fits (record { spaces = spaces s; ending = 0 }) []) (add-zero (spaces s) ∙ e)) ∙ ap (fits [] []) (sym (zero-add (spaces s) ∙ e)))
-    go (suc n) e = (record { spaces = spaces s; ending = 0 } ∷ [], many-again blank-line line-at-end s (record { spaces = spaces s; ending = 0 }) [] (spaces s + 0) here (omega arith) ∙ rw (add-zero (spaces s), h, nothing-left) (ap (fits (record { spaces = spaces s; ending = 0 } ∷ []) []) (omega arith)))
+    go zero e = (
+      [],
+      many-still blank-line line-at-end s (record { spaces = spaces s; ending = 0 }) []
+          (here ∙ ap (fits (record { spaces = spaces s; ending = 0 }) []) (add-zero (spaces s) ∙ e))
+          ∙ ap (fits [] []) (sym (zero-add (spaces s) ∙ e)),
+    )
+    go (suc n) e = (
+      record { spaces = spaces s; ending = 0 }
+          ∷ [],
+      many-again blank-line line-at-end s (record { spaces = spaces s; ending = 0 }) [] (spaces s + 0) here
+          (omega arith)
+          ∙ rw (add-zero (spaces s), h, nothing-left)
+          (ap (fits (record { spaces = spaces s; ending = 0 } ∷ []) []) (omega arith)),
+    )
 lines-end {s} (step {ls = ls} {u = u} e q k) h =
     let l : Line = record { spaces = spaces s; ending = suc e } in
     let (ks, f) = lines-end k (subst (λ r. drop (spaces r) r ≡ []) (sym (drop-drop u (spaces s + suc e) s)) h) in (
       l ∷ ks,
       many-again blank-line line-at-end s l [] (spaces s + suc e) (line-again s e q) (omega arith)
-          ∙ ap (λ o. withFirst l (Peg.after [] (spaces s + suc e) o)) f ∙ ap (fits (l ∷ ks) []) (sym (add-assoc (spaces s + suc e) u (spaces (drop u (drop (spaces s + suc e) s)))) ∙ ap (λ r. spaces s + suc e + u + spaces r) (drop-drop u (spaces s + suc e) s)),
+          ∙ ap (λ o. withFirst l (Peg.after [] (spaces s + suc e) o)) f
+          ∙ ap (fits (l ∷ ks) [])
+          (sym (add-assoc (spaces s + suc e) u (spaces (drop u (drop (spaces s + suc e) s))))
+          ∙ ap (λ r. spaces s + suc e + u + spaces r) (drop-drop u (spaces s + suc e) s)),
     )
 
 -- a blank-block that starts with a line end
 pub block-many : {s : List ℕ} {l : Line} {ls : List Line} {u : ℕ} → Block s (l ∷ ls) u → blank-block s ≡ many blank-line s
 unfolding blank-block
-block-many {s} (step e q k) = some-many blank-line line-at-end s (record { spaces = spaces s; ending = suc e }) [] (spaces s + suc e) (line-again s e q) (omega arith)
+block-many {s} (step e q k) =
+    some-many blank-line line-at-end s (record { spaces = spaces s; ending = suc e }) [] (spaces s + suc e)
+    (line-again s e q) (omega arith)
 
 -- a block that starts at a line end
 pub lf-block : (t : List ℕ) {ls : List Line} {u : ℕ} → Block t ls u → Block (10 ∷ t) (record { spaces = 0; ending = 1 } ∷ ls) (1 + u)

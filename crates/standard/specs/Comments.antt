@@ -23,7 +23,8 @@ use Rattle.standard.specs.Dialect as Dialect
 use Rattle.standard.specs.Dialect.{rust}
 use Rattle.standard.specs.Peg as Peg
 use Rattle.standard.specs.Peg.{fits, fails, Parser, pure, many, one, byte, bar, void, eof, as-text, given, _but_, _>>_, _/_}
-use Rattle.standard.specs.Steps.{bind-fits, bind-fails, then-fits, then-fails, first, second, void-fits, void-fails, text-fits, byte-fits, byte-fails, units}
+use Rattle.standard.specs.Steps.{bind-fits, bind-fails, then-fits, then-fails, first, second, void-fits}
+use Rattle.standard.specs.Steps.{void-fails, text-fits, byte-fits, byte-fails, units}
 use Rattle.standard.specs.Abstract as Abstract
 use Rattle.standard.specs.Abstract.{A1, empty-line}
 use Rattle.standard.specs.Lexical.{line-end, any-char, comment-char, sigil}
@@ -31,7 +32,8 @@ use Rattle.standard.specs.Grammar.{CommentLine}
 use Rattle.standard.specs.Blank.{lineEnds, line-end-is, no-line-end}
 use Rattle.standard.specs.Turns.{AtEnd, many-again, many-none, bar-fits, bar-fails}
 
--- The text of a line --------------------------------------------------------------------------------------------------------------------------
+-- The text of a line
+-- --------------------------------------------------------------------------------------------------------------------------
 
 char-end : AtEnd (comment-char [])
 unfolding comment-char any-char _but_ bar _>>_ Peg.next Peg.after line-end Peg.sized _/_ byte one starts eof
@@ -50,7 +52,9 @@ unfolding lineLength units lineEnds Peg.withFirst Peg.after moveUp
 many-char [] = unfold many Peg.turns in refl
 many-char (b ∷ bs) = byCase (ltb 0 (eol (b ∷ bs)))
     (λ q. rw (q, lineLength) (many-none comment-char char-end (b ∷ bs) (char-fails b bs q)))
-    (λ q. rw (q, lineLength) (many-again comment-char char-end (b ∷ bs) tt [] 1 (char-fits b bs q) (omega arith) ∙ rw (many-char bs) (ap (fits (tt ∷ units (lineLength bs)) []) (omega arith))))
+    (λ q. rw (q, lineLength)
+    (many-again comment-char char-end (b ∷ bs) tt [] 1 (char-fits b bs q) (omega arith)
+    ∙ rw (many-char bs) (ap (fits (tt ∷ units (lineLength bs)) []) (omega arith))))
 
 -- a line ends behind its text
 ends-behind : (s : List ℕ) → lineEnds (drop (lineLength s) s) ≡ true
@@ -58,7 +62,8 @@ unfolding lineLength lineEnds
 ends-behind [] = refl
 ends-behind (b ∷ bs) = byCase (ltb 0 (eol (b ∷ bs))) (λ q. rw (q, lineLength) q) (λ q. rw (q, lineLength) (ends-behind bs))
 
--- The sigil -----------------------------------------------------------------------------------------------------------------------------------
+-- The sigil
+-- -----------------------------------------------------------------------------------------------------------------------------------
 
 data Hashes : List ℕ → Type 0 where
   three : (s : List ℕ) → Hashes (35 ∷ 35 ∷ 35 ∷ s)
@@ -77,7 +82,9 @@ hashes-of (a ∷ s) = byCase (eqb a 35) (λ q. subst (λ x. Hashes (x ∷ s)) (s
 
     second-of : (s : List ℕ) → Hashes (35 ∷ s)
     second-of [] = single [] refl
-    second-of (b ∷ s) = byCase (eqb b 35) (λ q. subst (λ x. Hashes (35 ∷ x ∷ s)) (sym (eqb-true b 35 q)) (third-of s)) (λ q. single (b ∷ s) q)
+    second-of (b ∷ s) =
+        byCase (eqb b 35) (λ q. subst (λ x. Hashes (35 ∷ x ∷ s)) (sym (eqb-true b 35 q)) (third-of s))
+        (λ q. single (b ∷ s) q)
 
 no-run : (s : List ℕ) → startsWith 35 s ≡ false → run (λ b. eqb b 35) s ≡ 0
 unfolding run startsWith
@@ -109,10 +116,16 @@ sigil-of s = go (hashes-of s)
         none (b ∷ s) e =
             let h = byte-fails 35 (b ∷ s) e in
             let two-fail = then-fails (byte 35) (byte 35) (b ∷ s) h in
-            second (byte 35 >> byte 35 >> byte 35 >> pure 3) ((byte 35 >> byte 35 >> pure 2) / (byte 35 >> pure 1)) (b ∷ s) (then-fails (byte 35 >> byte 35 >> byte 35) (pure 3) (b ∷ s) (then-fails (byte 35 >> byte 35) (byte 35) (b ∷ s) two-fail))
-            ∙ second (byte 35 >> byte 35 >> pure 2) (byte 35 >> pure 1) (b ∷ s) (then-fails (byte 35 >> byte 35) (pure 2) (b ∷ s) two-fail) ∙ then-fails (byte 35) (pure 1) (b ∷ s) h
+            second (byte 35 >> byte 35 >> byte 35 >> pure 3) ((byte 35 >> byte 35 >> pure 2) / (byte 35 >> pure 1))
+            (b ∷ s)
+            (then-fails (byte 35 >> byte 35 >> byte 35) (pure 3) (b ∷ s)
+            (then-fails (byte 35 >> byte 35) (byte 35) (b ∷ s) two-fail))
+            ∙ second (byte 35 >> byte 35 >> pure 2) (byte 35 >> pure 1) (b ∷ s)
+            (then-fails (byte 35 >> byte 35) (pure 2) (b ∷ s) two-fail)
+            ∙ then-fails (byte 35) (pure 1) (b ∷ s) h
 
--- A comment line ------------------------------------------------------------------------------------------------------------------------------
+-- A comment line
+-- ------------------------------------------------------------------------------------------------------------------------------
 
 -- what follows the sigil
 content : Parser (Unit {0})
@@ -120,16 +133,32 @@ content = void (byte 32 >> as-text 8 (many comment-char)) / A1 rust
 
 unspaced : (s : List ℕ) → startsWith 32 s ≡ false → content s ≡ A1 rust s
 unfolding content
-unspaced s e = second (void (byte 32 >> as-text 8 (many comment-char))) (A1 rust) s (void-fails (byte 32 >> as-text 8 (many comment-char)) s (then-fails (byte 32) (as-text 8 (many comment-char)) s (byte-fails 32 s e)))
+unspaced s e =
+    second (void (byte 32 >> as-text 8 (many comment-char))) (A1 rust) s
+    (void-fails (byte 32 >> as-text 8 (many comment-char)) s
+    (then-fails (byte 32) (as-text 8 (many comment-char)) s (byte-fails 32 s e)))
 
 -- a line of the level l, with the marks ms and k bytes before its line end r
-line-fits : (s : List ℕ) (l : ℕ) (ms : List Mark) (k : ℕ) → sigil s ≡ fits l [] l → content (drop l s) ≡ fits tt ms k → lineEnds (drop k (drop l s)) ≡ true → CommentLine rust s ≡ fits (Abstract.comment l) (moveUp l ms) (l + (k + eol (drop k (drop l s))))
+line-fits : (s : List ℕ) (l : ℕ) (ms : List Mark) (k : ℕ) → sigil s ≡ fits l [] l → content (drop l s) ≡ fits tt ms k
+    → lineEnds (drop k (drop l s)) ≡ true
+    → CommentLine rust s ≡ fits (Abstract.comment l) (moveUp l ms) (l + (k + eol (drop k (drop l s))))
 unfolding CommentLine content Peg.after pure moveUp
-line-fits s l ms k e f h = bind-fits sigil _ s e ∙ ap (Peg.after [] l) (then-fits content _ (drop l s) f ∙ ap (Peg.after ms k) (then-fits line-end (pure (Abstract.comment l)) (drop k (drop l s)) (line-end-is (drop k (drop l s)) h))) ∙ ap₂ (λ x y. fits (Abstract.comment l) (moveUp l x) (l + (k + y))) (append-nil ms) (add-zero (eol (drop k (drop l s))))
+line-fits s l ms k e f h = bind-fits sigil _ s e
+    ∙ ap (Peg.after [] l)
+    (then-fits content _ (drop l s) f
+    ∙ ap (Peg.after ms k)
+    (then-fits line-end (pure (Abstract.comment l)) (drop k (drop l s)) (line-end-is (drop k (drop l s)) h)))
+    ∙ ap₂ (λ x y. fits (Abstract.comment l) (moveUp l x) (l + (k + y))) (append-nil ms)
+    (add-zero (eol (drop k (drop l s))))
 
-line-fails : (s : List ℕ) (l : ℕ) (ms : List Mark) (k : ℕ) → sigil s ≡ fits l [] l → content (drop l s) ≡ fits tt ms k → lineEnds (drop k (drop l s)) ≡ false → CommentLine rust s ≡ fails
+line-fails : (s : List ℕ) (l : ℕ) (ms : List Mark) (k : ℕ) → sigil s ≡ fits l [] l → content (drop l s) ≡ fits tt ms k
+    → lineEnds (drop k (drop l s)) ≡ false → CommentLine rust s ≡ fails
 unfolding CommentLine content Peg.after
-line-fails s l ms k e f h = bind-fits sigil _ s e ∙ ap (Peg.after [] l) (then-fits content _ (drop l s) f ∙ ap (Peg.after ms k) (then-fails line-end (pure (Abstract.comment l)) (drop k (drop l s)) (no-line-end (drop k (drop l s)) h)))
+line-fails s l ms k e f h = bind-fits sigil _ s e
+    ∙ ap (Peg.after [] l)
+    (then-fits content _ (drop l s) f
+    ∙ ap (Peg.after ms k)
+    (then-fails line-end (pure (Abstract.comment l)) (drop k (drop l s)) (no-line-end (drop k (drop l s)) h)))
 
 no-line : (s : List ℕ) → sigil s ≡ fails → CommentLine rust s ≡ fails
 unfolding CommentLine
@@ -145,15 +174,22 @@ content-empty b bs e = unspaced (b ∷ bs) e
 
 content-text : (bs : List ℕ) → content (32 ∷ bs) ≡ fits tt (moveUp 1 (textNode 8 0 (lineLength bs))) (1 + lineLength bs)
 unfolding content startsWith Peg.after
-content-text bs = first (void (byte 32 >> as-text 8 (many comment-char))) (A1 rust) (32 ∷ bs) (void-fits (byte 32 >> as-text 8 (many comment-char)) (32 ∷ bs)
-    (then-fits (byte 32) (as-text 8 (many comment-char)) (32 ∷ bs) (byte-fits 32 (32 ∷ bs) refl) ∙ ap (Peg.after [] 1) (text-fits 8 (many comment-char) bs (many-char bs))))
+content-text bs =
+    first (void (byte 32 >> as-text 8 (many comment-char))) (A1 rust) (32 ∷ bs)
+    (void-fits (byte 32 >> as-text 8 (many comment-char)) (32 ∷ bs)
+    (then-fits (byte 32) (as-text 8 (many comment-char)) (32 ∷ bs) (byte-fits 32 (32 ∷ bs) refl)
+    ∙ ap (Peg.after [] 1) (text-fits 8 (many comment-char) bs (many-char bs))))
 
 -- what follows a sigil always fits, and a line of another level has that level
 content-fits : (s : List ℕ) → (ms : List Mark) × (k : ℕ) × (content s ≡ fits tt ms k)
 content-fits [] = ([], 0, content-end)
-content-fits (b ∷ bs) = byCase (eqb b 32) (λ q. (moveUp 1 (textNode 8 0 (lineLength bs)), 1 + lineLength bs, rw (eqb-true b 32 q) (content-text bs))) (λ q. (textNode 8 0 0, 0, content-empty b bs q))
+content-fits (b ∷ bs) =
+    byCase (eqb b 32)
+    (λ q. (moveUp 1 (textNode 8 0 (lineLength bs)), 1 + lineLength bs, rw (eqb-true b 32 q) (content-text bs)))
+    (λ q. (textNode 8 0 0, 0, content-empty b bs q))
 
-comment-level : (s : List ℕ) (l m : ℕ) (ms : List Mark) (k : ℕ) → sigil s ≡ fits l [] l → CommentLine rust s ≡ fits (Abstract.comment m) ms k → m ≡ l
+comment-level : (s : List ℕ) (l m : ℕ) (ms : List Mark) (k : ℕ) → sigil s ≡ fits l [] l
+    → CommentLine rust s ≡ fits (Abstract.comment m) ms k → m ≡ l
 comment-level s l m ms k e f =
     let (ns, j, c) = content-fits (drop l s) in
     byCase (lineEnds (drop j (drop l s)))
@@ -170,49 +206,80 @@ end-eol = refl
 
 -- A turn of the reading's loop, against a CommentLine: none of this level, an error, a sigil at the end of input, or a line
 pub data Turned (c : ℕ) (s : List ℕ) : Type 0 where
-  away : (c ≡ 0 → startsWith 35 s ≡ false) → commentTurn c s ≡ done (ok c [] 0) → ((l : ℕ) (ms : List Mark) (k : ℕ) → CommentLine rust s ≡ fits (Abstract.comment l) ms k → eqb l c ≡ false) → Turned c s
+  away : (c ≡ 0 → startsWith 35 s ≡ false) → commentTurn c s ≡ done (ok c [] 0)
+      → ((l : ℕ) (ms : List Mark) (k : ℕ) → CommentLine rust s ≡ fits (Abstract.comment l) ms k → eqb l c ≡ false)
+      → Turned c s
   broken : (f : ParserError) (k : ℕ) → c ≡ 0 → commentTurn c s ≡ done (bad f k) → CommentLine rust s ≡ fails → Turned c s
-  ends : (l : ℕ) → commentTurn c s ≡ done (ok (suc l) [] (suc l)) → CommentLine rust s ≡ fits (Abstract.comment (suc l)) [] (suc l) → drop (suc l) s ≡ [] → (c ≡ 0) ⊎ (c ≡ suc l) → Turned c s
-  line : (l : ℕ) (ms : List Mark) (k : ℕ) → commentTurn c s ≡ again (suc l) ms (k + lineEndUsed (drop k s)) → CommentLine rust s ≡ fits (Abstract.comment (suc l)) ms (k + eol (drop k s)) → lineEnds (drop k s) ≡ true → 0 < k → (c ≡ 0) ⊎ (c ≡ suc l) → Turned c s
+  ends : (l : ℕ) → commentTurn c s ≡ done (ok (suc l) [] (suc l))
+      → CommentLine rust s ≡ fits (Abstract.comment (suc l)) [] (suc l) → drop (suc l) s ≡ [] → (c ≡ 0) ⊎ (c ≡ suc l)
+      → Turned c s
+  line : (l : ℕ) (ms : List Mark) (k : ℕ) → commentTurn c s ≡ again (suc l) ms (k + lineEndUsed (drop k s))
+      → CommentLine rust s ≡ fits (Abstract.comment (suc l)) ms (k + eol (drop k s)) → lineEnds (drop k s) ≡ true
+      → 0 < k → (c ≡ 0) ⊎ (c ≡ suc l) → Turned c s
 
 pub turned-of : (c : ℕ) (s : List ℕ) → Turned c s
 unfolding commentTurn lineTurn lineRead lineEnds moveUp textNode Reader.fail Reader.after
 turned-of c s = go (sigil-of s)
   where
-    at-level : (l : ℕ) → levelOf s ≡ suc l → sigil s ≡ fits (suc l) [] (suc l) → (c ≡ 0) ⊎ (c ≡ suc l) → commentTurn c s ≡ lineTurn c (suc l) (drop (suc l) s) → Turned c s
+    at-level : (l : ℕ) → levelOf s ≡ suc l → sigil s ≡ fits (suc l) [] (suc l) → (c ≡ 0) ⊎ (c ≡ suc l)
+        → commentTurn c s ≡ lineTurn c (suc l) (drop (suc l) s) → Turned c s
     at-level l lv sg w e = by (drop (suc l) s) refl
       where
         by : (r : List ℕ) → drop (suc l) s ≡ r → Turned c s
-        by [] d = ends l (e ∙ rw d refl) (line-fits s (suc l) [] 0 sg (rw d content-end) (rw d refl) ∙ rw d (ap (fits (Abstract.comment (suc l)) []) (omega (arith, end-eol)))) d w
+        by [] d =
+            ends l (e ∙ rw d refl)
+            (line-fits s (suc l) [] 0 sg (rw d content-end) (rw d refl)
+            ∙ rw d (ap (fits (Abstract.comment (suc l)) []) (omega (arith, end-eol)))) d w
         by (b ∷ bs) d = byCase (ltb 0 (eol (b ∷ bs))) (λ q. empty q) (λ q. byCase (eqb b 32) (λ r. text q r) (λ r. other q r))
           where
             zeros : drop (suc l + 0) s ≡ b ∷ bs
             zeros = ap (λ k. drop k s) (add-zero (suc l)) ∙ d
 
             empty : ltb 0 (eol (b ∷ bs)) ≡ true → Turned c s
-            empty q = line l (textNode 8 (suc l) (suc l + 0)) (suc l + 0) (e ∙ rw (d, lineTurn, q) (rw zeros refl)) (line-fits s (suc l) (textNode 8 0 0) 0 sg (rw d (content-empty b bs (no-space b bs q))) (rw d q) ∙ rw zeros (ap₂ (λ x y. fits (Abstract.comment (suc l)) (placed 8 x ∷ placed 108 (suc l + 0) ∷ []) y) (add-zero (suc l)) (ap (λ z. suc l + (0 + eol z)) d ∙ omega arith))) (rw zeros q) (omega arith) w
+            empty q =
+                line l (textNode 8 (suc l) (suc l + 0)) (suc l + 0) (e ∙ rw (d, lineTurn, q) (rw zeros refl))
+                (line-fits s (suc l) (textNode 8 0 0) 0 sg (rw d (content-empty b bs (no-space b bs q))) (rw d q)
+                ∙ rw zeros
+                (ap₂ (λ x y. fits (Abstract.comment (suc l)) (placed 8 x ∷ placed 108 (suc l + 0) ∷ []) y)
+                (add-zero (suc l)) (ap (λ z. suc l + (0 + eol z)) d ∙ omega arith)))
+                (rw zeros q) (omega arith) w
 
             text : ltb 0 (eol (b ∷ bs)) ≡ false → eqb b 32 ≡ true → Turned c s
             text q r =
                 let n = lineLength bs in
                 let f : drop (suc l + 1) s ≡ bs = sym (drop-drop 1 (suc l) s) ∙ ap (drop 1) d in
                 let D : drop (suc l + 1 + lineLength bs) s ≡ drop (lineLength bs) bs = sym (drop-drop n (suc l + 1) s) ∙ ap (drop n) f in
-                let E : drop (1 + lineLength bs) (drop (suc l) s) ≡ drop (lineLength bs) bs = ap (drop (1 + n)) d ∙ sym (drop-drop n 1 (b ∷ bs)) in
+                let E : drop (1 + lineLength bs) (drop (suc l) s) ≡ drop (lineLength bs) bs = ap (drop (1 + n)) d
+                ∙ sym (drop-drop n 1 (b ∷ bs)) in
                 line l (textNode 8 (suc l + 1) (suc l + 1 + n)) (suc l + 1 + n) (e ∙ rw (d, lineTurn, q, r) (rw D refl))
-                (line-fits s (suc l) (moveUp 1 (textNode 8 0 n)) (1 + n) sg (rw (d, eqb-true b 32 r) (content-text bs)) (rw E (ends-behind bs)) ∙ rw (D, E) (ap₂ (λ x y. fits (Abstract.comment (suc l)) (placed 8 (suc l + 1) ∷ placed 108 x ∷ []) y) (sym (add-assoc (suc l) 1 n)) (omega arith)))
+                (line-fits s (suc l) (moveUp 1 (textNode 8 0 n)) (1 + n) sg (rw (d, eqb-true b 32 r) (content-text bs))
+                (rw E (ends-behind bs))
+                ∙ rw (D, E)
+                (ap₂ (λ x y. fits (Abstract.comment (suc l)) (placed 8 (suc l + 1) ∷ placed 108 x ∷ []) y)
+                (sym (add-assoc (suc l) 1 n)) (omega arith)))
                 (rw D (ends-behind bs)) (omega arith) w
 
             other : ltb 0 (eol (b ∷ bs)) ≡ false → eqb b 32 ≡ false → Turned c s
             other q r =
                 let f = line-fails s (suc l) (textNode 8 0 0) 0 sg (rw d (content-empty b bs r)) (rw d q) in
-                byCase (eqb c 0) (λ z. broken (upFault (suc l) (faultAt (ExpectedToken 32) 0)) (suc l + 0) (eqb-true c 0 z) (e ∙ rw (d, lineTurn, q, r, z) refl) f)
-                (λ z. away (λ y. absurd (eqb-false c 0 z y)) (e ∙ rw (d, lineTurn, q, r, z) refl) (λ m ms k g. let y : _≡_ {A = ℕ} 0 1 = cc in absurd (omega arith)))
+                byCase (eqb c 0)
+                (λ z. broken (upFault (suc l) (faultAt (ExpectedToken 32) 0)) (suc l + 0) (eqb-true c 0 z)
+                (e ∙ rw (d, lineTurn, q, r, z) refl) f)
+                (λ z. away (λ y. absurd (eqb-false c 0 z y)) (e ∙ rw (d, lineTurn, q, r, z) refl)
+                (λ m ms k g. let y : _≡_ {A = ℕ} 0 1 = cc in absurd (omega arith)))
 
     go : Sigil s → Turned c s
-    go (bare sw lv sg) = away (λ z. sw) (rw (lv, commentTurn) refl) (λ l ms k f. let z : _≡_ {A = ℕ} 0 1 = cc (no-line s sg) in absurd (omega arith))
-    go (hashed l sw lv sg) = byCase (eqb c 0) (λ q. at-level l lv sg (inl (eqb-true c 0 q)) (rw (lv, commentTurn, q, eqb·suc-zero) (rw lv refl)))
-        (λ q. byCase (eqb (suc l) c) (λ r. at-level l lv sg (inr (sym (eqb-true (suc l) c r))) (rw (lv, commentTurn, q, r, eqb·suc-zero) (rw lv refl)))
-        (λ r. away (λ z. absurd (eqb-false c 0 q z)) (rw (lv, commentTurn, q, r, eqb·suc-zero) refl) (λ m ms k f. rw (comment-level s (suc l) m ms k sg f) r)))
+    go (bare sw lv sg) =
+        away (λ z. sw) (rw (lv, commentTurn) refl)
+        (λ l ms k f. let z : _≡_ {A = ℕ} 0 1 = cc (no-line s sg) in absurd (omega arith))
+    go (hashed l sw lv sg) =
+        byCase (eqb c 0)
+        (λ q. at-level l lv sg (inl (eqb-true c 0 q)) (rw (lv, commentTurn, q, eqb·suc-zero) (rw lv refl)))
+        (λ q. byCase (eqb (suc l) c)
+        (λ r. at-level l lv sg (inr (sym (eqb-true (suc l) c r)))
+        (rw (lv, commentTurn, q, r, eqb·suc-zero) (rw lv refl)))
+        (λ r. away (λ z. absurd (eqb-false c 0 q z)) (rw (lv, commentTurn, q, r, eqb·suc-zero) refl)
+        (λ m ms k f. rw (comment-level s (suc l) m ms k sg f) r)))
 
 -- no comment where there is no sigil, and no level
 pub no-comment : (s : List ℕ) → startsWith 35 s ≡ false → CommentLine rust s ≡ fails
@@ -230,7 +297,8 @@ no-level s e = go (sigil-of s)
     go (hashed l sw lv sg) = clash sw e
 
 -- a CommentLine answers a comment, and uses a byte
-pub line-comment : (s : List ℕ) (i : Abstract.Item) (ms : List Mark) (k : ℕ) → CommentLine rust s ≡ fits i ms k → (l : ℕ) × (i ≡ Abstract.comment l) × (0 < k)
+pub line-comment : (s : List ℕ) (i : Abstract.Item) (ms : List Mark) (k : ℕ) → CommentLine rust s ≡ fits i ms k
+    → (l : ℕ) × (i ≡ Abstract.comment l) × (0 < k)
 line-comment s i ms k f = go (sigil-of s)
   where
     go : Sigil s → (l : ℕ) × (i ≡ Abstract.comment l) × (0 < k)
@@ -238,5 +306,6 @@ line-comment s i ms k f = go (sigil-of s)
     go (hashed l sw lv sg) =
         let (ns, j, c) = content-fits (drop (suc l) s) in
         byCase (lineEnds (drop j (drop (suc l) s)))
-        (λ h. let g = line-fits s (suc l) ns j sg c h in let y : suc l + (j + eol (drop j (drop (suc l) s))) ≡ k = cc in (suc l, cc, omega arith))
+        (λ h. let g = line-fits s (suc l) ns j sg c h in let y : suc l + (j + eol (drop j (drop (suc l) s))) ≡ k = cc in
+        (suc l, cc, omega arith))
         (λ h. let g = line-fails s (suc l) ns j sg c h in let z : _≡_ {A = ℕ} 0 1 = cc in absurd (omega arith))

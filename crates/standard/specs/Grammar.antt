@@ -1,4 +1,5 @@
--- The productions that a dialect or nesting bears on, as in Lexical. Where one goes round, it takes the productions of what stands in one more "{" or "("
+-- The productions that a dialect or nesting bears on, as in Lexical. Where one goes round, it takes the productions of
+-- what stands in one more "{" or "("
 -- from `Inside`. A departure is written where the production has it, by a switch of the dialect d.
 use Prim.Native.Nat.{ℕ, zero, suc}
 use mathlib.Core.Bool.{true, false}
@@ -10,10 +11,18 @@ use Rattle.syntax.specs.Reader.{ok, bad, deep}
 use Rattle.syntax.specs.Expression.{level}
 use Rattle.syntax.specs.Core.{getEntry, junkEnd}
 use Rattle.standard.specs.Dialect.{Dialect}
-use Rattle.standard.specs.Peg.{Answer, fits, fails, Parser, pure, never, _>>=_, _>>_, _/_, opt, many, some, list-of, ahead, bar, void, in-node, as-text, only, given, pick, shared, _but_}
-use Rattle.standard.specs.Signs.{LF, CR, space, quote, open-parenthesis, close-parenthesis, star, comma, minus, dot, colon, equals, greater, backslash, open-brace, close-brace}
-use Rattle.standard.specs.Abstract.{A1, A2, A3, A8, A9, A10, A11, patternNode, Item, comment, message, term, junk, Part, Raw, text, lines, brace-indent, placeable, Form, string, function, messageReference, termReference, nestedPlaceable, Arg, positional, named, Content, inline, select, blank as gap}
-use Rattle.standard.specs.Lexical.{line-end, blank-inline, blank-block, blank-inline?, blank?, any-char, special-quoted-char, unicode-escape, comment-char, Identifier, NumberLiteral, UnsignedLiteral, VariantKey, AttributeAccessor, VariableReference, inline-text, indented-text, cr-text, block-brace, sigil, junk-lines}
+use Rattle.standard.specs.Peg.{Answer, fits, fails, Parser, pure, never, _>>=_, _>>_, _/_, opt, many, some}
+use Rattle.standard.specs.Peg.{list-of, ahead, bar, void, in-node, as-text, only, given, pick, shared, _but_}
+use Rattle.standard.specs.Signs.{LF, CR, space, quote, open-parenthesis, close-parenthesis, star, comma, minus}
+use Rattle.standard.specs.Signs.{dot, colon, equals, greater, backslash, open-brace, close-brace}
+use Rattle.standard.specs.Abstract.{A1, A2, A3, A8, A9, A10, A11, patternNode, Item, comment, message, term, junk}
+use Rattle.standard.specs.Abstract.{Part, Raw, text, lines, brace-indent, placeable, Form, string, function}
+use Rattle.standard.specs.Abstract.{messageReference, termReference, nestedPlaceable, Arg, positional, named}
+use Rattle.standard.specs.Abstract.{Content, inline, select, blank as gap}
+use Rattle.standard.specs.Lexical.{line-end, blank-inline, blank-block, blank-inline?, blank?, any-char}
+use Rattle.standard.specs.Lexical.{special-quoted-char, unicode-escape, comment-char, Identifier, NumberLiteral}
+use Rattle.standard.specs.Lexical.{UnsignedLiteral, VariantKey, AttributeAccessor, VariableReference, inline-text}
+use Rattle.standard.specs.Lexical.{indented-text, cr-text, block-brace, sigil, junk-lines}
 
 -- what opens a "{" or a "(", where it is read with one more open
 pub record Inside : Type 0 where
@@ -46,7 +55,8 @@ unfoldable pub treeOf : Answer (List Part) → List Mark
 treeOf (fits ps ms k) = A3 (A2 ps)
 treeOf fails = []
 
--- The productions of a dialect ----------------------------------------------------------------------------------------------------------------
+-- The productions of a dialect
+-- ----------------------------------------------------------------------------------------------------------------
 
 module _ (d : Dialect) where
   -- special_escape = "\" special_quoted_char
@@ -100,7 +110,8 @@ module _ (d : Dialect) where
       opt tt (sub .CallArguments)
       pure (termReference attribute)
 
-    -- InlineExpression = StringLiteral / NumberLiteral / FunctionReference / MessageReference / TermReference / VariableReference / inline_placeable
+    -- InlineExpression = StringLiteral / NumberLiteral / FunctionReference / MessageReference / TermReference /
+    -- VariableReference / inline_placeable
     unfoldable pub InlineExpression : Parser Form
     InlineExpression =
         StringLiteral
@@ -311,7 +322,8 @@ module _ (d : Dialect) where
     pure (comment l)
 
   module _ (n : ℕ) where
-    -- the junk of the departure junk-swallows: it ends at the first entry start at or after the place where the Rust's reading stopped, which is taken
+    -- the junk of the departure junk-swallows: it ends at the first entry start at or after the place where the Rust's
+    -- reading stopped, which is taken
     -- from the definition of that reading
     unfoldable pub swallowing-junk : Parser Item
     swallowing-junk s =

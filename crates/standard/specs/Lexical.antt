@@ -1,13 +1,17 @@
--- The productions that are the same in all dialects, under the names of the EBNF with - for _. A production stands after those that it names, so the
--- order is about the EBNF's from the end to the start. Bytes are read, not characters: each byte of a character above 127 passes for a character of its
+-- The productions that are the same in all dialects, under the names of the EBNF with - for _. A production stands
+-- after those that it names, so the
+-- order is about the EBNF's from the end to the start. Bytes are read, not characters: each byte of a character above
+-- 127 passes for a character of its
 -- own, and none is special.
 use Prim.Native.Nat.{ℕ}
 use mathlib.Core.Bool.{true}
 use mathlib.Core.List.{List, [], _∷_}
 use Rattle.syntax.specs.Kind as Kind
 use Rattle.syntax.specs.Bytes.{isLetter, isDigit, isNamePart, isHex}
-use Rattle.standard.specs.Peg.{Parser, pure, _>>=_, _>>_, _/_, opt, many, some, times, bar, _but_, one, eof, void, sized, in-node, as-text}
-use Rattle.standard.specs.Signs.{LF, CR, space, quote, hash, dollar, star, minus, dot, open-bracket, letter-U, backslash, close-bracket, letter-u, open-brace, close-brace}
+use Rattle.standard.specs.Peg.{Parser, pure, _>>=_, _>>_, _/_, opt, many, some, times, bar, _but_, one, eof, void}
+use Rattle.standard.specs.Peg.{sized, in-node, as-text}
+use Rattle.standard.specs.Signs.{LF, CR, space, quote, hash, dollar, star, minus, dot, open-bracket, letter-U}
+use Rattle.standard.specs.Signs.{backslash, close-bracket, letter-u, open-brace, close-brace}
 use Rattle.standard.specs.Abstract.{Item, junk, Line, Raw, text, lines, indent, Form, number, variable}
 
 -- line_end = CR LF / LF / EOF

@@ -1,4 +1,5 @@
--- Answers that agree up to the blanks that are skipped next. Where the reader gives an error, the grammar may also have left what begins with "(" or ".",
+-- Answers that agree up to the blanks that are skipped next. Where the reader gives an error, the grammar may also have
+-- left what begins with "(" or ".",
 -- behind blanks: nothing that may follow starts so.
 use Prim.Native.Nat.{ℕ, _+_}
 use native.Mathlib.Nat.{add-zero, add-assoc}
@@ -67,11 +68,15 @@ module _ {A B : Type 0} (f : A → B) where
 left-after : {B : Type 0} (s : List ℕ) (ms : List Mark) (k : ℕ) (a : Answer B) → Left (drop k s) a → Left s (Peg.after ms k a)
 unfolding Peg.after over
 left-after s ms k (fits y ns j) h =
-    subst Opens (drop-drop (j + blanks (drop j (drop k s))) k s ∙ ap (λ n. drop n s) (sym (add-assoc k j (blanks (drop j (drop k s)))) ∙ ap (λ r. k + j + blanks r) (drop-drop j k s))) h
+    subst Opens
+    (drop-drop (j + blanks (drop j (drop k s))) k s
+    ∙ ap (λ n. drop n s)
+    (sym (add-assoc k j (blanks (drop j (drop k s)))) ∙ ap (λ r. k + j + blanks r) (drop-drop j k s))) h
 left-after s ms k fails h = tt
 
 module _ {A B C D : Type 0} (f : A → B) (g : C → D) where
-  pub nearly-after : (s : List ℕ) (ms : List Mark) (k : ℕ) (o : Out C) (a : Answer D) → Nearly g (drop k s) o a → Nearly g s (Reader.after ms k o) (Peg.after ms k a)
+  pub nearly-after : (s : List ℕ) (ms : List Mark) (k : ℕ) (o : Out C) (a : Answer D) → Nearly g (drop k s) o a
+      → Nearly g s (Reader.after ms k o) (Peg.after ms k a)
   unfolding Reader.after Peg.after
   nearly-after s ms k (ok x ns j) a h = ap (Peg.after ms k) h
   nearly-after s ms k (bad e j) a h = left-after s ms k a h
@@ -95,7 +100,10 @@ module _ {A B C D : Type 0} (f : A → B) (g : C → D) where
       rw (e, reader-skips (q x) (drop k s), parser-skips (q′ (f x)) (drop j s))
       (same-skip g ms k (blanks (drop k s)) j (blanks (drop j s)) (q x (behind (drop k s))) (q′ (f x) (behind (drop j s))) (sym h)
       (subst (λ z. Same g (q x (behind (drop k s))) (q′ (f x) z)) r (l x (behind (drop k s)))))
-  near-next s q q′ (bad e k) (fits y ms j) h l d = after-fails ms j (parser-skips (q′ y) (drop j s) ∙ after-fails [] (blanks (drop j s)) (d y (behind (drop j s)) (subst Opens (sym (drop-over s j)) h)))
+  near-next s q q′ (bad e k) (fits y ms j) h l d =
+      after-fails ms j
+      (parser-skips (q′ y) (drop j s)
+      ∙ after-fails [] (blanks (drop j s)) (d y (behind (drop j s)) (subst Opens (sym (drop-over s j)) h)))
   near-next s q q′ (bad e k) fails h l d = refl
   near-next s q q′ (deep k) a h l d = tt
 
@@ -108,7 +116,8 @@ left-text : {B : Type 0} (s : List ℕ) (kind : ℕ) (p : Parser B) (a : Answer 
 left-text s kind p (fits y ms j) e h = rw (text-fits kind p s e) h
 left-text s kind p fails e h = rw (text-fails kind p s e) tt
 
-pub nearly-text : {B : Type 0} (f : Unit {0} → B) (kind : ℕ) (s : List ℕ) (o : Out (Unit {0})) (p : Parser B) → Nearly f s o (p s) → Nearly (λ k. take k s) s (asText kind o) (as-text kind p s)
+pub nearly-text : {B : Type 0} (f : Unit {0} → B) (kind : ℕ) (s : List ℕ) (o : Out (Unit {0})) (p : Parser B)
+    → Nearly f s o (p s) → Nearly (λ k. take k s) s (asText kind o) (as-text kind p s)
 unfolding asText
 nearly-text f kind s (ok u ms k) p h = text-fits kind p s h
 nearly-text f kind s (bad e k) p h = left-text s kind p (p s) refl h
@@ -128,7 +137,8 @@ nearly-pure f g y s (bad e k) a h = left-pure s (g y) a h
 nearly-pure f g y s (deep k) a h = tt
 
 -- another value on the grammar's side alone
-pub nearly-void : {A B D : Type 0} (f : A → B) (y : D) (s : List ℕ) (o : Out A) (a : Answer B) → Nearly f s o a → Nearly (λ x. y) s o (Peg.next s (λ _. Peg.pure y) a)
+pub nearly-void : {A B D : Type 0} (f : A → B) (y : D) (s : List ℕ) (o : Out A) (a : Answer B) → Nearly f s o a
+    → Nearly (λ x. y) s o (Peg.next s (λ _. Peg.pure y) a)
 unfolding Peg.next Peg.pure
 nearly-void f y s (ok x ms k) a h = rw h (fits-pure y ms k)
 nearly-void f y s (bad e k) a h = left-pure s y a h
@@ -146,7 +156,8 @@ pub over-after : (s : List ℕ) (k j : ℕ) → over s (k + j) ≡ k + over (dro
 unfolding over
 over-after s k j = ap (λ r. k + j + blanks r) (sym (drop-drop j k s)) ∙ add-assoc k j (blanks (drop j (drop k s)))
 
-pub near-after : {A B : Type 0} (f : A → B) (s : List ℕ) (ms : List Mark) (k : ℕ) (o : Out A) (a : Answer B) → Near f (drop k s) o a → Near f s (Reader.after ms k o) (Peg.after ms k a)
+pub near-after : {A B : Type 0} (f : A → B) (s : List ℕ) (ms : List Mark) (k : ℕ) (o : Out A) (a : Answer B)
+    → Near f (drop k s) o a → Near f s (Reader.after ms k o) (Peg.after ms k a)
 unfolding Reader.after Peg.after
 near-after f s ms k (ok x ns i) a (j, e, h) = (k + j, ap (Peg.after ms k) e, over-after s k j ∙ ap (λ n. k + n) h ∙ sym (over-after s k i))
 near-after f s ms k (bad e j) a h = left-after s ms k a h
@@ -167,7 +178,8 @@ module _ {A B : Type 0} (f : A → B) where
   near-wrap kind s (bad e k) p h = left-node s kind p (p s) refl h
   near-wrap kind s (deep k) p h = tt
 
-  pub near-pick : (s : List ℕ) (v : Bool) (o o′ : Out A) (a : Answer B) → (v ≡ true → Near f s o a) → (v ≡ false → Near f s o′ a) → Near {A = A} f s (elim v [ true ↦ o | false ↦ o′ ]) a
+  pub near-pick : (s : List ℕ) (v : Bool) (o o′ : Out A) (a : Answer B) → (v ≡ true → Near f s o a)
+      → (v ≡ false → Near f s o′ a) → Near {A = A} f s (elim v [ true ↦ o | false ↦ o′ ]) a
   near-pick s true o o′ a h l = h refl
   near-pick s false o o′ a h l = l refl
 

@@ -1,5 +1,7 @@
--- Parsers. A parser is given the rest of a source, and answers whether it starts with what the parser describes: a value, the marks and the bytes
--- used, all counted from the rest's start, or that it doesn't. Choice is ordered, repetition is greedy, and nothing is undone once a parser has
+-- Parsers. A parser is given the rest of a source, and answers whether it starts with what the parser describes: a
+-- value, the marks and the bytes
+-- used, all counted from the rest's start, or that it doesn't. Choice is ordered, repetition is greedy, and nothing is
+-- undone once a parser has
 -- answered. The end of input is a parser that uses nothing.
 use Prim.Native.Nat.{ℕ, zero, suc, _+_}
 use mathlib.Core.Bool.{Bool, true, false}
@@ -82,7 +84,11 @@ unfoldable pub listTurns : {A B : Type 0} → ℕ → Parser A → Parser B → 
 listTurns zero p sep s = fits [] [] 0
 listTurns (suc n) p sep s =
     elim (p s) [
-      | fits a ms k ↦ elim (sep (drop k s)) [ fits b ns j ↦ withFirst a (after ms k (after ns j (listTurns n p sep (drop j (drop k s))))) | fails ↦ fits (a ∷ []) ms k ]
+      | fits a ms k ↦ elim
+          (sep (drop k s)) [
+            | fits b ns j ↦ withFirst a (after ms k (after ns j (listTurns n p sep (drop j (drop k s)))))
+            | fails ↦ fits (a ∷ []) ms k
+          ]
       | fails ↦ fits [] [] 0
     ]
 

@@ -1,4 +1,5 @@
--- An answer of the reading against an answer of the grammar, and the laws of readers and parsers that are put together in the same way. A reader's `deep`
+-- An answer of the reading against an answer of the grammar, and the laws of readers and parsers that are put together
+-- in the same way. A reader's `deep`
 -- says that a whole file is refused, so that nothing is asked of the grammar there.
 use Prim.Native.Nat.{ℕ, _+_}
 use native.Mathlib.Omega.{arith}
@@ -65,10 +66,12 @@ SamePattern (deep k) o = Unit {0}
 pub record PatternAgrees (sub₁ : Pattern.Inside) (sub₂ : Grammar.Inside) : Type 0 where
   pub pattern : (s : List ℕ) → SamePattern (getPattern sub₁ s) (whole-pattern sub₂ s)
 
--- Laws ----------------------------------------------------------------------------------------------------------------------------------------
+-- Laws
+-- ----------------------------------------------------------------------------------------------------------------------------------------
 
 -- reading on
-pub same-after : {A B : Type 0} (f : A → B) (ms : List Mark) (k : ℕ) (o : Out A) (a : Answer B) → Same f o a → Same f (Reader.after ms k o) (Peg.after ms k a)
+pub same-after : {A B : Type 0} (f : A → B) (ms : List Mark) (k : ℕ) (o : Out A) (a : Answer B) → Same f o a
+    → Same f (Reader.after ms k o) (Peg.after ms k a)
 unfolding Reader.after Peg.after
 same-after f ms k (ok x ns j) a h = ap (Peg.after ms k) h
 same-after f ms k (bad e j) a h = ap (Peg.after ms k) h
@@ -94,22 +97,27 @@ module _ {A B C D : Type 0} where
 
 -- readers step by step
 module _ {A B : Type 0} where
-  pub reads-then : (p : Reader A) (q : Reader B) (s : List ℕ) {a : A} {ms : List Mark} {k : ℕ} → p s ≡ ok a ms k → (Reader._>>_ p q) s ≡ Reader.after ms k (q (drop k s))
+  pub reads-then : (p : Reader A) (q : Reader B) (s : List ℕ) {a : A} {ms : List Mark} {k : ℕ} → p s ≡ ok a ms k
+      → (Reader._>>_ p q) s ≡ Reader.after ms k (q (drop k s))
   unfolding Reader._>>_ Reader.next
   reads-then p q s e = rw (e, Reader._>>_) refl
 
-  pub reads-bind : (p : Reader A) (q : A → Reader B) (s : List ℕ) {a : A} {ms : List Mark} {k : ℕ} → p s ≡ ok a ms k → (Reader._>>=_ p q) s ≡ Reader.after ms k (q a (drop k s))
+  pub reads-bind : (p : Reader A) (q : A → Reader B) (s : List ℕ) {a : A} {ms : List Mark} {k : ℕ} → p s ≡ ok a ms k
+      → (Reader._>>=_ p q) s ≡ Reader.after ms k (q a (drop k s))
   unfolding Reader._>>=_ Reader.next
   reads-bind p q s e = rw (e, Reader._>>=_) refl
 
-  pub reads-after : (s : List ℕ) (q : A → Reader B) (ms : List Mark) (k : ℕ) (o : Out A) → Reader.next s q (Reader.after ms k o) ≡ Reader.after ms k (Reader.next (drop k s) q o)
+  pub reads-after : (s : List ℕ) (q : A → Reader B) (ms : List Mark) (k : ℕ) (o : Out A)
+      → Reader.next s q (Reader.after ms k o) ≡ Reader.after ms k (Reader.next (drop k s) q o)
   unfolding Reader.next Reader.after
-  reads-after s q ms k (ok a ns j) = ap (λ r. Reader.after (ms ++ moveUp k ns) (k + j) (q a r)) (sym (drop-drop j k s)) ∙ sym (after-after ms k ns j (q a (drop j (drop k s))))
+  reads-after s q ms k (ok a ns j) = ap (λ r. Reader.after (ms ++ moveUp k ns) (k + j) (q a r)) (sym (drop-drop j k s))
+      ∙ sym (after-after ms k ns j (q a (drop j (drop k s))))
   reads-after s q ms k (bad e j) = refl
   reads-after s q ms k (deep j) = refl
 
 -- which two of three readers are put together first
-pub reads-assoc : {A B C : Type 0} (p : Reader A) (q : Reader B) (w : Reader C) (s : List ℕ) → (Reader._>>_ p (Reader._>>_ q w)) s ≡ (Reader._>>_ (Reader._>>_ p q) w) s
+pub reads-assoc : {A B C : Type 0} (p : Reader A) (q : Reader B) (w : Reader C) (s : List ℕ)
+    → (Reader._>>_ p (Reader._>>_ q w)) s ≡ (Reader._>>_ (Reader._>>_ p q) w) s
 unfolding Reader._>>_
 reads-assoc {A} p q w s = go (p s)
   where
@@ -119,7 +127,8 @@ reads-assoc {A} p q w s = go (p s)
     go (deep k) = unfold Reader.next in refl
 
 pub reads-skip : {A : Type 0} (ms : List Mark) (k j : ℕ) (o : Out A) → Reader.after ms k (Reader.after [] j o) ≡ Reader.after ms (k + j) o
-reads-skip ms k j o = after-after ms k [] j o ∙ ap (λ ns. Reader.after (ms ++ ns) (k + j) o) (moveUp-none k) ∙ ap (λ ns. Reader.after ns (k + j) o) (append-nil ms)
+reads-skip ms k j o = after-after ms k [] j o ∙ ap (λ ns. Reader.after (ms ++ ns) (k + j) o) (moveUp-none k)
+    ∙ ap (λ ns. Reader.after ns (k + j) o) (append-nil ms)
 
 -- another value
 pub ok-pure : {A : Type 0} (x : A) (ms : List Mark) (k : ℕ) → Reader.after ms k (ok x [] 0) ≡ ok x ms k
@@ -140,10 +149,16 @@ refuses b s e = rw (e, expectByte) refl
 
 -- a byte that has to be there
 pub same-byte : (b : ℕ) → Matches nothing (expectByte b) (byte b)
-same-byte b = record { same = λ s. byCase (startsWith b s) (λ e. rw (expects b s e) (byte-fits b s e)) (λ e. rw (refuses b s e) (byte-fails b s e)) }
+same-byte b =
+    record {
+      same =
+          λ s. byCase (startsWith b s) (λ e. rw (expects b s e) (byte-fits b s e))
+          (λ e. rw (refuses b s e) (byte-fails b s e));
+    }
 
 -- marks put in a node
-pub same-wrap : {A B : Type 0} (f : A → B) (kind : ℕ) (o : Out A) (p : Parser B) (s : List ℕ) → Same f o (p s) → Same f (wrap kind o) (in-node kind p s)
+pub same-wrap : {A B : Type 0} (f : A → B) (kind : ℕ) (o : Out A) (p : Parser B) (s : List ℕ) → Same f o (p s)
+    → Same f (wrap kind o) (in-node kind p s)
 unfolding wrap
 same-wrap f kind (ok x ms k) p s h = node-fits kind p s h
 same-wrap f kind (bad e k) p s h = node-fails kind p s h
@@ -172,6 +187,9 @@ same-blank-inline = record { same = λ s. blank-inline?-is s }
 pub same-skip : {A B : Type 0} (f : A → B) (ms : List Mark) (k i j l : ℕ) (o : Out A) (a : Answer B) → k + i ≡ j + l → Same f o a
     → Same f (Reader.after ms k (Reader.after [] i o)) (Peg.after ms j (Peg.after [] l a))
 unfolding Reader.after Peg.after
-same-skip f ms k i j l (ok x ns n) a e h = rw h (ap₂ (λ r m. fits (f x) (ms ++ r) m) (moveUp-twice j l ns ∙ ap (λ m. moveUp m ns) (sym e) ∙ sym (moveUp-twice k i ns)) (omega arith))
+same-skip f ms k i j l (ok x ns n) a e h =
+    rw h
+    (ap₂ (λ r m. fits (f x) (ms ++ r) m)
+    (moveUp-twice j l ns ∙ ap (λ m. moveUp m ns) (sym e) ∙ sym (moveUp-twice k i ns)) (omega arith))
 same-skip f ms k i j l (bad d n) a e h = rw h refl
 same-skip f ms k i j l (deep n) a e h = tt

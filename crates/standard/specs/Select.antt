@@ -19,24 +19,34 @@ use Rattle.syntax.specs.Helper.{skipBlank, skipEol, expectByte, getIdentifier, 
 use Rattle.syntax.specs.Pattern as Pattern
 use Rattle.syntax.specs.Pattern.{getPattern}
 use Rattle.syntax.specs.Expression as Reading
-use Rattle.syntax.specs.Expression.{keyText, getVariantKey, needsValue, variantKind, endVariants, needsLineEnd, variantWith, afterStar, turnAfter, variantTurn, getVariants}
+use Rattle.syntax.specs.Expression.{keyText, getVariantKey, needsValue, variantKind, endVariants, needsLineEnd}
+use Rattle.syntax.specs.Expression.{variantWith, afterStar, turnAfter, variantTurn, getVariants}
 use Rattle.laws.specs.Bytes.{byCase, clash}
 use Rattle.laws.specs.Moving.{after-after}
 use Rattle.standard.specs.Dialect.{rust, all}
 use Rattle.standard.specs.Peg as Peg
-use Rattle.standard.specs.Peg.{Answer, fits, fails, Parser, many, turns, byte, void, ahead, given, shared, share, withFirst, _/_, _>>_, _>>=_}
+use Rattle.standard.specs.Peg.{Answer, fits, fails, Parser, many, turns, byte, void, ahead, given, shared, share}
+use Rattle.standard.specs.Peg.{withFirst, _/_, _>>_, _>>=_}
 use Rattle.standard.specs.Abstract.{Line}
 use Rattle.standard.specs.Lexical.{Identifier, NumberLiteral, VariantKey, blank?, blank-inline?, blank-block, line-end}
 use Rattle.standard.specs.Grammar as Grammar
 use Rattle.standard.specs.Grammar.{Variant, DefaultVariant, variants, bare-variants, variant-list}
-use Rattle.standard.specs.Steps.{moveUp-none, byte-fits, byte-fails, then-fits, then-fails, void-fits, void-fails, second, choice-first, shared-first, node-fits, node-fails, after-fails, after-none, after-skip, next-after, turns-more, turns-end, ahead-fits, ahead-fails, starts-other, starts-apart, Uses, uses-first, uses-byte}
-use Rattle.standard.specs.Blank.{behind, blanks, over, drop-over, no-blanks, no-blank-at, blanks-on, spaces-blanks, eol-blanks, lineEnds, line-end-is, no-line-end, blank-inline?-is, reader-skips, parser-skips, Blanked, Lines, block-lines, ends-spaces}
-use Rattle.standard.specs.Same.{Same, nothing, Matches, PatternAgrees, SamePattern, whole-pattern, node-up, same-byte, same-blank, then, reads-then, reads-bind, reads-assoc, reads-skip, ok-pure}
+use Rattle.standard.specs.Steps.{moveUp-none, byte-fits, byte-fails, then-fits, then-fails, void-fits, void-fails}
+use Rattle.standard.specs.Steps.{second, choice-first, shared-first, node-fits, node-fails, after-fails}
+use Rattle.standard.specs.Steps.{after-none, after-skip, next-after, turns-more, turns-end, ahead-fits}
+use Rattle.standard.specs.Steps.{ahead-fails, starts-other, starts-apart, Uses, uses-first, uses-byte}
+use Rattle.standard.specs.Blank.{behind, blanks, over, drop-over, no-blanks, no-blank-at, blanks-on}
+use Rattle.standard.specs.Blank.{spaces-blanks, eol-blanks, lineEnds, line-end-is, no-line-end, blank-inline?-is}
+use Rattle.standard.specs.Blank.{reader-skips, parser-skips, Blanked, Lines, block-lines, ends-spaces}
+use Rattle.standard.specs.Same.{Same, nothing, Matches, PatternAgrees, SamePattern, whole-pattern, node-up}
+use Rattle.standard.specs.Same.{same-byte, same-blank, then, reads-then, reads-bind, reads-assoc, reads-skip}
+use Rattle.standard.specs.Same.{ok-pure}
 use Rattle.standard.specs.Near.{isOpening, Near, nearly-near, same-near, near-next, near-first, near-second, near-pick, over-after}
 use Rattle.standard.specs.Words.{no-number, no-name, same-name, number-void}
 use Rattle.standard.specs.Inline.{digit-no-letter}
 
--- VariantKey ----------------------------------------------------------------------------------------------------------------------------------
+-- VariantKey
+-- ----------------------------------------------------------------------------------------------------------------------------------
 
 abbrev key : Parser (Unit {0})
 key = void (NumberLiteral 17) / void (Identifier 18)
@@ -55,26 +65,36 @@ unfolding isLetter
 no-letter b e = byCase (isDigit b) (λ d. digit-no-letter b d) (λ d. ap isLetter (eqb-true b 45 (sym (ap (λ v. v || eqb b 45) d) ∙ e)))
 
 name-near : (s : List ℕ) → NumberLiteral 17 s ≡ fails → Near nothing s (getIdentifier 18 s) (key s)
-name-near s e = near-second nothing s (getIdentifier 18 s) (void (NumberLiteral 17)) (void (Identifier 18)) (void-fails (NumberLiteral 17) s e)
+name-near s e =
+    near-second nothing s (getIdentifier 18 s) (void (NumberLiteral 17)) (void (Identifier 18))
+    (void-fails (NumberLiteral 17) s e)
     (same-near nothing s (getIdentifier 18 s) (void (Identifier 18) s) (name-void s (getIdentifier 18 s) (same-name 18 s)))
 
 key-near : (s : List ℕ) → Near nothing s (keyText s) (key s)
 unfolding keyText starts startsWith
 key-near [] = name-near [] (no-number 17 [] refl refl)
 key-near (b ∷ bs) = near-pick nothing (b ∷ bs) (isDigit b || eqb b 45) _ _ (key (b ∷ bs))
-    (λ e. near-first nothing (b ∷ bs) (getNumberLiteral 17 (b ∷ bs)) (void (NumberLiteral 17)) (void (Identifier 18)) (nearly-near nothing (b ∷ bs) (getNumberLiteral 17 (b ∷ bs)) (void (NumberLiteral 17) (b ∷ bs)) (number-void 17 (b ∷ bs)))
+    (λ e. near-first nothing (b ∷ bs) (getNumberLiteral 17 (b ∷ bs)) (void (NumberLiteral 17)) (void (Identifier 18))
+    (nearly-near nothing (b ∷ bs) (getNumberLiteral 17 (b ∷ bs)) (void (NumberLiteral 17) (b ∷ bs))
+    (number-void 17 (b ∷ bs)))
     (void-fails (Identifier 18) (b ∷ bs) (no-name 18 (b ∷ bs) (no-letter b e))))
     (λ e. let (d, m) = neither (isDigit b) (eqb b 45) e in name-near (b ∷ bs) (no-number 17 (b ∷ bs) m d))
 
 key-end : Matches nothing (Reader._>>_ keyText (Reader._>>_ skipBlank (expectByte 93))) (key >> (blank? >> byte 93))
 unfolding Reader._>>_ _>>_ isOpening
-key-end = record { same = λ r. near-next nothing nothing r (λ _. expectByte 93) (λ _. byte 93) (keyText r) (key r) (key-near r) (λ x t. same-byte 93 .same t) (λ y t o. byte-fails 93 t (starts-apart isOpening 93 t o refl)) }
+key-end =
+    record {
+      same =
+          λ r. near-next nothing nothing r (λ _. expectByte 93) (λ _. byte 93) (keyText r) (key r) (key-near r)
+          (λ x t. same-byte 93 .same t) (λ y t o. byte-fails 93 t (starts-apart isOpening 93 t o refl));
+    }
 
 key-same : Matches nothing (Reader._>>_ (expectByte 91) getVariantKey) VariantKey
 unfolding VariantKey getVariantKey
 key-same = then (same-byte 91) (then same-blank key-end)
 
--- Patterns of variants ------------------------------------------------------------------------------------------------------------------------
+-- Patterns of variants
+-- ------------------------------------------------------------------------------------------------------------------------
 
 -- a pattern that ends where a line ends
 abbrev Broken : List ℕ → Answer (Unit {0}) → Type 0
@@ -91,13 +111,21 @@ unfolding Peg.after
 broken-after s ms k (fits y ns j) h = subst (λ r. lineEnds r ≡ false) (drop-drop j k s) h
 broken-after s ms k fails h = tt
 
-valued-after : (s : List ℕ) (ms : List Mark) (k : ℕ) (o : Out (Unit {0})) (a : Answer (Unit {0})) → Valued (drop k s) o a → Valued s (Reader.after ms k o) (Peg.after ms k a)
+valued-after : (s : List ℕ) (ms : List Mark) (k : ℕ) (o : Out (Unit {0})) (a : Answer (Unit {0}))
+    → Valued (drop k s) o a → Valued s (Reader.after ms k o) (Peg.after ms k a)
 unfolding Reader.after Peg.after
-valued-after s ms k (ok u ns i) a (j, e, l, h) = (k + j, ap (Peg.after ms k) e, subst (λ r. lineEnds r ≡ true) (drop-drop j k s) l, over-after s k j ∙ ap (λ n. k + n) h ∙ sym (over-after s k i))
+valued-after s ms k (ok u ns i) a (j, e, l, h) = (
+  k + j,
+  ap (Peg.after ms k) e,
+  subst (λ r. lineEnds r ≡ true) (drop-drop j k s) l,
+  over-after s k j
+      ∙ ap (λ n. k + n) h ∙ sym (over-after s k i),
+)
 valued-after s ms k (bad e i) a h = broken-after s ms k a h
 valued-after s ms k (deep i) a h = tt
 
-valued-next : (s : List ℕ) (q : Reader (Unit {0})) (q′ : Parser (Unit {0})) (o : Out (Unit {0})) (a : Answer (Unit {0})) → Same nothing o a → ((r : List ℕ) → Valued r (q r) (q′ r))
+valued-next : (s : List ℕ) (q : Reader (Unit {0})) (q′ : Parser (Unit {0})) (o : Out (Unit {0})) (a : Answer (Unit {0}))
+    → Same nothing o a → ((r : List ℕ) → Valued r (q r) (q′ r))
     → Valued s (Reader.next s (λ _. q) o) (Peg.next s (λ _. q′) a)
 unfolding Reader.next Peg.next
 valued-next s q q′ (ok u ms k) a h l = rw h (valued-after s ms k (q (drop k s)) (q′ (drop k s)) (l (drop k s)))
@@ -112,7 +140,12 @@ ends-here : (s : List ℕ) → lineEnds s ≡ true → (q : ℕ) × (pattern-end
 ends-here s e = go (blank-block s) refl (block-lines s (rw (ends-spaces s e) e))
   where
     go : (a : Answer (List Line)) → blank-block s ≡ a → Lines s a → (q : ℕ) × (pattern-end s ≡ fits tt [] q) × Blanked s q
-    go (fits ls ms q) h (m, b) = (q, then-fits (ahead line-end) (void blank-block) s (ahead-fits line-end s (line-end-is s e)) ∙ after-none (void blank-block s) ∙ void-fits blank-block s (h ∙ ap (λ l. fits ls l q) m), b)
+    go (fits ls ms q) h (m, b) = (
+      q,
+      then-fits (ahead line-end) (void blank-block) s (ahead-fits line-end s (line-end-is s e))
+          ∙ after-none (void blank-block s) ∙ void-fits blank-block s (h ∙ ap (λ l. fits ls l q) m),
+      b,
+    )
     go fails h b = absurd b
 
 ends-not : (s : List ℕ) → lineEnds s ≡ false → pattern-end s ≡ fails
@@ -122,7 +155,8 @@ over-blanked : (s : List ℕ) (j q : ℕ) → Blanked (drop j s) q → over s (j
 unfolding over
 over-blanked s j q b = ap (λ r. j + q + blanks r) (sym (drop-drop q j s)) ∙ add-assoc j q (blanks (drop q (drop j s))) ∙ ap (λ n. j + n) b
 
--- The end of variants -------------------------------------------------------------------------------------------------------------------------
+-- The end of variants
+-- -------------------------------------------------------------------------------------------------------------------------
 
 -- whether only spaces stand before "}"
 abbrev closes : List ℕ → Bool
@@ -141,22 +175,36 @@ Ended s (deep k) a = Unit {0}
 
 unended-after : (s : List ℕ) (ms : List Mark) (k : ℕ) (a : Answer (Unit {0})) → Unended (drop k s) a → Unended s (Peg.after ms k a)
 unfolding Peg.after
-unended-after s ms k (fits y ns j) h = subst (λ r. startsWith 125 r ≡ false) (drop-drop (over (drop k s) j) k s ∙ ap (λ n. drop n s) (sym (over-after s k j))) h
+unended-after s ms k (fits y ns j) h =
+    subst (λ r. startsWith 125 r ≡ false)
+    (drop-drop (over (drop k s) j) k s ∙ ap (λ n. drop n s) (sym (over-after s k j))) h
 unended-after s ms k fails h = tt
 
-pub ended-after : (s : List ℕ) (ms : List Mark) (k : ℕ) (o : Out (Unit {0})) (a : Answer (Unit {0})) → Ended (drop k s) o a → Ended s (Reader.after ms k o) (Peg.after ms k a)
+pub ended-after : (s : List ℕ) (ms : List Mark) (k : ℕ) (o : Out (Unit {0})) (a : Answer (Unit {0}))
+    → Ended (drop k s) o a → Ended s (Reader.after ms k o) (Peg.after ms k a)
 unfolding Reader.after Peg.after
-ended-after s ms k (ok u ns i) a (inl (j, e, h)) = inl (k + j, ap (Peg.after ms k) e, over-after s k j ∙ ap (λ n. k + n) h ∙ sym (add-assoc k i (spaces (drop i (drop k s)))) ∙ ap (λ r. k + i + spaces r) (drop-drop i k s))
+ended-after s ms k (ok u ns i) a (inl (j, e, h)) =
+    inl (
+      k + j,
+      ap (Peg.after ms k) e,
+      over-after s k j ∙ ap (λ n. k + n) h
+          ∙ sym (add-assoc k i (spaces (drop i (drop k s)))) ∙ ap (λ r. k + i + spaces r) (drop-drop i k s),
+    )
 ended-after s ms k (ok u ns i) a (inr (e, c)) = inr (after-fails ms k e, subst (λ r. closes r ≡ false) (drop-drop i k s) c)
 ended-after s ms k (bad e i) a h = unended-after s ms k a h
 ended-after s ms k (deep i) a h = tt
 
--- Lines of variants ---------------------------------------------------------------------------------------------------------------------------
+-- Lines of variants
+-- ---------------------------------------------------------------------------------------------------------------------------
 
 -- a line's start behind a line's end
-line-start : {A : Type 0} (q : Parser A) (s : List ℕ) → lineEnds s ≡ true → (line-end >> (blank? >> q)) s ≡ Peg.after [] (blanks s) (q (behind s))
-line-start q s e = then-fits line-end (blank? >> q) s (line-end-is s e) ∙ ap (Peg.after [] (eol s)) (parser-skips q (drop (eol s) s)) ∙ after-skip [] (eol s) (blanks (drop (eol s) s)) (q (behind (drop (eol s) s)))
-    ∙ ap (λ r. Peg.after [] (eol s + blanks (drop (eol s) s)) (q r)) (drop-drop (blanks (drop (eol s) s)) (eol s) s) ∙ ap (λ n. Peg.after [] n (q (drop n s))) (blanks-on (eol s) s (eol-blanks s))
+line-start : {A : Type 0} (q : Parser A) (s : List ℕ) → lineEnds s ≡ true
+    → (line-end >> (blank? >> q)) s ≡ Peg.after [] (blanks s) (q (behind s))
+line-start q s e = then-fits line-end (blank? >> q) s (line-end-is s e)
+    ∙ ap (Peg.after [] (eol s)) (parser-skips q (drop (eol s) s))
+    ∙ after-skip [] (eol s) (blanks (drop (eol s) s)) (q (behind (drop (eol s) s)))
+    ∙ ap (λ r. Peg.after [] (eol s + blanks (drop (eol s) s)) (q r)) (drop-drop (blanks (drop (eol s) s)) (eol s) s)
+    ∙ ap (λ n. Peg.after [] n (q (drop n s))) (blanks-on (eol s) s (eol-blanks s))
 
 no-line-start : {A : Type 0} (q : Parser A) (s : List ℕ) → lineEnds s ≡ false → (line-end >> q) s ≡ fails
 no-line-start q s e = then-fails line-end q s (no-line-end s e)
@@ -174,7 +222,8 @@ module _ {sub₁ : Pattern.Inside} {sub₂ : Grammar.Inside} (patterns : Pattern
 
   whole-is : (r : List ℕ) → whole-pattern sub₂ r ≡ Peg.next r (λ _. pattern-end) (value r)
   unfolding whole-pattern _>>_
-  whole-is r = then-fits blank-inline? (Grammar.Pattern rust sub₂ >> pattern-end) r (blank-inline?-is r) ∙ sym (next-after r (λ _. pattern-end) [] (spaces r) (Grammar.Pattern rust sub₂ (drop (spaces r) r)))
+  whole-is r = then-fits blank-inline? (Grammar.Pattern rust sub₂ >> pattern-end) r (blank-inline?-is r)
+      ∙ sym (next-after r (λ _. pattern-end) [] (spaces r) (Grammar.Pattern rust sub₂ (drop (spaces r) r)))
       ∙ ap (Peg.next r (λ _. pattern-end)) (sym (then-fits blank-inline? (Grammar.Pattern rust sub₂) r (blank-inline?-is r)))
 
   abbrev reads-value : Reader (Unit {0})
@@ -189,13 +238,19 @@ module _ {sub₁ : Pattern.Inside} {sub₂ : Grammar.Inside} (patterns : Pattern
   none-broken r fails h = tt
 
   -- a pattern
-  some-valued : (r : List ℕ) (ms : List Mark) (k : ℕ) (a : Answer (Unit {0})) → Peg.next r (λ _. pattern-end) a ≡ fits tt ms k → Valued r (ok tt ms k) a
+  some-valued : (r : List ℕ) (ms : List Mark) (k : ℕ) (a : Answer (Unit {0}))
+      → Peg.next r (λ _. pattern-end) a ≡ fits tt ms k → Valued r (ok tt ms k) a
   unfolding Peg.next Peg.after
   some-valued r ms k (fits u ns j) h = byCase (lineEnds (drop j r))
       (λ l. let (q, f, b) = ends-here (drop j r) l in
       let m : ns ++ moveUp j [] ≡ ms = cc in
-      let n : j + q ≡ k = cc in
-      (j, ap (λ x. fits tt x j) (sym (ap (λ x. ns ++ x) (moveUp-none j) ∙ append-nil ns) ∙ m), l, sym (over-blanked r j q b) ∙ ap (over r) n))
+      let n : j + q ≡ k = cc in (
+        j,
+        ap (λ x. fits tt x j) (sym (ap (λ x. ns ++ x) (moveUp-none j) ∙ append-nil ns) ∙ m),
+        l,
+        sym (over-blanked r j q b)
+            ∙ ap (over r) n,
+      ))
       (λ l. let z : _≡_ {A = ℕ} 0 1 = cc (ap (Peg.after ns j) (ends-not (drop j r) l)) in absurd (omega arith))
   some-valued r ms k fails h = let z : _≡_ {A = ℕ} 0 1 = cc in absurd (omega arith)
 
@@ -211,9 +266,14 @@ module _ {sub₁ : Pattern.Inside} {sub₂ : Grammar.Inside} (patterns : Pattern
 
   variant-valued : (t : List ℕ) → Valued t (Reading.variant sub₁ t) ((VariantKey >> value) t)
   unfolding Reading.variant
-  variant-valued t = rw (reads-assoc (expectByte 91) getVariantKey reads-value t) (unfold Reader._>>_ _>>_ in (valued-next t reads-value value ((Reader._>>_ (expectByte 91) getVariantKey) t) (VariantKey t) (key-same .same t) value-valued))
+  variant-valued t =
+      rw (reads-assoc (expectByte 91) getVariantKey reads-value t)
+      (unfold Reader._>>_ _>>_ in
+      (valued-next t reads-value value ((Reader._>>_ (expectByte 91) getVariantKey) t) (VariantKey t)
+      (key-same .same t) value-valued))
 
-  -- Variants ------------------------------------------------------------------------------------------------------------------------------------
+  -- Variants
+  -- ------------------------------------------------------------------------------------------------------------------------------------
 
   abbrev body : Parser (Unit {0})
   body = VariantKey >> value
@@ -239,8 +299,10 @@ module _ {sub₁ : Pattern.Inside} {sub₂ : Grammar.Inside} (patterns : Pattern
   unfolding Peg.next
   listed-end h n s e = rw (turns-end n (Variant rust sub₂) s e) (after-none (ending h s))
 
-  listed-on : (h : Bool) (n : ℕ) (s : List ℕ) {u : Unit {0}} {ms : List Mark} {k : ℕ} → Variant rust sub₂ s ≡ fits u ms k → 0 < k → listed h (suc n) s ≡ Peg.after ms k (listed h n (drop k s))
-  listed-on h n s {u} {ms} {k} e z = ap (Peg.next s (λ _. ending h)) (turns-more n (Variant rust sub₂) s e z) ∙ go (Peg.after ms k (turns n (Variant rust sub₂) (drop k s)))
+  listed-on : (h : Bool) (n : ℕ) (s : List ℕ) {u : Unit {0}} {ms : List Mark} {k : ℕ}
+      → Variant rust sub₂ s ≡ fits u ms k → 0 < k → listed h (suc n) s ≡ Peg.after ms k (listed h n (drop k s))
+  listed-on h n s {u} {ms} {k} e z = ap (Peg.next s (λ _. ending h)) (turns-more n (Variant rust sub₂) s e z)
+      ∙ go (Peg.after ms k (turns n (Variant rust sub₂) (drop k s)))
       ∙ next-after s (λ _. ending h) ms k (turns n (Variant rust sub₂) (drop k s))
     where
       go : (a : Answer (List (Unit {0}))) → Peg.next s (λ _. ending h) (withFirst u a) ≡ Peg.next s (λ _. ending h) a
@@ -248,7 +310,8 @@ module _ {sub₁ : Pattern.Inside} {sub₂ : Grammar.Inside} (patterns : Pattern
       go fails = unfold withFirst Peg.next in refl
 
   -- a variant, from the line end before it
-  variant-fits : (s : List ℕ) {ms : List Mark} {j : ℕ} → lineEnds s ≡ true → body (behind s) ≡ fits tt ms j → Variant rust sub₂ s ≡ fits tt (node 15 (moveUp (blanks s) ms)) (blanks s + j)
+  variant-fits : (s : List ℕ) {ms : List Mark} {j : ℕ} → lineEnds s ≡ true → body (behind s) ≡ fits tt ms j
+      → Variant rust sub₂ s ≡ fits tt (node 15 (moveUp (blanks s) ms)) (blanks s + j)
   unfolding Variant Peg.after
   variant-fits s l e = node-fits 15 (line-end >> (blank? >> body)) s (line-start body s l ∙ ap (Peg.after [] (blanks s)) e)
 
@@ -256,14 +319,21 @@ module _ {sub₁ : Pattern.Inside} {sub₂ : Grammar.Inside} (patterns : Pattern
   unfolding Variant
   variant-fails s l e = node-fails 15 (line-end >> (blank? >> body)) s (line-start body s l ∙ after-fails [] (blanks s) e)
 
-  default-fits : (s : List ℕ) {ms : List Mark} {j : ℕ} → lineEnds s ≡ true → startsWith 42 (behind s) ≡ true → body (drop 1 (behind s)) ≡ fits tt ms j
+  default-fits : (s : List ℕ) {ms : List Mark} {j : ℕ} → lineEnds s ≡ true → startsWith 42 (behind s) ≡ true
+      → body (drop 1 (behind s)) ≡ fits tt ms j
       → DefaultVariant rust sub₂ s ≡ fits tt (node 16 (moveUp (blanks s) (moveUp 1 ms))) (blanks s + (1 + j))
   unfolding DefaultVariant Peg.after
-  default-fits s l t e = node-fits 16 (line-end >> (blank? >> (byte 42 >> body))) s (line-start (byte 42 >> body) s l ∙ ap (Peg.after [] (blanks s)) (then-fits (byte 42) body (behind s) (byte-fits 42 (behind s) t) ∙ ap (Peg.after [] 1) e))
+  default-fits s l t e =
+      node-fits 16 (line-end >> (blank? >> (byte 42 >> body))) s
+      (line-start (byte 42 >> body) s l
+      ∙ ap (Peg.after [] (blanks s))
+      (then-fits (byte 42) body (behind s) (byte-fits 42 (behind s) t) ∙ ap (Peg.after [] 1) e))
 
   default-fails : (s : List ℕ) → lineEnds s ≡ true → (byte 42 >> body) (behind s) ≡ fails → DefaultVariant rust sub₂ s ≡ fails
   unfolding DefaultVariant
-  default-fails s l e = node-fails 16 (line-end >> (blank? >> (byte 42 >> body))) s (line-start (byte 42 >> body) s l ∙ after-fails [] (blanks s) e)
+  default-fails s l e =
+      node-fails 16 (line-end >> (blank? >> (byte 42 >> body))) s
+      (line-start (byte 42 >> body) s l ∙ after-fails [] (blanks s) e)
 
   no-body : (s : List ℕ) → startsWith 91 s ≡ false → body s ≡ fails
   unfolding VariantKey
@@ -271,8 +341,12 @@ module _ {sub₁ : Pattern.Inside} {sub₂ : Grammar.Inside} (patterns : Pattern
 
   no-star : (s : List ℕ) → lineEnds s ≡ true → startsWith 42 (behind s) ≡ false → ending false s ≡ fails
   unfolding ending
-  no-star s l e = second default-on bare-star s (then-fails (DefaultVariant rust sub₂) _ s (default-fails s l (then-fails (byte 42) body (behind s) (byte-fails 42 (behind s) e))))
-      ∙ line-start (byte 42 >> ahead (blank-inline? >> byte 125)) s l ∙ after-fails [] (blanks s) (then-fails (byte 42) _ (behind s) (byte-fails 42 (behind s) e))
+  no-star s l e =
+      second default-on bare-star s
+      (then-fails (DefaultVariant rust sub₂) _ s
+      (default-fails s l (then-fails (byte 42) body (behind s) (byte-fails 42 (behind s) e))))
+      ∙ line-start (byte 42 >> ahead (blank-inline? >> byte 125)) s l
+      ∙ after-fails [] (blanks s) (then-fails (byte 42) _ (behind s) (byte-fails 42 (behind s) e))
 
   -- no line ends here
   listed-broken : (h : Bool) (n : ℕ) (s : List ℕ) → lineEnds s ≡ false → listed h n s ≡ fails
@@ -281,15 +355,21 @@ module _ {sub₁ : Pattern.Inside} {sub₂ : Grammar.Inside} (patterns : Pattern
     where
       go : (h : Bool) → ending h s ≡ fails
       go true = void-fails line-end s (no-line-end s e)
-      go false = second default-on bare-star s (then-fails (DefaultVariant rust sub₂) _ s (node-fails 16 _ s (no-line-start _ s e))) ∙ no-line-start _ s e
+      go false =
+          second default-on bare-star s
+          (then-fails (DefaultVariant rust sub₂) _ s (node-fails 16 _ s (no-line-start _ s e)))
+          ∙ no-line-start _ s e
 
   -- the reading of a variant, with the blanks behind it
-  with-read : (d h : Bool) (t : List ℕ) {u : Unit {0}} {ms : List Mark} {k : ℕ} → Reading.variant sub₁ t ≡ ok u ms k → variantWith sub₁ d h t ≡ ok (d || h) (node (variantKind d) ms) (over t k)
+  with-read : (d h : Bool) (t : List ℕ) {u : Unit {0}} {ms : List Mark} {k : ℕ} → Reading.variant sub₁ t ≡ ok u ms k
+      → variantWith sub₁ d h t ≡ ok (d || h) (node (variantKind d) ms) (over t k)
   unfolding variantWith inNode wrap over Reader.pure
   with-read d h t {u} {ms} {k} e =
       let v : inNode (variantKind d) (Reading.variant sub₁) t ≡ ok u (node (variantKind d) ms) k = rw e refl in
-      reads-then (inNode (variantKind d) (Reading.variant sub₁)) (Reader._>>_ skipBlank (Reader.pure (d || h))) t v ∙ ap (Reader.after (node (variantKind d) ms) k) (reader-skips (Reader.pure (d || h)) (drop k t))
-      ∙ reads-skip (node (variantKind d) ms) k (blanks (drop k t)) (ok (d || h) [] 0) ∙ ok-pure (d || h) (node (variantKind d) ms) (k + blanks (drop k t))
+      reads-then (inNode (variantKind d) (Reading.variant sub₁)) (Reader._>>_ skipBlank (Reader.pure (d || h))) t v
+      ∙ ap (Reader.after (node (variantKind d) ms) k) (reader-skips (Reader.pure (d || h)) (drop k t))
+      ∙ reads-skip (node (variantKind d) ms) k (blanks (drop k t)) (ok (d || h) [] 0)
+      ∙ ok-pure (d || h) (node (variantKind d) ms) (k + blanks (drop k t))
 
   uses-body : (t : List ℕ) → Uses (body t)
   unfolding VariantKey _>>_
@@ -303,9 +383,12 @@ module _ {sub₁ : Pattern.Inside} {sub₂ : Grammar.Inside} (patterns : Pattern
   turned m s t = elim t [ again st ms k ↦ Reader.after ms k (loop m (variantTurn sub₁) st (drop k s)) | done o ↦ o ]
 
   -- from a variant to the next
-  on-read : (m : ℕ) (h : Bool) (t : List ℕ) (N : List Mark) (j k : ℕ) → over t j ≡ over t k → Reader.after N (over t k) (loop m (variantTurn sub₁) h (drop (over t k) t)) ≡ Reader.after N j (reads h m (drop j t))
+  on-read : (m : ℕ) (h : Bool) (t : List ℕ) (N : List Mark) (j k : ℕ) → over t j ≡ over t k
+      → Reader.after N (over t k) (loop m (variantTurn sub₁) h (drop (over t k) t)) ≡ Reader.after N j
+      (reads h m (drop j t))
   unfolding over
-  on-read m h t N j k e = ap (λ p. Reader.after N p (loop m (variantTurn sub₁) h (drop p t))) (sym e) ∙ ap (λ r. Reader.after N (j + blanks (drop j t)) (loop m (variantTurn sub₁) h r)) (sym (drop-over t j))
+  on-read m h t N j k e = ap (λ p. Reader.after N p (loop m (variantTurn sub₁) h (drop p t))) (sym e)
+      ∙ ap (λ r. Reader.after N (j + blanks (drop j t)) (loop m (variantTurn sub₁) h r)) (sym (drop-over t j))
       ∙ sym (reads-skip N j (blanks (drop j t)) (loop m (variantTurn sub₁) h (behind (drop j t))))
 
   with-bad : (d h : Bool) (t : List ℕ) {f : ParserError} {k : ℕ} → Reading.variant sub₁ t ≡ bad f k → variantWith sub₁ d h t ≡ bad f k
@@ -320,33 +403,55 @@ module _ {sub₁ : Pattern.Inside} {sub₂ : Grammar.Inside} (patterns : Pattern
   failed s e = rw e tt
 
   -- a line that starts with neither a variant nor "}"
-  unended-end : (h : Bool) (s : List ℕ) (c : ℕ) → lineEnds s ≡ true → startsWith c (behind s) ≡ true → eqb c 125 ≡ false → (h ≡ false → startsWith 42 (behind s) ≡ false) → Unended s (ending h s)
+  unended-end : (h : Bool) (s : List ℕ) (c : ℕ) → lineEnds s ≡ true → startsWith c (behind s) ≡ true → eqb c 125 ≡ false
+      → (h ≡ false → startsWith 42 (behind s) ≡ false) → Unended s (ending h s)
   unfolding ending
   unended-end true s c l e z f = rw (last-line s l) (rw (over-eol s) (starts-other c 125 (behind s) e z))
   unended-end false s c l e z f = failed s (no-star s l (f refl))
 
-  variant-wrong : (n : ℕ) (h : Bool) (s : List ℕ) → lineEnds s ≡ true → startsWith 91 (behind s) ≡ true → (a : Answer (Unit {0})) → body (behind s) ≡ a → Broken (behind s) a → Unended s (listed h (suc n) s)
+  variant-wrong : (n : ℕ) (h : Bool) (s : List ℕ) → lineEnds s ≡ true → startsWith 91 (behind s) ≡ true
+      → (a : Answer (Unit {0})) → body (behind s) ≡ a → Broken (behind s) a → Unended s (listed h (suc n) s)
   variant-wrong n h s l b (fits y ms j) e f =
       let z : 0 < j = subst Uses e (uses-body (behind s)) in
-      failed s (listed-on h n s (variant-fits s l e) (omega arith) ∙ after-fails _ _ (listed-broken h n (drop (blanks s + j) s) (subst (λ r. lineEnds r ≡ false) (drop-drop j (blanks s) s) f)))
-  variant-wrong n h s l b fails e f = rw (listed-end h (suc n) s (variant-fails s l e)) (unended-end h s 91 l b refl (λ q. starts-other 91 42 (behind s) b refl))
+      failed s
+      (listed-on h n s (variant-fits s l e) (omega arith)
+      ∙ after-fails _ _
+      (listed-broken h n (drop (blanks s + j) s) (subst (λ r. lineEnds r ≡ false) (drop-drop j (blanks s) s) f)))
+  variant-wrong n h s l b fails e f =
+      rw (listed-end h (suc n) s (variant-fails s l e))
+      (unended-end h s 91 l b refl (λ q. starts-other 91 42 (behind s) b refl))
 
-  variant-step : (m n : ℕ) (h : Bool) (s : List ℕ) → More m → lineEnds s ≡ true → length s ≤ suc n → startsWith 91 (behind s) ≡ true → (o : Out (Unit {0})) → Reading.variant sub₁ (behind s) ≡ o
-      → Valued (behind s) o (body (behind s)) → Ended s (Reader.after [] (blanks s) (turned m (behind s) (turnOf (variantWith sub₁ false h (behind s))))) (listed h (suc n) s)
+  variant-step : (m n : ℕ) (h : Bool) (s : List ℕ) → More m → lineEnds s ≡ true → length s ≤ suc n
+      → startsWith 91 (behind s) ≡ true → (o : Out (Unit {0})) → Reading.variant sub₁ (behind s) ≡ o
+      → Valued (behind s) o (body (behind s))
+      → Ended s (Reader.after [] (blanks s) (turned m (behind s) (turnOf (variantWith sub₁ false h (behind s)))))
+      (listed h (suc n) s)
   unfolding turnOf variantKind
   variant-step m n h s ih l i b (ok u ms k) e (j, f, g, o) =
       let t = behind s in
       let z : 0 < j = subst Uses f (uses-body t) in
       let d : drop j t ≡ drop (blanks s + j) s = drop-drop j (blanks s) s in
       let q : length (drop j t) ≤ n = rw d (omega (arith, length-drop (blanks s + j) s)) in
-      rw (with-read false h t e, on-read m h t (node 15 ms) j k o, after-after [] (blanks s) (node 15 ms) j (reads h m (drop j t)), node-up (blanks s) 15 ms, listed-on h n s (variant-fits s l f) (omega arith), ← d)
-      (ended-after s (node 15 (moveUp (blanks s) ms)) (blanks s + j) (reads h m (drop j t)) (listed h n (drop j t)) (subst (λ r. Ended r (reads h m (drop j t)) (listed h n (drop j t))) d (ih n h (drop j t) g q)))
-  variant-step m n h s ih l i b (bad d k) e f = rw (with-bad false h (behind s) e) (unfold Reader.after in (variant-wrong n h s l b (body (behind s)) refl f))
+      rw (
+        with-read false h t e,
+        on-read m h t (node 15 ms) j k o,
+        after-after [] (blanks s) (node 15 ms) j (reads h m (drop j t)),
+        node-up (blanks s) 15 ms,
+        listed-on h n s (variant-fits s l f) (omega arith),
+        ← d,
+      )
+      (ended-after s (node 15 (moveUp (blanks s) ms)) (blanks s + j) (reads h m (drop j t)) (listed h n (drop j t))
+      (subst (λ r. Ended r (reads h m (drop j t)) (listed h n (drop j t))) d (ih n h (drop j t) g q)))
+  variant-step m n h s ih l i b (bad d k) e f =
+      rw (with-bad false h (behind s) e) (unfold Reader.after in (variant-wrong n h s l b (body (behind s)) refl f))
   variant-step m n h s ih l i b (deep k) e f = rw (with-deep false h (behind s) e) (unfold Reader.after in tt)
 
   -- "*" with what follows it
-  bare-is : (s : List ℕ) → lineEnds s ≡ true → startsWith 42 (behind s) ≡ true → bare-star s ≡ Peg.after [] (blanks s) (Peg.after [] 1 (ahead (blank-inline? >> byte 125) (drop 1 (behind s))))
-  bare-is s l b = line-start (byte 42 >> ahead (blank-inline? >> byte 125)) s l ∙ ap (Peg.after [] (blanks s)) (then-fits (byte 42) (ahead (blank-inline? >> byte 125)) (behind s) (byte-fits 42 (behind s) b))
+  bare-is : (s : List ℕ) → lineEnds s ≡ true → startsWith 42 (behind s) ≡ true
+      → bare-star s ≡ Peg.after [] (blanks s) (Peg.after [] 1 (ahead (blank-inline? >> byte 125) (drop 1 (behind s))))
+  bare-is s l b = line-start (byte 42 >> ahead (blank-inline? >> byte 125)) s l
+      ∙ ap (Peg.after [] (blanks s))
+      (then-fits (byte 42) (ahead (blank-inline? >> byte 125)) (behind s) (byte-fits 42 (behind s) b))
 
   bare-fails : (s : List ℕ) → lineEnds s ≡ true → startsWith 42 (behind s) ≡ true → closes (drop 1 (behind s)) ≡ false → bare-star s ≡ fails
   bare-fails s l b c =
@@ -359,8 +464,10 @@ module _ {sub₁ : Pattern.Inside} {sub₂ : Grammar.Inside} (patterns : Pattern
   bracket-opens [] e = refl
   bracket-opens (b ∷ bs) e = subst (λ x. closes (x ∷ bs) ≡ false) (sym (eqb-true b 91 e)) refl
 
-  default-is : (s : List ℕ) {ms : List Mark} {j : ℕ} → lineEnds s ≡ true → startsWith 42 (behind s) ≡ true → body (drop 1 (behind s)) ≡ fits tt ms j
-      → default-on s ≡ Peg.after (node 16 (moveUp (blanks s) (moveUp 1 ms))) (blanks s + (1 + j)) (listed true (length (drop (blanks s + (1 + j)) s)) (drop (blanks s + (1 + j)) s))
+  default-is : (s : List ℕ) {ms : List Mark} {j : ℕ} → lineEnds s ≡ true → startsWith 42 (behind s) ≡ true
+      → body (drop 1 (behind s)) ≡ fits tt ms j
+      → default-on s ≡ Peg.after (node 16 (moveUp (blanks s) (moveUp 1 ms))) (blanks s + (1 + j))
+      (listed true (length (drop (blanks s + (1 + j)) s)) (drop (blanks s + (1 + j)) s))
   unfolding ending many _>>_
   default-is s l t e = then-fits (DefaultVariant rust sub₂) (many (Variant rust sub₂) >> void line-end) s (default-fits s l t e)
 
@@ -370,62 +477,112 @@ module _ {sub₁ : Pattern.Inside} {sub₂ : Grammar.Inside} (patterns : Pattern
   listed-star n s l b = listed-end false n s (variant-fails s l (no-body (behind s) (starts-other 42 91 (behind s) b refl)))
 
   default-read : (m : ℕ) (s : List ℕ) (ms : List Mark) (j k : ℕ) → over (drop 1 (behind s)) j ≡ over (drop 1 (behind s)) k
-      → Reader.after [] (blanks s) (Reader.after (moveUp 1 (node 16 ms)) (1 + over (drop 1 (behind s)) k) (loop m (variantTurn sub₁) true (drop (1 + over (drop 1 (behind s)) k) (behind s))))
+      → Reader.after [] (blanks s)
+      (Reader.after (moveUp 1 (node 16 ms)) (1 + over (drop 1 (behind s)) k)
+      (loop m (variantTurn sub₁) true (drop (1 + over (drop 1 (behind s)) k) (behind s))))
       ≡ Reader.after (node 16 (moveUp (blanks s) (moveUp 1 ms))) (blanks s + (1 + j)) (reads true m (drop j (drop 1 (behind s))))
   default-read m s ms j k o =
       let t = behind s in
       let r = drop 1 t in
       let p = over r k in
-      ap (Reader.after [] (blanks s)) (ap (λ x. Reader.after (moveUp 1 (node 16 ms)) (1 + p) (loop m (variantTurn sub₁) true x)) (sym (drop-drop p 1 t))
-      ∙ sym (after-after [] 1 (node 16 ms) p (loop m (variantTurn sub₁) true (drop p r))) ∙ ap (Reader.after [] 1) (on-read m true r (node 16 ms) j k o) ∙ after-after [] 1 (node 16 ms) j (reads true m (drop j r)))
+      ap (Reader.after [] (blanks s))
+      (ap (λ x. Reader.after (moveUp 1 (node 16 ms)) (1 + p) (loop m (variantTurn sub₁) true x))
+      (sym (drop-drop p 1 t))
+      ∙ sym (after-after [] 1 (node 16 ms) p (loop m (variantTurn sub₁) true (drop p r)))
+      ∙ ap (Reader.after [] 1) (on-read m true r (node 16 ms) j k o)
+      ∙ after-after [] 1 (node 16 ms) j (reads true m (drop j r)))
       ∙ after-after [] (blanks s) (moveUp 1 (node 16 ms)) (1 + j) (reads true m (drop j r))
-      ∙ ap (λ ns. Reader.after ns (blanks s + (1 + j)) (reads true m (drop j r))) (ap (moveUp (blanks s)) (node-up 1 16 ms) ∙ node-up (blanks s) 16 (moveUp 1 ms))
+      ∙ ap (λ ns. Reader.after ns (blanks s + (1 + j)) (reads true m (drop j r)))
+      (ap (moveUp (blanks s)) (node-up 1 16 ms) ∙ node-up (blanks s) 16 (moveUp 1 ms))
 
-  default-wrong : (n : ℕ) (s : List ℕ) → lineEnds s ≡ true → startsWith 42 (behind s) ≡ true → startsWith 91 (drop 1 (behind s)) ≡ true → (a : Answer (Unit {0})) → body (drop 1 (behind s)) ≡ a → Broken (drop 1 (behind s)) a → listed false n s ≡ fails
-  default-wrong n s l b c (fits y ms j) e f = listed-star n s l b ∙ choice-first default-on bare-star s (bare-fails s l b (bracket-opens (drop 1 (behind s)) c)) ∙ default-is s l b e
-      ∙ after-fails _ _ (listed-broken true (length (drop (blanks s + (1 + j)) s)) (drop (blanks s + (1 + j)) s) (subst (λ r. lineEnds r ≡ false) (drop-drop j 1 (behind s) ∙ drop-drop (1 + j) (blanks s) s) f))
-  default-wrong n s l b c fails e f = listed-star n s l b ∙ choice-first default-on bare-star s (bare-fails s l b (bracket-opens (drop 1 (behind s)) c))
-      ∙ then-fails (DefaultVariant rust sub₂) _ s (default-fails s l (then-fits (byte 42) body (behind s) (byte-fits 42 (behind s) b) ∙ after-fails [] 1 e))
+  default-wrong : (n : ℕ) (s : List ℕ) → lineEnds s ≡ true → startsWith 42 (behind s) ≡ true
+      → startsWith 91 (drop 1 (behind s)) ≡ true → (a : Answer (Unit {0})) → body (drop 1 (behind s)) ≡ a
+      → Broken (drop 1 (behind s)) a → listed false n s ≡ fails
+  default-wrong n s l b c (fits y ms j) e f = listed-star n s l b
+      ∙ choice-first default-on bare-star s (bare-fails s l b (bracket-opens (drop 1 (behind s)) c))
+      ∙ default-is s l b e
+      ∙ after-fails _ _
+      (listed-broken true (length (drop (blanks s + (1 + j)) s)) (drop (blanks s + (1 + j)) s)
+      (subst (λ r. lineEnds r ≡ false) (drop-drop j 1 (behind s) ∙ drop-drop (1 + j) (blanks s) s) f))
+  default-wrong n s l b c fails e f = listed-star n s l b
+      ∙ choice-first default-on bare-star s (bare-fails s l b (bracket-opens (drop 1 (behind s)) c))
+      ∙ then-fails (DefaultVariant rust sub₂) _ s
+      (default-fails s l (then-fits (byte 42) body (behind s) (byte-fits 42 (behind s) b) ∙ after-fails [] 1 e))
 
-  default-step : (m n : ℕ) (s : List ℕ) → More m → lineEnds s ≡ true → startsWith 42 (behind s) ≡ true → startsWith 91 (drop 1 (behind s)) ≡ true → (o : Out (Unit {0})) → Reading.variant sub₁ (drop 1 (behind s)) ≡ o
-      → Valued (drop 1 (behind s)) o (body (drop 1 (behind s))) → Ended s (Reader.after [] (blanks s) (turned m (behind s) (turnAfter 1 (turnOf (variantWith sub₁ true false (drop 1 (behind s))))))) (listed false n s)
+  default-step : (m n : ℕ) (s : List ℕ) → More m → lineEnds s ≡ true → startsWith 42 (behind s) ≡ true
+      → startsWith 91 (drop 1 (behind s)) ≡ true → (o : Out (Unit {0})) → Reading.variant sub₁ (drop 1 (behind s)) ≡ o
+      → Valued (drop 1 (behind s)) o (body (drop 1 (behind s)))
+      → Ended s
+      (Reader.after [] (blanks s)
+      (turned m (behind s) (turnAfter 1 (turnOf (variantWith sub₁ true false (drop 1 (behind s)))))))
+      (listed false n s)
   unfolding turnOf turnAfter variantKind
   default-step m n s ih l b c (ok u ms k) e (j, f, g, o) =
       let r = drop 1 (behind s) in
       let p = blanks s + (1 + j) in
       let d : drop j r ≡ drop p s = drop-drop j 1 (behind s) ∙ drop-drop (1 + j) (blanks s) s in
-      rw (with-read true false r e, default-read m s ms j k o, listed-star n s l b ∙ choice-first default-on bare-star s (bare-fails s l b (bracket-opens r c)) ∙ default-is s l b f, d)
-      (ended-after s (node 16 (moveUp (blanks s) (moveUp 1 ms))) p (reads true m (drop p s)) (listed true (length (drop p s)) (drop p s)) (ih (length (drop p s)) true (drop p s) (subst (λ x. lineEnds x ≡ true) d g) (omega arith)))
-  default-step m n s ih l b c (bad d k) e f = rw (with-bad true false (drop 1 (behind s)) e) (unfold Reader.after in (failed s (default-wrong n s l b c (body (drop 1 (behind s))) refl f)))
+      rw (
+        with-read true false r e,
+        default-read m s ms j k o,
+        listed-star n s l b
+            ∙ choice-first default-on bare-star s (bare-fails s l b (bracket-opens r c)) ∙ default-is s l b f,
+        d,
+      )
+      (ended-after s (node 16 (moveUp (blanks s) (moveUp 1 ms))) p (reads true m (drop p s))
+      (listed true (length (drop p s)) (drop p s))
+      (ih (length (drop p s)) true (drop p s) (subst (λ x. lineEnds x ≡ true) d g) (omega arith)))
+  default-step m n s ih l b c (bad d k) e f =
+      rw (with-bad true false (drop 1 (behind s)) e)
+      (unfold Reader.after in (failed s (default-wrong n s l b c (body (drop 1 (behind s))) refl f)))
   default-step m n s ih l b c (deep k) e f = rw (with-deep true false (drop 1 (behind s)) e) (unfold Reader.after in tt)
 
   -- "*" before "}"
   closes-blanks : (r : List ℕ) → closes r ≡ true → blanks r ≡ spaces r
   closes-blanks r e = omega (arith, blanks-on (spaces r) r (spaces-blanks r), no-blank-at 125 (drop (spaces r) r) e refl refl refl)
 
-  bare-fits : (s : List ℕ) → lineEnds s ≡ true → startsWith 42 (behind s) ≡ true → closes (drop 1 (behind s)) ≡ true → bare-star s ≡ fits tt [] (blanks s + 1)
+  bare-fits : (s : List ℕ) → lineEnds s ≡ true → startsWith 42 (behind s) ≡ true → closes (drop 1 (behind s)) ≡ true
+      → bare-star s ≡ fits tt [] (blanks s + 1)
   unfolding Peg.after moveUp
   bare-fits s l b c =
       let r = drop 1 (behind s) in
       bare-is s l b ∙ ap (λ a. Peg.after [] (blanks s) (Peg.after [] 1 a))
-      (ahead-fits (blank-inline? >> byte 125) r (then-fits blank-inline? (byte 125) r (blank-inline?-is r) ∙ ap (Peg.after [] (spaces r)) (byte-fits 125 (drop (spaces r) r) c)))
+      (ahead-fits (blank-inline? >> byte 125) r
+      (then-fits blank-inline? (byte 125) r (blank-inline?-is r)
+      ∙ ap (Peg.after [] (spaces r)) (byte-fits 125 (drop (spaces r) r) c)))
 
-  bare-step : (n : ℕ) (s : List ℕ) → lineEnds s ≡ true → startsWith 42 (behind s) ≡ true → startsWith 91 (drop 1 (behind s)) ≡ false → Ended s (ok tt [] (blanks s + 1)) (listed false n s)
+  bare-step : (n : ℕ) (s : List ℕ) → lineEnds s ≡ true → startsWith 42 (behind s) ≡ true
+      → startsWith 91 (drop 1 (behind s)) ≡ false → Ended s (ok tt [] (blanks s + 1)) (listed false n s)
   unfolding over
   bare-step n s l b c =
       let r = drop 1 (behind s) in
       let d : r ≡ drop (blanks s + 1) s = drop-drop 1 (blanks s) s in
-      let e : listed false n s ≡ bare-star s = listed-star n s l b ∙ second default-on bare-star s (then-fails (DefaultVariant rust sub₂) _ s
+      let e : listed false n s ≡ bare-star s = listed-star n s l b
+      ∙ second default-on bare-star s (then-fails (DefaultVariant rust sub₂) _ s
       (default-fails s l (then-fits (byte 42) body (behind s) (byte-fits 42 (behind s) b) ∙ after-fails [] 1 (no-body r c)))) in
       byCase (closes r)
-      (λ q. inl (blanks s + 1, e ∙ bare-fits s l b q, ap (λ n. blanks s + 1 + n) (closes-blanks (drop (blanks s + 1) s) (subst (λ x. closes x ≡ true) d q))))
+      (λ q. inl (
+        blanks s + 1,
+        e
+            ∙ bare-fits s l b q,
+        ap (λ n. blanks s + 1 + n) (closes-blanks (drop (blanks s + 1) s) (subst (λ x. closes x ≡ true) d q)),
+      ))
       (λ q. inr (e ∙ bare-fails s l b q, subst (λ x. closes x ≡ false) d q))
 
   -- neither "*" nor a variant
-  end-step : (n : ℕ) (h : Bool) (s : List ℕ) → lineEnds s ≡ true → startsWith 42 (behind s) ≡ false → startsWith 91 (behind s) ≡ false → Ended s (Reader.after [] (blanks s) (endVariants h (behind s))) (listed h n s)
+  end-step : (n : ℕ) (h : Bool) (s : List ℕ) → lineEnds s ≡ true → startsWith 42 (behind s) ≡ false
+      → startsWith 91 (behind s) ≡ false
+      → Ended s (Reader.after [] (blanks s) (endVariants h (behind s))) (listed h n s)
   unfolding endVariants Reader.pure Reader.fail ending
-  end-step n true s l b c = rw (ok-pure (tt {0}) [] (blanks s)) (inl (eol s, listed-end true n s (variant-fails s l (no-body (behind s) c)) ∙ last-line s l, over-eol s ∙ omega (arith, spaces-blanks (behind s), no-blanks s)))
-  end-step n false s l b c = unfold Reader.after in (failed s (listed-end false n s (variant-fails s l (no-body (behind s) c)) ∙ no-star s l b))
+  end-step n true s l b c =
+      rw (ok-pure (tt {0}) [] (blanks s))
+      (inl (
+        eol s,
+        listed-end true n s (variant-fails s l (no-body (behind s) c)) ∙ last-line s l,
+        over-eol s
+            ∙ omega (arith, spaces-blanks (behind s), no-blanks s),
+      ))
+  end-step n false s l b c = unfold Reader.after in
+      (failed s (listed-end false n s (variant-fails s l (no-body (behind s) c)) ∙ no-star s l b))
 
   bracket-step : (m n : ℕ) (h : Bool) (s : List ℕ) → More m → lineEnds s ≡ true → length s ≤ n → startsWith 91 (behind s) ≡ true
       → Ended s (Reader.after [] (blanks s) (turned m (behind s) (turnOf (variantWith sub₁ false h (behind s))))) (listed h n s)
@@ -437,9 +594,13 @@ module _ {sub₁ : Pattern.Inside} {sub₂ : Grammar.Inside} (patterns : Pattern
   star-step : (m n : ℕ) (h : Bool) (s : List ℕ) → More m → lineEnds s ≡ true → startsWith 42 (behind s) ≡ true
       → Ended s (Reader.after [] (blanks s) (turned m (behind s) (turnAfter 1 (afterStar sub₁ true h (drop 1 (behind s)))))) (listed h n s)
   unfolding afterStar endVariants turnAfter Reader.pure Reader.fail
-  star-step m n true s ih l b = unfold Reader.after in (rw (listed-end true n s (variant-fails s l (no-body (behind s) (starts-other 42 91 (behind s) b refl)))) (unended-end true s 42 l b refl (λ q. clash refl q)))
+  star-step m n true s ih l b = unfold Reader.after in
+      (rw (listed-end true n s (variant-fails s l (no-body (behind s) (starts-other 42 91 (behind s) b refl))))
+      (unended-end true s 42 l b refl (λ q. clash refl q)))
   star-step m n false s ih l b = byCase (startsWith 91 (drop 1 (behind s)))
-      (λ c. rw (c, afterStar) (default-step m n s ih l b c (Reading.variant sub₁ (drop 1 (behind s))) refl (variant-valued (drop 1 (behind s)))))
+      (λ c. rw (c, afterStar)
+      (default-step m n s ih l b c (Reading.variant sub₁ (drop 1 (behind s))) refl
+      (variant-valued (drop 1 (behind s)))))
       (λ c. rw (c, afterStar) (rw (ok-pure (tt {0}) [] 1) (unfold Reader.after moveUp in (bare-step n s l b c))))
 
   variants-loop : (m : ℕ) → More m
@@ -477,8 +638,10 @@ module _ {sub₁ : Pattern.Inside} {sub₂ : Grammar.Inside} (patterns : Pattern
   lines-are s e =
       let r = drop (eol s) s in
       eol-read s e ∙ ap (Reader.after [] (eol s)) (reads-then (needsLineEnd true) (Reader._>>_ skipBlank (getVariants sub₁)) r refl)
-      ∙ reads-skip [] (eol s) 0 ((Reader._>>_ skipBlank (getVariants sub₁)) r) ∙ ap₂ (λ n o. Reader.after [] n o) (add-zero (eol s)) (reader-skips (getVariants sub₁) r)
-      ∙ reads-skip [] (eol s) (blanks r) (getVariants sub₁ (behind r)) ∙ ap (λ x. Reader.after [] (eol s + blanks r) (getVariants sub₁ x)) (drop-drop (blanks r) (eol s) s)
+      ∙ reads-skip [] (eol s) 0 ((Reader._>>_ skipBlank (getVariants sub₁)) r)
+      ∙ ap₂ (λ n o. Reader.after [] n o) (add-zero (eol s)) (reader-skips (getVariants sub₁) r)
+      ∙ reads-skip [] (eol s) (blanks r) (getVariants sub₁ (behind r))
+      ∙ ap (λ x. Reader.after [] (eol s + blanks r) (getVariants sub₁ x)) (drop-drop (blanks r) (eol s) s)
       ∙ ap (λ n. Reader.after [] n (getVariants sub₁ (drop n s))) (blanks-on (eol s) s (eol-blanks s))
 
   no-lines : (s : List ℕ) → ltb 0 (eol s) ≡ false → variant-list rust sub₂ s ≡ fails

@@ -13,7 +13,8 @@ use Rattle.syntax.specs.Bytes.{run, starts, startsWith}
 use Rattle.syntax.specs.Marks.{Mark, moveUp, node, textNode}
 use Rattle.laws.specs.Bytes.{byCase, clash}
 use Rattle.laws.specs.Moving.{marks-after, moveUp-twice, moveUp-zero}
-use Rattle.standard.specs.Peg.{Answer, fits, fails, Parser, many, some, turns, times, one, byte, withFirst, after, next, pure, _>>=_, _>>_, _/_, opt, void, in-node, as-text, only, never, ahead}
+use Rattle.standard.specs.Peg.{Answer, fits, fails, Parser, many, some, turns, times, one, byte, withFirst, after}
+use Rattle.standard.specs.Peg.{next, pure, _>>=_, _>>_, _/_, opt, void, in-node, as-text, only, never, ahead}
 
 -- no marks
 pub moveUp-none : (k : ℕ) → moveUp k [] ≡ []
@@ -22,7 +23,8 @@ moveUp-none k = refl
 
 module _ {A B : Type 0} where
   -- sequence
-  pub bind-fits : (p : Parser A) (q : A → Parser B) (s : List ℕ) {a : A} {ms : List Mark} {k : ℕ} → p s ≡ fits a ms k → (p >>= q) s ≡ after ms k (q a (drop k s))
+  pub bind-fits : (p : Parser A) (q : A → Parser B) (s : List ℕ) {a : A} {ms : List Mark} {k : ℕ} → p s ≡ fits a ms k
+      → (p >>= q) s ≡ after ms k (q a (drop k s))
   unfolding _>>=_ next
   bind-fits p q s e = rw (e, _>>=_) refl
 
@@ -30,7 +32,8 @@ module _ {A B : Type 0} where
   unfolding _>>=_ next
   bind-fails p q s e = rw (e, _>>=_) refl
 
-  pub then-fits : (p : Parser A) (q : Parser B) (s : List ℕ) {a : A} {ms : List Mark} {k : ℕ} → p s ≡ fits a ms k → (p >> q) s ≡ after ms k (q (drop k s))
+  pub then-fits : (p : Parser A) (q : Parser B) (s : List ℕ) {a : A} {ms : List Mark} {k : ℕ} → p s ≡ fits a ms k
+      → (p >> q) s ≡ after ms k (q (drop k s))
   unfolding _>>_ next
   then-fits p q s e = rw (e, _>>_) refl
 
@@ -80,11 +83,14 @@ module _ {A : Type 0} where
   opt-fails x p s e = second p (pure x) s e
 
   -- repetition
-  pub turns-more : (n : ℕ) (p : Parser A) (s : List ℕ) {a : A} {ms : List Mark} {k : ℕ} → p s ≡ fits a ms k → 0 < k → turns (suc n) p s ≡ withFirst a (after ms k (turns n p (drop k s)))
+  pub turns-more : (n : ℕ) (p : Parser A) (s : List ℕ) {a : A} {ms : List Mark} {k : ℕ} → p s ≡ fits a ms k → 0 < k
+      → turns (suc n) p s ≡ withFirst a (after ms k (turns n p (drop k s)))
   unfolding turns
   turns-more n p s {a} {ms} {k} e z = rw (e, turns) (rw (ne-eqb k 0 (λ y. omega arith)) refl)
 
-  pub turns-on : (n : ℕ) (p : Parser A) (s : List ℕ) {a : A} {ms : List Mark} {k : ℕ} {more : List A} {ns : List Mark} {j : ℕ} → p s ≡ fits a ms k → 0 < k
+  pub turns-on : (n : ℕ) (p : Parser A)
+      (s : List ℕ) {a : A} {ms : List Mark} {k : ℕ} {more : List A} {ns : List Mark} {j : ℕ}
+      → p s ≡ fits a ms k → 0 < k
       → turns n p (drop k s) ≡ fits more ns j → turns (suc n) p s ≡ fits (a ∷ more) (ms ++ moveUp k ns) (k + j)
   unfolding withFirst after
   turns-on n p s {a} {ms} {k} e z f = turns-more n p s e z ∙ ap (λ o. withFirst a (after ms k o)) f
@@ -106,7 +112,8 @@ module _ {A : Type 0} where
   pub some-fits : (p : Parser A) (s : List ℕ) {a : A} {ms : List Mark} {k : ℕ} {more : List A} {ns : List Mark} {j : ℕ} → p s ≡ fits a ms k
       → many p (drop k s) ≡ fits more ns j → some p s ≡ fits (a ∷ more) (ms ++ moveUp k ns) (k + j)
   unfolding some _>>=_ next after pure moveUp
-  some-fits p s {a} {ms} {k} {more} {ns} {j} e f = rw (e, some) (rw f (ap₂ (λ r n. fits (a ∷ more) (ms ++ moveUp k r) n) (append-nil ns) (omega arith)))
+  some-fits p s {a} {ms} {k} {more} {ns} {j} e f =
+      rw (e, some) (rw f (ap₂ (λ r n. fits (a ∷ more) (ms ++ moveUp k r) n) (append-nil ns) (omega arith)))
 
   pub void-fits : (p : Parser A) (s : List ℕ) {a : A} {ms : List Mark} {k : ℕ} → p s ≡ fits a ms k → void p s ≡ fits tt ms k
   unfolding void _>>_ next after pure moveUp
@@ -117,7 +124,8 @@ module _ {A : Type 0} where
   void-fails p s e = then-fails p (pure tt) s e
 
   -- marks in a node
-  pub node-fits : (kind : ℕ) (p : Parser A) (s : List ℕ) {a : A} {ms : List Mark} {k : ℕ} → p s ≡ fits a ms k → in-node kind p s ≡ fits a (node kind ms) k
+  pub node-fits : (kind : ℕ) (p : Parser A) (s : List ℕ) {a : A} {ms : List Mark} {k : ℕ} → p s ≡ fits a ms k
+      → in-node kind p s ≡ fits a (node kind ms) k
   unfolding in-node
   node-fits kind p s e = rw (e, in-node) refl
 
@@ -125,7 +133,8 @@ module _ {A : Type 0} where
   unfolding in-node
   node-fails kind p s e = rw (e, in-node) refl
 
-  pub text-fits : (kind : ℕ) (p : Parser A) (s : List ℕ) {a : A} {ms : List Mark} {k : ℕ} → p s ≡ fits a ms k → as-text kind p s ≡ fits (take k s) (textNode kind 0 k) k
+  pub text-fits : (kind : ℕ) (p : Parser A) (s : List ℕ) {a : A} {ms : List Mark} {k : ℕ} → p s ≡ fits a ms k
+      → as-text kind p s ≡ fits (take k s) (textNode kind 0 k) k
   unfolding as-text
   text-fits kind p s e = rw (e, as-text) refl
 
@@ -157,7 +166,8 @@ module _ {A : Type 0} where
   after-none (fits a ns i) = ap₂ (λ r n. fits a r n) (moveUp-zero ns) (zero-add i)
   after-none fails = refl
 
-  pub after-twice : (ms : List Mark) (k : ℕ) (ns : List Mark) (j : ℕ) (a : Answer A) → after ms k (after ns j a) ≡ after (ms ++ moveUp k ns) (k + j) a
+  pub after-twice : (ms : List Mark) (k : ℕ) (ns : List Mark) (j : ℕ) (a : Answer A)
+      → after ms k (after ns j a) ≡ after (ms ++ moveUp k ns) (k + j) a
   unfolding after
   after-twice ms k ns j (fits a os i) = ap₂ (fits a) (marks-after ms k ns j os) (sym (add-assoc k j i))
   after-twice ms k ns j fails = refl
@@ -178,13 +188,16 @@ module _ {A : Type 0} where
   only-fails false q s e = only-forbids false q s refl
 
 -- reading on after marks and bytes
-pub next-after : {A B : Type 0} (s : List ℕ) (q : A → Parser B) (ms : List Mark) (k : ℕ) (a : Answer A) → next s q (after ms k a) ≡ after ms k (next (drop k s) q a)
+pub next-after : {A B : Type 0} (s : List ℕ) (q : A → Parser B) (ms : List Mark) (k : ℕ) (a : Answer A)
+    → next s q (after ms k a) ≡ after ms k (next (drop k s) q a)
 unfolding next after
-next-after s q ms k (fits a ns j) = ap (λ r. after (ms ++ moveUp k ns) (k + j) (q a r)) (sym (drop-drop j k s)) ∙ sym (after-twice ms k ns j (q a (drop j (drop k s))))
+next-after s q ms k (fits a ns j) = ap (λ r. after (ms ++ moveUp k ns) (k + j) (q a r)) (sym (drop-drop j k s))
+    ∙ sym (after-twice ms k ns j (q a (drop j (drop k s))))
 next-after s q ms k fails = refl
 
 -- a choice between what follows one answer
-pub shared-first : {A B : Type 0} (a : Answer A) (p q : Parser B) (s : List ℕ) → (((λ _. a) >> p) / ((λ _. a) >> q)) s ≡ next s (λ _. p / q) a
+pub shared-first : {A B : Type 0} (a : Answer A) (p q : Parser B) (s : List ℕ)
+    → (((λ _. a) >> p) / ((λ _. a) >> q)) s ≡ next s (λ _. p / q) a
 unfolding _/_ _>>_ next
 shared-first {B = B} (fits x ms k) p q s = go (p (drop k s))
   where
@@ -264,7 +277,8 @@ unfolding startsWith
 starts-other b c [] e h = refl
 starts-other b c (x ∷ xs) e h = rw (eqb-true x b e) h
 
--- Answers that use a byte ---------------------------------------------------------------------------------------------------------------------
+-- Answers that use a byte
+-- ---------------------------------------------------------------------------------------------------------------------
 
 abbrev pub Uses : {A : Type 0} → Answer A → Type 0
 Uses (fits a ms k) = 0 < k

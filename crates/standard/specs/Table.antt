@@ -1,4 +1,5 @@
--- Worked rows of the standard, by computation: for each departure its smallest source, read with all departures and with all but that one; and rows of the
+-- Worked rows of the standard, by computation: for each departure its smallest source, read with all departures and
+-- with all but that one; and rows of the
 -- pure standard. A reading is a line of kind and place for each mark.
 use Prim.Native.Nat.{ℕ}
 use Prim.Native.String.{String}
@@ -54,17 +55,21 @@ pub data Departure : Type 0 where
 abbrev pub departures : List Departure
 departures =
     -- optional-commas
-    departs 0 "a={A(1a)}" "1 0\n9 0\n109 1\n11 0\n13 0\n22 0\n9 3\n109 4\n25 0\n20 5\n120 6\n23 0\n9 6\n109 7\n123 0\n125 0\n122 0\n113 0\n111 0\n101 0\n" "7 0\n107 9\n"
+    departs
+    0 "a={A(1a)}" "1 0\n9 0\n109 1\n11 0\n13 0\n22 0\n9 3\n109 4\n25 0\n20 5\n120 6\n23 0\n9 6\n109 7\n123 0\n125 0\n122 0\n113 0\n111 0\n101 0\n" "7 0\n107 9\n"
     -- named-reference
-    ∷ departs 1 "a={A(a:a)}" "1 0\n9 0\n109 1\n11 0\n13 0\n22 0\n9 3\n109 4\n25 0\n26 0\n9 5\n109 6\n23 0\n9 7\n109 8\n123 0\n126 0\n125 0\n122 0\n113 0\n111 0\n101 0\n" "7 0\n107 10\n"
+    ∷ departs
+    1 "a={A(a:a)}" "1 0\n9 0\n109 1\n11 0\n13 0\n22 0\n9 3\n109 4\n25 0\n26 0\n9 5\n109 6\n23 0\n9 7\n109 8\n123 0\n126 0\n125 0\n122 0\n113 0\n111 0\n101 0\n" "7 0\n107 10\n"
     -- named-no-minus
-    ∷ departs 2 "a={A(b:-1)}" "7 0\n107 11\n" "1 0\n9 0\n109 1\n11 0\n13 0\n22 0\n9 3\n109 4\n25 0\n26 0\n9 5\n109 6\n20 7\n120 9\n126 0\n125 0\n122 0\n113 0\n111 0\n101 0\n"
+    ∷ departs
+    2 "a={A(b:-1)}" "7 0\n107 11\n" "1 0\n9 0\n109 1\n11 0\n13 0\n22 0\n9 3\n109 4\n25 0\n26 0\n9 5\n109 6\n20 7\n120 9\n126 0\n125 0\n122 0\n113 0\n111 0\n101 0\n"
     -- blank-before-dot
     ∷ departs 3 "a={b .c}" "1 0\n9 0\n109 1\n11 0\n13 0\n23 0\n9 3\n109 4\n9 6\n109 7\n123 0\n113 0\n111 0\n101 0\n" "7 0\n107 8\n"
     -- bare-star
     ∷ departs 4 "a={1->\n*}" "1 0\n9 0\n109 1\n11 0\n13 0\n14 0\n20 3\n120 4\n114 0\n113 0\n111 0\n101 0\n" "7 0\n107 9\n"
     -- blank-line-spaces
-    ∷ departs 5 "a=b\n  \n c" "1 0\n9 0\n109 1\n11 0\n12 2\n112 4\n12 5\n112 7\n12 8\n112 9\n111 0\n101 0\n" "1 0\n9 0\n109 1\n11 0\n12 2\n112 4\n12 6\n112 7\n12 8\n112 9\n111 0\n101 0\n"
+    ∷ departs
+    5 "a=b\n  \n c" "1 0\n9 0\n109 1\n11 0\n12 2\n112 4\n12 5\n112 7\n12 8\n112 9\n111 0\n101 0\n" "1 0\n9 0\n109 1\n11 0\n12 2\n112 4\n12 6\n112 7\n12 8\n112 9\n111 0\n101 0\n"
     -- cr-continues
     ∷ departs 6 "a=\n\r" "1 0\n9 0\n109 1\n11 0\n12 3\n112 3\n111 0\n101 0\n" "7 0\n107 4\n"
     -- escape-brace
@@ -72,9 +77,11 @@ departures =
     -- junk-swallows
     ∷ departs 8 "a={\na" "7 0\n107 5\n" "7 0\n107 4\n7 4\n107 5\n"
     -- brace-indent
-    ∷ departs 9 "a=\n x\n  {1}" "1 0\n9 0\n109 1\n11 0\n12 4\n112 6\n13 0\n20 9\n120 10\n113 0\n111 0\n101 0\n" "1 0\n9 0\n109 1\n11 0\n12 4\n112 6\n12 7\n112 8\n13 0\n20 9\n120 10\n113 0\n111 0\n101 0\n"
+    ∷ departs
+    9 "a=\n x\n  {1}" "1 0\n9 0\n109 1\n11 0\n12 4\n112 6\n13 0\n20 9\n120 10\n113 0\n111 0\n101 0\n" "1 0\n9 0\n109 1\n11 0\n12 4\n112 6\n12 7\n112 8\n13 0\n20 9\n120 10\n113 0\n111 0\n101 0\n"
     -- texts-apart
-    ∷ departs 10 "a=b\n c" "1 0\n9 0\n109 1\n11 0\n12 2\n112 4\n12 5\n112 6\n111 0\n101 0\n" "1 0\n9 0\n109 1\n11 0\n12 2\n112 4\n27 5\n127 6\n111 0\n101 0\n"
+    ∷ departs
+    10 "a=b\n c" "1 0\n9 0\n109 1\n11 0\n12 2\n112 4\n12 5\n112 6\n111 0\n101 0\n" "1 0\n9 0\n109 1\n11 0\n12 2\n112 4\n27 5\n127 6\n111 0\n101 0\n"
     -- hash-at-end
     ∷ departs 11 "#" "3 0\n103 0\n" "3 0\n8 1\n108 1\n103 0\n"
     -- block-commits
@@ -143,9 +150,121 @@ unfoldable pub given : Row → List ℕ
 given (reads s ms) = ascii ms
 
 pub departures-hold : map both departures ≡ map expected departures
-unfolding but reading both expected ReadBytes.startsWith ReadBytes.starts ReadBytes.second ReadBytes.isUpper ReadBytes.isLetter ReadBytes.isDigit ReadBytes.isNamePart ReadBytes.isHex ReadBytes.isCalleePart ReadBytes.run ReadBytes.all ReadBytes.eol ReadBytes.spaces ReadBytes.firstWidth ReadBytes.lineRun ReadMarks.moveUp ReadMarks.node ReadMarks.textNode ReadReader.after ReadReader.next ReadReader._>>=_ ReadReader._>>_ ReadReader.pure ReadReader.fail ReadReader.wrap ReadReader.inNode ReadReader.turnOf ReadReader.loop ReadReader.repeat ReadHelper.skipBlankInline ReadHelper.skipEol ReadHelper.blankTurn ReadHelper.skipBlank ReadHelper.blockTurn ReadHelper.skipBlankBlock ReadHelper.takeByteIf ReadHelper.expectByte ReadHelper.skipDigits ReadHelper.fraction ReadHelper.number ReadHelper.asText ReadHelper.getNumberLiteral ReadHelper.getIdentifier ReadHelper.skipUnicodeEscapeSequence ReadComment.lineLength ReadComment.levelOf ReadComment.lineEndUsed ReadComment.lineRead ReadComment.lineTurn ReadComment.commentTurn ReadComment.getComment ReadPattern.isTextByte ReadPattern.isBlank ReadPattern.endsInCr ReadPattern.lineSlice ReadPattern.sliceBy ReadPattern.getTextSlice ReadPattern.isLineStart ReadPattern.roleAfter ReadPattern.isLineFeed ReadPattern.leastIndent ReadPattern.isContinuation ReadPattern.withPlaceable ReadPattern.commonAfter ReadPattern.isElement ReadPattern.withText ReadPattern.goesOn ReadPattern.lineTurn ReadPattern.textTurn ReadPattern.patternTurn ReadPattern.trimmed ReadPattern.dedented ReadPattern.textMarks ReadPattern.elementMarks ReadPattern.finish ReadPattern.stateAt ReadPattern.usedBy ReadPattern.firstState ReadPattern.getPattern ReadExpression.inlineKind ReadExpression.asInline ReadExpression.escapeTurn ReadExpression.stringTurn ReadExpression.stringLiteral ReadExpression.asString ReadExpression.numberLiteral ReadExpression.callArguments ReadExpression.getCallArguments ReadExpression.getAttributeAccessor ReadExpression.termReference ReadExpression.variableReference ReadExpression.messageReference ReadExpression.functionReference ReadExpression.referenceBy ReadExpression.reference ReadExpression.nestedPlaceable ReadExpression.noInline ReadExpression.nonLiteral ReadExpression.getInlineExpression ReadExpression.sameBytes ReadExpression.isAmong ReadExpression.isNone ReadExpression.separator ReadExpression.positional ReadExpression.namedValue ReadExpression.namedArgument ReadExpression.afterReference ReadExpression.pastBlank ReadExpression.argumentBy ReadExpression.argumentTurn ReadExpression.parenthesised ReadExpression.keyText ReadExpression.getVariantKey ReadExpression.needsValue ReadExpression.variant ReadExpression.variantKind ReadExpression.endVariants ReadExpression.variantWith ReadExpression.afterStar ReadExpression.turnAfter ReadExpression.variantTurn ReadExpression.getVariants ReadExpression.selector ReadExpression.alone ReadExpression.needsLineEnd ReadExpression.selectFrom ReadExpression.afterInline ReadExpression.inSelect ReadExpression.inlineOrSelect ReadExpression.getExpression ReadExpression.braced ReadExpression.tooDeep ReadExpression.level ReadCore.getAttribute ReadCore.attributeBy ReadCore.attributeTurn ReadCore.getAttributes ReadCore.fields ReadCore.termFields ReadCore.asMessage ReadCore.asTerm ReadCore.asComment ReadCore.getEntry ReadCore.toNextEntry ReadCore.lineStartsAt ReadCore.junkEnd ReadCore.upError ReadCore.following ReadCore.isNamed ReadCore.count ReadCore.kindOfEntry ReadCore.entries ReadCore.parse ReadDecimal.digits ReadDecimal.decimal ReadListing.line ReadListing.lines ReadListing.markLine Dialect.all Dialect.standard Dialect.rust Peg.pure Peg.never Peg.after Peg.next Peg._>>=_ Peg._>>_ Peg._/_ Peg.opt Peg.withFirst Peg.turns Peg.many Peg.some Peg.times Peg.listTurns Peg.list-of Peg.ahead Peg.bar Peg._but_ Peg.one Peg.byte Peg.eof Peg.void Peg.sized Peg.in-node Peg.as-text Peg.only Peg.given Peg.pick Peg.share Peg.shared Abstract.empty-line Abstract.A1 Abstract.levelOf Abstract.beside Abstract.A2 Abstract.isNamed Abstract.namedFirst Abstract.partMarks Abstract.A3 Abstract.least Abstract.common Abstract.cut Abstract.dedented Abstract.A5 Abstract.width Abstract.pieces Abstract.piecesFrom Abstract.allPieces Abstract.touches Abstract.onto Abstract.A6 Abstract.isSpace Abstract.isTrimmed Abstract.trimmed Abstract.bytesOf Abstract.trimSpan Abstract.trimSpans Abstract.onlySpaces Abstract.trimText Abstract.trimLast Abstract.A7 Abstract.furtherMarks Abstract.elementMarks Abstract.patternNode Abstract.A8 Abstract.same Abstract.freshIn Abstract.A9 Abstract.A10 Abstract.A11 Lexical.line-end Lexical.blank-inline Lexical.blank-line Lexical.blank-block Lexical.blank Lexical.blank-inline? Lexical.blank? Lexical.digits Lexical.any-char Lexical.special-quoted-char Lexical.unicode-escape Lexical.special-text-char Lexical.text-char Lexical.indented-char Lexical.comment-char Lexical.Identifier Lexical.unsigned Lexical.NumberLiteral Lexical.UnsignedLiteral Lexical.VariantKey Lexical.AttributeAccessor Lexical.VariableReference Lexical.inline-text Lexical.indented-text Lexical.cr-text Lexical.block-brace Lexical.sigil Lexical.junk-line Lexical.entry-start Lexical.junk-lines Grammar.rawPlaceable Grammar.flat Grammar.inPattern Grammar.asPart Grammar.part Grammar.treeOf Grammar.special-escape Grammar.quoted-char Grammar.StringLiteral Grammar.MessageReference Grammar.block-text Grammar.FunctionReference Grammar.TermReference Grammar.InlineExpression Grammar.literal Grammar.NamedArgument Grammar.Argument Grammar.separator Grammar.argument-list Grammar.CallArguments Grammar.raw-placeable Grammar.block-placeable Grammar.PatternElement Grammar.dedented-pattern Grammar.Pattern Grammar.Variant Grammar.DefaultVariant Grammar.variants Grammar.bare-variants Grammar.variant-list Grammar.SelectExpression Grammar.expression Grammar.inline-placeable Grammar.Attribute Grammar.Term Grammar.Message Grammar.nesting Grammar.CommentLine Grammar.swallowing-junk Grammar.Junk Grammar.entry-end Grammar.Entry Grammar.blank-lines Grammar.piece Grammar.ResourceWithin Grammar.Resource
+unfolding but reading both expected ReadBytes.startsWith ReadBytes.starts ReadBytes.second ReadBytes.isUpper
+    ReadBytes.isLetter ReadBytes.isDigit ReadBytes.isNamePart ReadBytes.isHex ReadBytes.isCalleePart ReadBytes.run
+    ReadBytes.all ReadBytes.eol ReadBytes.spaces ReadBytes.firstWidth ReadBytes.lineRun ReadMarks.moveUp ReadMarks.node
+    ReadMarks.textNode ReadReader.after ReadReader.next ReadReader._>>=_ ReadReader._>>_ ReadReader.pure ReadReader.fail
+    ReadReader.wrap ReadReader.inNode ReadReader.turnOf ReadReader.loop ReadReader.repeat ReadHelper.skipBlankInline
+    ReadHelper.skipEol ReadHelper.blankTurn ReadHelper.skipBlank ReadHelper.blockTurn ReadHelper.skipBlankBlock
+    ReadHelper.takeByteIf ReadHelper.expectByte ReadHelper.skipDigits ReadHelper.fraction ReadHelper.number
+    ReadHelper.asText ReadHelper.getNumberLiteral ReadHelper.getIdentifier ReadHelper.skipUnicodeEscapeSequence
+    ReadComment.lineLength ReadComment.levelOf ReadComment.lineEndUsed ReadComment.lineRead ReadComment.lineTurn
+    ReadComment.commentTurn ReadComment.getComment ReadPattern.isTextByte ReadPattern.isBlank ReadPattern.endsInCr
+    ReadPattern.lineSlice ReadPattern.sliceBy ReadPattern.getTextSlice ReadPattern.isLineStart ReadPattern.roleAfter
+    ReadPattern.isLineFeed ReadPattern.leastIndent ReadPattern.isContinuation ReadPattern.withPlaceable
+    ReadPattern.commonAfter ReadPattern.isElement ReadPattern.withText ReadPattern.goesOn ReadPattern.lineTurn
+    ReadPattern.textTurn ReadPattern.patternTurn ReadPattern.trimmed ReadPattern.dedented ReadPattern.textMarks
+    ReadPattern.elementMarks ReadPattern.finish ReadPattern.stateAt ReadPattern.usedBy ReadPattern.firstState
+    ReadPattern.getPattern ReadExpression.inlineKind ReadExpression.asInline ReadExpression.escapeTurn
+    ReadExpression.stringTurn ReadExpression.stringLiteral ReadExpression.asString ReadExpression.numberLiteral
+    ReadExpression.callArguments ReadExpression.getCallArguments ReadExpression.getAttributeAccessor
+    ReadExpression.termReference ReadExpression.variableReference ReadExpression.messageReference
+    ReadExpression.functionReference ReadExpression.referenceBy ReadExpression.reference ReadExpression.nestedPlaceable
+    ReadExpression.noInline ReadExpression.nonLiteral ReadExpression.getInlineExpression ReadExpression.sameBytes
+    ReadExpression.isAmong ReadExpression.isNone ReadExpression.separator ReadExpression.positional
+    ReadExpression.namedValue ReadExpression.namedArgument ReadExpression.afterReference ReadExpression.pastBlank
+    ReadExpression.argumentBy ReadExpression.argumentTurn ReadExpression.parenthesised ReadExpression.keyText
+    ReadExpression.getVariantKey ReadExpression.needsValue ReadExpression.variant ReadExpression.variantKind
+    ReadExpression.endVariants ReadExpression.variantWith ReadExpression.afterStar ReadExpression.turnAfter
+    ReadExpression.variantTurn ReadExpression.getVariants ReadExpression.selector ReadExpression.alone
+    ReadExpression.needsLineEnd ReadExpression.selectFrom ReadExpression.afterInline ReadExpression.inSelect
+    ReadExpression.inlineOrSelect ReadExpression.getExpression ReadExpression.braced ReadExpression.tooDeep
+    ReadExpression.level ReadCore.getAttribute ReadCore.attributeBy ReadCore.attributeTurn ReadCore.getAttributes
+    ReadCore.fields ReadCore.termFields ReadCore.asMessage ReadCore.asTerm ReadCore.asComment ReadCore.getEntry
+    ReadCore.toNextEntry ReadCore.lineStartsAt ReadCore.junkEnd ReadCore.upError ReadCore.following ReadCore.isNamed
+    ReadCore.count ReadCore.kindOfEntry ReadCore.entries ReadCore.parse ReadDecimal.digits ReadDecimal.decimal
+    ReadListing.line ReadListing.lines ReadListing.markLine Dialect.all Dialect.standard Dialect.rust Peg.pure Peg.never
+    Peg.after Peg.next Peg._>>=_ Peg._>>_ Peg._/_ Peg.opt Peg.withFirst Peg.turns Peg.many Peg.some Peg.times
+    Peg.listTurns Peg.list-of Peg.ahead Peg.bar Peg._but_ Peg.one Peg.byte Peg.eof Peg.void Peg.sized Peg.in-node
+    Peg.as-text Peg.only Peg.given Peg.pick Peg.share Peg.shared Abstract.empty-line Abstract.A1 Abstract.levelOf
+    Abstract.beside Abstract.A2 Abstract.isNamed Abstract.namedFirst Abstract.partMarks Abstract.A3 Abstract.least
+    Abstract.common Abstract.cut Abstract.dedented Abstract.A5 Abstract.width Abstract.pieces Abstract.piecesFrom
+    Abstract.allPieces Abstract.touches Abstract.onto Abstract.A6 Abstract.isSpace Abstract.isTrimmed Abstract.trimmed
+    Abstract.bytesOf Abstract.trimSpan Abstract.trimSpans Abstract.onlySpaces Abstract.trimText Abstract.trimLast
+    Abstract.A7 Abstract.furtherMarks Abstract.elementMarks Abstract.patternNode Abstract.A8 Abstract.same
+    Abstract.freshIn Abstract.A9 Abstract.A10 Abstract.A11 Lexical.line-end Lexical.blank-inline Lexical.blank-line
+    Lexical.blank-block Lexical.blank Lexical.blank-inline? Lexical.blank? Lexical.digits Lexical.any-char
+    Lexical.special-quoted-char Lexical.unicode-escape Lexical.special-text-char Lexical.text-char Lexical.indented-char
+    Lexical.comment-char Lexical.Identifier Lexical.unsigned Lexical.NumberLiteral Lexical.UnsignedLiteral
+    Lexical.VariantKey Lexical.AttributeAccessor Lexical.VariableReference Lexical.inline-text Lexical.indented-text
+    Lexical.cr-text Lexical.block-brace Lexical.sigil Lexical.junk-line Lexical.entry-start Lexical.junk-lines
+    Grammar.rawPlaceable Grammar.flat Grammar.inPattern Grammar.asPart Grammar.part Grammar.treeOf
+    Grammar.special-escape Grammar.quoted-char Grammar.StringLiteral Grammar.MessageReference Grammar.block-text
+    Grammar.FunctionReference Grammar.TermReference Grammar.InlineExpression Grammar.literal Grammar.NamedArgument
+    Grammar.Argument Grammar.separator Grammar.argument-list Grammar.CallArguments Grammar.raw-placeable
+    Grammar.block-placeable Grammar.PatternElement Grammar.dedented-pattern Grammar.Pattern Grammar.Variant
+    Grammar.DefaultVariant Grammar.variants Grammar.bare-variants Grammar.variant-list Grammar.SelectExpression
+    Grammar.expression Grammar.inline-placeable Grammar.Attribute Grammar.Term Grammar.Message Grammar.nesting
+    Grammar.CommentLine Grammar.swallowing-junk Grammar.Junk Grammar.entry-end Grammar.Entry Grammar.blank-lines
+    Grammar.piece Grammar.ResourceWithin Grammar.Resource
 departures-hold = refl
 
 pub rows-hold : map pure rows ≡ map given rows
-unfolding reading pure given ReadBytes.startsWith ReadBytes.starts ReadBytes.second ReadBytes.isUpper ReadBytes.isLetter ReadBytes.isDigit ReadBytes.isNamePart ReadBytes.isHex ReadBytes.isCalleePart ReadBytes.run ReadBytes.all ReadBytes.eol ReadBytes.spaces ReadBytes.firstWidth ReadBytes.lineRun ReadMarks.moveUp ReadMarks.node ReadMarks.textNode ReadReader.after ReadReader.next ReadReader._>>=_ ReadReader._>>_ ReadReader.pure ReadReader.fail ReadReader.wrap ReadReader.inNode ReadReader.turnOf ReadReader.loop ReadReader.repeat ReadHelper.skipBlankInline ReadHelper.skipEol ReadHelper.blankTurn ReadHelper.skipBlank ReadHelper.blockTurn ReadHelper.skipBlankBlock ReadHelper.takeByteIf ReadHelper.expectByte ReadHelper.skipDigits ReadHelper.fraction ReadHelper.number ReadHelper.asText ReadHelper.getNumberLiteral ReadHelper.getIdentifier ReadHelper.skipUnicodeEscapeSequence ReadComment.lineLength ReadComment.levelOf ReadComment.lineEndUsed ReadComment.lineRead ReadComment.lineTurn ReadComment.commentTurn ReadComment.getComment ReadPattern.isTextByte ReadPattern.isBlank ReadPattern.endsInCr ReadPattern.lineSlice ReadPattern.sliceBy ReadPattern.getTextSlice ReadPattern.isLineStart ReadPattern.roleAfter ReadPattern.isLineFeed ReadPattern.leastIndent ReadPattern.isContinuation ReadPattern.withPlaceable ReadPattern.commonAfter ReadPattern.isElement ReadPattern.withText ReadPattern.goesOn ReadPattern.lineTurn ReadPattern.textTurn ReadPattern.patternTurn ReadPattern.trimmed ReadPattern.dedented ReadPattern.textMarks ReadPattern.elementMarks ReadPattern.finish ReadPattern.stateAt ReadPattern.usedBy ReadPattern.firstState ReadPattern.getPattern ReadExpression.inlineKind ReadExpression.asInline ReadExpression.escapeTurn ReadExpression.stringTurn ReadExpression.stringLiteral ReadExpression.asString ReadExpression.numberLiteral ReadExpression.callArguments ReadExpression.getCallArguments ReadExpression.getAttributeAccessor ReadExpression.termReference ReadExpression.variableReference ReadExpression.messageReference ReadExpression.functionReference ReadExpression.referenceBy ReadExpression.reference ReadExpression.nestedPlaceable ReadExpression.noInline ReadExpression.nonLiteral ReadExpression.getInlineExpression ReadExpression.sameBytes ReadExpression.isAmong ReadExpression.isNone ReadExpression.separator ReadExpression.positional ReadExpression.namedValue ReadExpression.namedArgument ReadExpression.afterReference ReadExpression.pastBlank ReadExpression.argumentBy ReadExpression.argumentTurn ReadExpression.parenthesised ReadExpression.keyText ReadExpression.getVariantKey ReadExpression.needsValue ReadExpression.variant ReadExpression.variantKind ReadExpression.endVariants ReadExpression.variantWith ReadExpression.afterStar ReadExpression.turnAfter ReadExpression.variantTurn ReadExpression.getVariants ReadExpression.selector ReadExpression.alone ReadExpression.needsLineEnd ReadExpression.selectFrom ReadExpression.afterInline ReadExpression.inSelect ReadExpression.inlineOrSelect ReadExpression.getExpression ReadExpression.braced ReadExpression.tooDeep ReadExpression.level ReadCore.getAttribute ReadCore.attributeBy ReadCore.attributeTurn ReadCore.getAttributes ReadCore.fields ReadCore.termFields ReadCore.asMessage ReadCore.asTerm ReadCore.asComment ReadCore.getEntry ReadCore.toNextEntry ReadCore.lineStartsAt ReadCore.junkEnd ReadCore.upError ReadCore.following ReadCore.isNamed ReadCore.count ReadCore.kindOfEntry ReadCore.entries ReadCore.parse ReadDecimal.digits ReadDecimal.decimal ReadListing.line ReadListing.lines ReadListing.markLine Dialect.all Dialect.standard Dialect.rust Peg.pure Peg.never Peg.after Peg.next Peg._>>=_ Peg._>>_ Peg._/_ Peg.opt Peg.withFirst Peg.turns Peg.many Peg.some Peg.times Peg.listTurns Peg.list-of Peg.ahead Peg.bar Peg._but_ Peg.one Peg.byte Peg.eof Peg.void Peg.sized Peg.in-node Peg.as-text Peg.only Peg.given Peg.pick Peg.share Peg.shared Abstract.empty-line Abstract.A1 Abstract.levelOf Abstract.beside Abstract.A2 Abstract.isNamed Abstract.namedFirst Abstract.partMarks Abstract.A3 Abstract.least Abstract.common Abstract.cut Abstract.dedented Abstract.A5 Abstract.width Abstract.pieces Abstract.piecesFrom Abstract.allPieces Abstract.touches Abstract.onto Abstract.A6 Abstract.isSpace Abstract.isTrimmed Abstract.trimmed Abstract.bytesOf Abstract.trimSpan Abstract.trimSpans Abstract.onlySpaces Abstract.trimText Abstract.trimLast Abstract.A7 Abstract.furtherMarks Abstract.elementMarks Abstract.patternNode Abstract.A8 Abstract.same Abstract.freshIn Abstract.A9 Abstract.A10 Abstract.A11 Lexical.line-end Lexical.blank-inline Lexical.blank-line Lexical.blank-block Lexical.blank Lexical.blank-inline? Lexical.blank? Lexical.digits Lexical.any-char Lexical.special-quoted-char Lexical.unicode-escape Lexical.special-text-char Lexical.text-char Lexical.indented-char Lexical.comment-char Lexical.Identifier Lexical.unsigned Lexical.NumberLiteral Lexical.UnsignedLiteral Lexical.VariantKey Lexical.AttributeAccessor Lexical.VariableReference Lexical.inline-text Lexical.indented-text Lexical.cr-text Lexical.block-brace Lexical.sigil Lexical.junk-line Lexical.entry-start Lexical.junk-lines Grammar.rawPlaceable Grammar.flat Grammar.inPattern Grammar.asPart Grammar.part Grammar.treeOf Grammar.special-escape Grammar.quoted-char Grammar.StringLiteral Grammar.MessageReference Grammar.block-text Grammar.FunctionReference Grammar.TermReference Grammar.InlineExpression Grammar.literal Grammar.NamedArgument Grammar.Argument Grammar.separator Grammar.argument-list Grammar.CallArguments Grammar.raw-placeable Grammar.block-placeable Grammar.PatternElement Grammar.dedented-pattern Grammar.Pattern Grammar.Variant Grammar.DefaultVariant Grammar.variants Grammar.bare-variants Grammar.variant-list Grammar.SelectExpression Grammar.expression Grammar.inline-placeable Grammar.Attribute Grammar.Term Grammar.Message Grammar.nesting Grammar.CommentLine Grammar.swallowing-junk Grammar.Junk Grammar.entry-end Grammar.Entry Grammar.blank-lines Grammar.piece Grammar.ResourceWithin Grammar.Resource
+unfolding reading pure given ReadBytes.startsWith ReadBytes.starts ReadBytes.second ReadBytes.isUpper ReadBytes.isLetter
+    ReadBytes.isDigit ReadBytes.isNamePart ReadBytes.isHex ReadBytes.isCalleePart ReadBytes.run ReadBytes.all
+    ReadBytes.eol ReadBytes.spaces ReadBytes.firstWidth ReadBytes.lineRun ReadMarks.moveUp ReadMarks.node
+    ReadMarks.textNode ReadReader.after ReadReader.next ReadReader._>>=_ ReadReader._>>_ ReadReader.pure ReadReader.fail
+    ReadReader.wrap ReadReader.inNode ReadReader.turnOf ReadReader.loop ReadReader.repeat ReadHelper.skipBlankInline
+    ReadHelper.skipEol ReadHelper.blankTurn ReadHelper.skipBlank ReadHelper.blockTurn ReadHelper.skipBlankBlock
+    ReadHelper.takeByteIf ReadHelper.expectByte ReadHelper.skipDigits ReadHelper.fraction ReadHelper.number
+    ReadHelper.asText ReadHelper.getNumberLiteral ReadHelper.getIdentifier ReadHelper.skipUnicodeEscapeSequence
+    ReadComment.lineLength ReadComment.levelOf ReadComment.lineEndUsed ReadComment.lineRead ReadComment.lineTurn
+    ReadComment.commentTurn ReadComment.getComment ReadPattern.isTextByte ReadPattern.isBlank ReadPattern.endsInCr
+    ReadPattern.lineSlice ReadPattern.sliceBy ReadPattern.getTextSlice ReadPattern.isLineStart ReadPattern.roleAfter
+    ReadPattern.isLineFeed ReadPattern.leastIndent ReadPattern.isContinuation ReadPattern.withPlaceable
+    ReadPattern.commonAfter ReadPattern.isElement ReadPattern.withText ReadPattern.goesOn ReadPattern.lineTurn
+    ReadPattern.textTurn ReadPattern.patternTurn ReadPattern.trimmed ReadPattern.dedented ReadPattern.textMarks
+    ReadPattern.elementMarks ReadPattern.finish ReadPattern.stateAt ReadPattern.usedBy ReadPattern.firstState
+    ReadPattern.getPattern ReadExpression.inlineKind ReadExpression.asInline ReadExpression.escapeTurn
+    ReadExpression.stringTurn ReadExpression.stringLiteral ReadExpression.asString ReadExpression.numberLiteral
+    ReadExpression.callArguments ReadExpression.getCallArguments ReadExpression.getAttributeAccessor
+    ReadExpression.termReference ReadExpression.variableReference ReadExpression.messageReference
+    ReadExpression.functionReference ReadExpression.referenceBy ReadExpression.reference ReadExpression.nestedPlaceable
+    ReadExpression.noInline ReadExpression.nonLiteral ReadExpression.getInlineExpression ReadExpression.sameBytes
+    ReadExpression.isAmong ReadExpression.isNone ReadExpression.separator ReadExpression.positional
+    ReadExpression.namedValue ReadExpression.namedArgument ReadExpression.afterReference ReadExpression.pastBlank
+    ReadExpression.argumentBy ReadExpression.argumentTurn ReadExpression.parenthesised ReadExpression.keyText
+    ReadExpression.getVariantKey ReadExpression.needsValue ReadExpression.variant ReadExpression.variantKind
+    ReadExpression.endVariants ReadExpression.variantWith ReadExpression.afterStar ReadExpression.turnAfter
+    ReadExpression.variantTurn ReadExpression.getVariants ReadExpression.selector ReadExpression.alone
+    ReadExpression.needsLineEnd ReadExpression.selectFrom ReadExpression.afterInline ReadExpression.inSelect
+    ReadExpression.inlineOrSelect ReadExpression.getExpression ReadExpression.braced ReadExpression.tooDeep
+    ReadExpression.level ReadCore.getAttribute ReadCore.attributeBy ReadCore.attributeTurn ReadCore.getAttributes
+    ReadCore.fields ReadCore.termFields ReadCore.asMessage ReadCore.asTerm ReadCore.asComment ReadCore.getEntry
+    ReadCore.toNextEntry ReadCore.lineStartsAt ReadCore.junkEnd ReadCore.upError ReadCore.following ReadCore.isNamed
+    ReadCore.count ReadCore.kindOfEntry ReadCore.entries ReadCore.parse ReadDecimal.digits ReadDecimal.decimal
+    ReadListing.line ReadListing.lines ReadListing.markLine Dialect.all Dialect.standard Dialect.rust Peg.pure Peg.never
+    Peg.after Peg.next Peg._>>=_ Peg._>>_ Peg._/_ Peg.opt Peg.withFirst Peg.turns Peg.many Peg.some Peg.times
+    Peg.listTurns Peg.list-of Peg.ahead Peg.bar Peg._but_ Peg.one Peg.byte Peg.eof Peg.void Peg.sized Peg.in-node
+    Peg.as-text Peg.only Peg.given Peg.pick Peg.share Peg.shared Abstract.empty-line Abstract.A1 Abstract.levelOf
+    Abstract.beside Abstract.A2 Abstract.isNamed Abstract.namedFirst Abstract.partMarks Abstract.A3 Abstract.least
+    Abstract.common Abstract.cut Abstract.dedented Abstract.A5 Abstract.width Abstract.pieces Abstract.piecesFrom
+    Abstract.allPieces Abstract.touches Abstract.onto Abstract.A6 Abstract.isSpace Abstract.isTrimmed Abstract.trimmed
+    Abstract.bytesOf Abstract.trimSpan Abstract.trimSpans Abstract.onlySpaces Abstract.trimText Abstract.trimLast
+    Abstract.A7 Abstract.furtherMarks Abstract.elementMarks Abstract.patternNode Abstract.A8 Abstract.same
+    Abstract.freshIn Abstract.A9 Abstract.A10 Abstract.A11 Lexical.line-end Lexical.blank-inline Lexical.blank-line
+    Lexical.blank-block Lexical.blank Lexical.blank-inline? Lexical.blank? Lexical.digits Lexical.any-char
+    Lexical.special-quoted-char Lexical.unicode-escape Lexical.special-text-char Lexical.text-char Lexical.indented-char
+    Lexical.comment-char Lexical.Identifier Lexical.unsigned Lexical.NumberLiteral Lexical.UnsignedLiteral
+    Lexical.VariantKey Lexical.AttributeAccessor Lexical.VariableReference Lexical.inline-text Lexical.indented-text
+    Lexical.cr-text Lexical.block-brace Lexical.sigil Lexical.junk-line Lexical.entry-start Lexical.junk-lines
+    Grammar.rawPlaceable Grammar.flat Grammar.inPattern Grammar.asPart Grammar.part Grammar.treeOf
+    Grammar.special-escape Grammar.quoted-char Grammar.StringLiteral Grammar.MessageReference Grammar.block-text
+    Grammar.FunctionReference Grammar.TermReference Grammar.InlineExpression Grammar.literal Grammar.NamedArgument
+    Grammar.Argument Grammar.separator Grammar.argument-list Grammar.CallArguments Grammar.raw-placeable
+    Grammar.block-placeable Grammar.PatternElement Grammar.dedented-pattern Grammar.Pattern Grammar.Variant
+    Grammar.DefaultVariant Grammar.variants Grammar.bare-variants Grammar.variant-list Grammar.SelectExpression
+    Grammar.expression Grammar.inline-placeable Grammar.Attribute Grammar.Term Grammar.Message Grammar.nesting
+    Grammar.CommentLine Grammar.swallowing-junk Grammar.Junk Grammar.entry-end Grammar.Entry Grammar.blank-lines
+    Grammar.piece Grammar.ResourceWithin Grammar.Resource
 rows-hold = refl

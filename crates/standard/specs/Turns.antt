@@ -29,13 +29,18 @@ module _ {S A : Type 0} (t : S → List ℕ → Turn S A) (h : (st : S) (s : Lis
   loop-any (suc n) (suc m) st s l k = go (t st s) (h st s) (λ st′ r p q. loop-any n m st′ r p q)
     where
       go : (w : Turn S A) → Shrinks s w → ((st′ : S) (r : List ℕ) → length r < n → length r < m → loop n t st′ r ≡ loop m t st′ r)
-          → _≡_ {A = Out A} (elim w [ again st′ ms k ↦ Reader.after ms k (loop n t st′ (drop k s)) | done o ↦ o ]) (elim w [ again st′ ms k ↦ Reader.after ms k (loop m t st′ (drop k s)) | done o ↦ o ])
+          → _≡_ {A = Out A} (elim w [ again st′ ms k ↦ Reader.after ms k (loop n t st′ (drop k s)) | done o ↦ o ])
+          (elim w [ again st′ ms k ↦ Reader.after ms k (loop m t st′ (drop k s)) | done o ↦ o ])
       go (again st′ ms j) z f = ap (Reader.after ms j) (f st′ (drop j s) (omega arith) (omega arith))
       go (done o) z f = refl
 
-  pub repeat-again : (st : S) (s : List ℕ) (st′ : S) (ms : List Mark) (k : ℕ) → t st s ≡ again st′ ms k → repeat t st s ≡ Reader.after ms k (repeat t st′ (drop k s))
+  pub repeat-again : (st : S) (s : List ℕ) (st′ : S) (ms : List Mark) (k : ℕ) → t st s ≡ again st′ ms k
+      → repeat t st s ≡ Reader.after ms k (repeat t st′ (drop k s))
   unfolding repeat loop
-  repeat-again st s st′ ms k e = rw (e, loop) (ap (Reader.after ms k) (loop-any (length s) (suc (length (drop k s))) st′ (drop k s) (rw e at (h st s)) (omega arith)))
+  repeat-again st s st′ ms k e =
+      rw (e, loop)
+      (ap (Reader.after ms k)
+      (loop-any (length s) (suc (length (drop k s))) st′ (drop k s) (rw e at (h st s)) (omega arith)))
 
 pub repeat-done : {S A : Type 0} (t : S → List ℕ → Turn S A) (st : S) (s : List ℕ) (o : Out A) → t st s ≡ done o → repeat t st s ≡ o
 unfolding repeat loop
@@ -58,7 +63,13 @@ module _ {A : Type 0} (p : Parser A) (e : AtEnd (p [])) where
   turns-nil (suc n) = go (p []) e
     where
       go : (o : Answer A) → AtEnd o
-          → _≡_ {A = Answer (List A)} (elim o [ fits a ms k ↦ elim (eqb k 0) [ true ↦ fits [] [] 0 | false ↦ withFirst a (Peg.after ms k (turns n p (drop k []))) ] | fails ↦ fits [] [] 0 ]) (fits [] [] 0)
+          → _≡_ {A = Answer (List A)}
+          (elim o [
+            | fits a ms k ↦ elim
+                (eqb k 0) [ true ↦ fits [] [] 0 | false ↦ withFirst a (Peg.after ms k (turns n p (drop k []))) ]
+            | fails ↦ fits [] [] 0
+          ])
+          (fits [] [] 0)
       go (fits a ms k) q = rw q refl
       go fails q = refl
 
@@ -73,17 +84,33 @@ module _ {A : Type 0} (p : Parser A) (e : AtEnd (p [])) where
   turns-any (suc n) (suc m) s l k = go (p s) (λ r a c. turns-any n m r a c)
     where
       go : (o : Answer A) → ((r : List ℕ) → length r ≤ n → length r ≤ m → turns n p r ≡ turns m p r)
-          → _≡_ {A = Answer (List A)} (elim o [ fits a ms k ↦ elim (eqb k 0) [ true ↦ fits [] [] 0 | false ↦ withFirst a (Peg.after ms k (turns n p (drop k s))) ] | fails ↦ fits [] [] 0 ])
-          (elim o [ fits a ms k ↦ elim (eqb k 0) [ true ↦ fits [] [] 0 | false ↦ withFirst a (Peg.after ms k (turns m p (drop k s))) ] | fails ↦ fits [] [] 0 ])
-      go (fits a ms j) f = byCase (eqb j 0) (λ q. rw q refl) (λ q. rw q (ap (λ z. withFirst a (Peg.after ms j z)) (f (drop j s) (shorter j s n q l) (shorter j s m q k))))
+          → _≡_ {A = Answer (List A)}
+          (elim o [
+            | fits a ms k ↦ elim
+                (eqb k 0) [ true ↦ fits [] [] 0 | false ↦ withFirst a (Peg.after ms k (turns n p (drop k s))) ]
+            | fails ↦ fits [] [] 0
+          ])
+          (elim o [
+            | fits a ms k ↦ elim
+                (eqb k 0) [ true ↦ fits [] [] 0 | false ↦ withFirst a (Peg.after ms k (turns m p (drop k s))) ]
+            | fails ↦ fits [] [] 0
+          ])
+      go (fits a ms j) f =
+          byCase (eqb j 0) (λ q. rw q refl)
+          (λ q. rw q (ap (λ z. withFirst a (Peg.after ms j z)) (f (drop j s) (shorter j s n q l) (shorter j s m q k))))
       go fails f = refl
 
   -- one turn, and the others
-  pub many-again : (s : List ℕ) (a : A) (ms : List Mark) (k : ℕ) → p s ≡ fits a ms k → 0 < k → many p s ≡ withFirst a (Peg.after ms k (many p (drop k s)))
+  pub many-again : (s : List ℕ) (a : A) (ms : List Mark) (k : ℕ) → p s ≡ fits a ms k → 0 < k
+      → many p s ≡ withFirst a (Peg.after ms k (many p (drop k s)))
   unfolding many turns
   many-again s a ms zero q h = absurd (not-suc-le-zero h)
   many-again [] a ms (suc k) q h = let z : suc k ≡ 0 = rw q at e in absurd (omega arith)
-  many-again (b ∷ bs) a ms (suc k) q h = rw (q, turns) (rw eqb·suc-zero (ap (λ z. withFirst a (Peg.after ms (suc k) z)) (turns-any (length bs) (length (drop k bs)) (drop k bs) (omega (arith, length-drop k bs)) (omega arith))))
+  many-again (b ∷ bs) a ms (suc k) q h =
+      rw (q, turns)
+      (rw eqb·suc-zero
+      (ap (λ z. withFirst a (Peg.after ms (suc k) z))
+      (turns-any (length bs) (length (drop k bs)) (drop k bs) (omega (arith, length-drop k bs)) (omega arith))))
 
   -- no turn: none fits, or it uses nothing
   pub many-none : (s : List ℕ) → p s ≡ fails → many p s ≡ fits [] [] 0
@@ -96,15 +123,21 @@ module _ {A : Type 0} (p : Parser A) (e : AtEnd (p [])) where
   many-still [] a ms q = refl
   many-still (b ∷ bs) a ms q = rw (q, turns) refl
 
-  first-many : (a : A) (ms : List Mark) (k : ℕ) (r : List ℕ) (o : Answer (List A)) → many p r ≡ o → Peg.after ms k ((many p >>= λ more. pure (a ∷ more)) r) ≡ withFirst a (Peg.after ms k (many p r))
+  first-many : (a : A) (ms : List Mark) (k : ℕ) (r : List ℕ) (o : Answer (List A)) → many p r ≡ o
+      → Peg.after ms k ((many p >>= λ more. pure (a ∷ more)) r) ≡ withFirst a (Peg.after ms k (many p r))
   unfolding withFirst pure Peg.after moveUp
-  first-many a ms k r (fits more ns j) f = rw f (ap (Peg.after ms k) (bind-fits (many p) (λ more. pure (a ∷ more)) r f ∙ ap₂ (λ x n. fits (a ∷ more) x n) (append-nil ns) (add-zero j)))
+  first-many a ms k r (fits more ns j) f =
+      rw f
+      (ap (Peg.after ms k)
+      (bind-fits (many p) (λ more. pure (a ∷ more)) r f
+      ∙ ap₂ (λ x n. fits (a ∷ more) x n) (append-nil ns) (add-zero j)))
   first-many a ms k r fails f = rw f (ap (Peg.after ms k) (bind-fails (many p) (λ more. pure (a ∷ more)) r f))
 
   -- p+ is p* where a turn uses something
   pub some-many : (s : List ℕ) (a : A) (ms : List Mark) (k : ℕ) → p s ≡ fits a ms k → 0 < k → some p s ≡ many p s
   unfolding some
-  some-many s a ms k q h = bind-fits p (λ x. many p >>= λ more. pure (x ∷ more)) s q ∙ first-many a ms k (drop k s) (many p (drop k s)) refl ∙ sym (many-again s a ms k q h)
+  some-many s a ms k q h = bind-fits p (λ x. many p >>= λ more. pure (x ∷ more)) s q
+      ∙ first-many a ms k (drop k s) (many p (drop k s)) refl ∙ sym (many-again s a ms k q h)
 
 -- further steps
 module _ {A : Type 0} (p : Parser A) (s : List ℕ) where
@@ -146,8 +179,16 @@ module _ {A : Type 0} (p : Parser A) (h : (s : List ℕ) → Plain (p s)) where
   turns-plain (suc n) s = go (p s) (h s) (λ r. turns-plain n r)
     where
       go : (o : Answer A) → Plain o → ((r : List ℕ) → Plain (turns n p r))
-          → Plain {A = List A} (elim o [ fits a ms k ↦ elim (eqb k 0) [ true ↦ fits [] [] 0 | false ↦ withFirst a (Peg.after ms k (turns n p (drop k s))) ] | fails ↦ fits [] [] 0 ])
-      go (fits a ms k) q f = byCase (eqb k 0) (λ z. rw z refl) (λ z. rw (z, q) (plain-first a (Peg.after [] k (turns n p (drop k s))) (plain-after k (turns n p (drop k s)) (f (drop k s)))))
+          → Plain {A = List A}
+          (elim o [
+            | fits a ms k ↦ elim
+                (eqb k 0) [ true ↦ fits [] [] 0 | false ↦ withFirst a (Peg.after ms k (turns n p (drop k s))) ]
+            | fails ↦ fits [] [] 0
+          ])
+      go (fits a ms k) q f =
+          byCase (eqb k 0) (λ z. rw z refl)
+          (λ z. rw (z, q)
+          (plain-first a (Peg.after [] k (turns n p (drop k s))) (plain-after k (turns n p (drop k s)) (f (drop k s)))))
       go fails q f = refl
 
   pub many-plain : (s : List ℕ) → Plain (many p s)
@@ -163,7 +204,10 @@ module _ {A : Type 0} (p : Parser A) (h : (s : List ℕ) → Plain (p s)) where
       rest a r fails e q = rw (bind-fails (many p) (λ more. pure (a ∷ more)) r e) tt
 
       go : (o : Answer A) → p s ≡ o → Plain o → Plain (some p s)
-      go (fits a ms k) e q = rw (bind-fits p (λ x. many p >>= λ more. pure (x ∷ more)) s e, q) (plain-after k ((many p >>= λ more. pure (a ∷ more)) (drop k s)) (rest a (drop k s) (many p (drop k s)) refl (many-plain (drop k s))))
+      go (fits a ms k) e q =
+          rw (bind-fits p (λ x. many p >>= λ more. pure (x ∷ more)) s e, q)
+          (plain-after k ((many p >>= λ more. pure (a ∷ more)) (drop k s))
+          (rest a (drop k s) (many p (drop k s)) refl (many-plain (drop k s))))
       go fails e q = rw (bind-fails p (λ x. many p >>= λ more. pure (x ∷ more)) s e) tt
 
 -- a repetition always fits
@@ -181,7 +225,13 @@ unfolding turns
 turns-fit p zero s = tt
 turns-fit {A} p (suc n) s = go (p s) (λ r. turns-fit p n r)
   where
-    go : (o : Answer A) → ((r : List ℕ) → Fitting (turns n p r)) → Fitting {A = List A} (elim o [ fits a ms k ↦ elim (eqb k 0) [ true ↦ fits [] [] 0 | false ↦ withFirst a (Peg.after ms k (turns n p (drop k s))) ] | fails ↦ fits [] [] 0 ])
+    go : (o : Answer A) → ((r : List ℕ) → Fitting (turns n p r))
+        → Fitting {A = List A}
+        (elim o [
+          | fits a ms k ↦ elim
+              (eqb k 0) [ true ↦ fits [] [] 0 | false ↦ withFirst a (Peg.after ms k (turns n p (drop k s))) ]
+          | fails ↦ fits [] [] 0
+        ])
     go (fits a ms k) f = byCase (eqb k 0) (λ z. rw z tt) (λ z. rw z (fitting-first a ms k (turns n p (drop k s)) (f (drop k s))))
     go fails f = tt
 

@@ -6,7 +6,8 @@ use mathlib.Core.List.{List, _++_}
 use lib.ListN.{drop, replicate}
 use lib.Dec.{eqb}
 use Rattle.syntax.specs.declared.answer.Answer.{Answer}
-use Rattle.syntax.specs.declared.answer.Answer.the-variants.{Accepted, TooLong, NotUtf8, TreeTooShort, ErrorsTooShort, TooDeep, IllFormed, OutputTooShort}
+use Rattle.syntax.specs.declared.answer.Answer.the-variants.{Accepted, TooLong, NotUtf8, TreeTooShort}
+use Rattle.syntax.specs.declared.answer.Answer.the-variants.{ErrorsTooShort, TooDeep, IllFormed, OutputTooShort}
 
 abbrev pub numberOf : Answer → ℕ
 numberOf (Accepted v) = 0

@@ -59,7 +59,12 @@ all p (x ∷ xs) = p x && all p xs
 -- the width of the line end that the rest starts with, 0 where there is none
 unfoldable pub eol : List ℕ → ℕ
 eol [] = 0
-eol (x ∷ xs) = elim (eqb x Byte.lineFeed) [ true ↦ 1 | false ↦ elim (eqb x Byte.carriageReturn && startsWith Byte.lineFeed xs) [ true ↦ 2 | false ↦ 0 ] ]
+eol (x ∷ xs) =
+    elim
+    (eqb x Byte.lineFeed) [
+      | true ↦ 1
+      | false ↦ elim (eqb x Byte.carriageReturn && startsWith Byte.lineFeed xs) [ true ↦ 2 | false ↦ 0 ]
+    ]
 
 -- how many spaces the rest starts with
 unfoldable pub spaces : List ℕ → ℕ
@@ -68,7 +73,9 @@ spaces s = run (λ b. eqb b Byte.space) s
 -- how many bytes the first character takes, by its first byte; 0 at the end
 unfoldable pub firstWidth : List ℕ → ℕ
 firstWidth [] = 0
-firstWidth (b ∷ bs) = elim (leb b 127) [ true ↦ 1 | false ↦ elim (leb b 223) [ true ↦ 2 | false ↦ elim (leb b 239) [ true ↦ 3 | false ↦ 4 ] ] ]
+firstWidth (b ∷ bs) =
+    elim
+    (leb b 127) [ true ↦ 1 | false ↦ elim (leb b 223) [ true ↦ 2 | false ↦ elim (leb b 239) [ true ↦ 3 | false ↦ 4 ] ] ]
 
 -- the bytes before the first newline
 unfoldable pub lineRun : List ℕ → ℕ

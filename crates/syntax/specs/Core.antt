@@ -66,12 +66,22 @@ pub data Entry : Type 0 where
   message term : Entry
 
 unfoldable pub asMessage : Out Fields → Out Entry
-asMessage (ok f ms k) = elim (f .value || not (eqb (f .attributes) 0)) [ true ↦ ok message ms k | false ↦ bad (Errors.faultFromTo (Errors.ExpectedMessageField 0 (f .name)) 0 k) k ]
+asMessage (ok f ms k) =
+    elim
+    (f .value || not (eqb (f .attributes) 0)) [
+      | true ↦ ok message ms k
+      | false ↦ bad (Errors.faultFromTo (Errors.ExpectedMessageField 0 (f .name)) 0 k) k
+    ]
 asMessage (bad f k) = bad f k
 asMessage (deep k) = deep k
 
 unfoldable pub asTerm : Out Fields → Out Entry
-asTerm (ok f ms k) = elim (f .value) [ true ↦ ok term ms k | false ↦ bad (Errors.faultFromTo (Errors.ExpectedTermField 1 (1 + f .name)) 0 k) k ]
+asTerm (ok f ms k) =
+    elim
+    (f .value) [
+      | true ↦ ok term ms k
+      | false ↦ bad (Errors.faultFromTo (Errors.ExpectedTermField 1 (1 + f .name)) 0 k) k
+    ]
 asTerm (bad f k) = bad f k
 asTerm (deep k) = deep k
 
@@ -154,7 +164,8 @@ entries (suc n) sub (b ∷ bs) =
       | bad f k ↦
           let j = junkEnd k (b ∷ bs) in
           let gap = skipBlankBlock (drop j (b ∷ bs)) in
-          following (textNode Kind.junk 0 j) (record { fault = f; junkFrom = 0; junkTill = j } ∷ []) (j + usedBy gap) (entries n sub (drop (j + usedBy gap) (b ∷ bs)))
+          following (textNode Kind.junk 0 j) (record { fault = f; junkFrom = 0; junkTill = j } ∷ []) (j + usedBy gap)
+          (entries n sub (drop (j + usedBy gap) (b ∷ bs)))
       | deep k ↦ refused k
     ]
 

@@ -1,7 +1,29 @@
 -- errors.rs: document 01's number and arguments of each error, and moving errors up.
 use Prim.Native.Nat.{ℕ, _+_}
 pub use Rattle.syntax.specs.declared.errors.ErrorKind.{ErrorKind}
-pub use Rattle.syntax.specs.declared.errors.ErrorKind.the-variants.{ExpectedToken, ExpectedCharRange, ExpectedMessageField, ExpectedTermField, ForbiddenCallee, MissingDefaultVariant, MissingValue, MultipleDefaultVariants, MessageReferenceAsSelector, TermReferenceAsSelector, MessageAttributeAsSelector, TermAttributeAsPlaceable, UnterminatedStringLiteral, PositionalArgumentFollowsNamed, DuplicatedNamedArgument, UnknownEscapeSequence, InvalidUnicodeEscapeSequence, UnbalancedClosingBrace, ExpectedInlineExpression, ExpectedSimpleExpressionAsSelector, ExpectedLiteral}
+pub use Rattle.syntax.specs.declared.errors.ErrorKind.the-variants.{
+  ExpectedToken,
+  ExpectedCharRange,
+  ExpectedMessageField,
+  ExpectedTermField,
+  ForbiddenCallee,
+  MissingDefaultVariant,
+  MissingValue,
+  MultipleDefaultVariants,
+  MessageReferenceAsSelector,
+  TermReferenceAsSelector,
+  MessageAttributeAsSelector,
+  TermAttributeAsPlaceable,
+  UnterminatedStringLiteral,
+  PositionalArgumentFollowsNamed,
+  DuplicatedNamedArgument,
+  UnknownEscapeSequence,
+  InvalidUnicodeEscapeSequence,
+  UnbalancedClosingBrace,
+  ExpectedInlineExpression,
+  ExpectedSimpleExpressionAsSelector,
+  ExpectedLiteral,
+}
 pub use Rattle.syntax.specs.declared.errors.ParserError.{ParserError}
 use Rattle.syntax.specs.declared.errors.KindWords.{KindWords}
 

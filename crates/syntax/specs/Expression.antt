@@ -9,11 +9,14 @@ use Rattle.syntax.specs.Kind as Kind
 use Rattle.syntax.specs.Bytes.{startsWith, starts, second, all, isLetter, isDigit, isCalleePart}
 use Rattle.syntax.specs.Errors as Errors
 use Rattle.syntax.specs.Marks.{Mark, moveUp, textNode, node}
-use Rattle.syntax.specs.Reader.{Out, ok, bad, deep, Reader, _>>=_, _>>_, pure, fail, wrap, inNode, Turn, again, done, turnOf, repeat, after}
-use Rattle.syntax.specs.Helper.{skipBlank, skipBlankInline, skipEol, takeByteIf, expectByte, getIdentifier, getNumberLiteral, skipUnicodeEscapeSequence}
+use Rattle.syntax.specs.Reader.{Out, ok, bad, deep, Reader, _>>=_, _>>_, pure, fail, wrap, inNode, Turn, again}
+use Rattle.syntax.specs.Reader.{done, turnOf, repeat, after}
+use Rattle.syntax.specs.Helper.{skipBlank, skipBlankInline, skipEol, takeByteIf, expectByte, getIdentifier}
+use Rattle.syntax.specs.Helper.{getNumberLiteral, skipUnicodeEscapeSequence}
 use Rattle.syntax.specs.Pattern.{Inside, getPattern}
 
--- what an inline expression is: of a message reference the length of its identifier, and of a message or term reference whether it has an attribute
+-- what an inline expression is: of a message reference the length of its identifier, and of a message or term reference
+-- whether it has an attribute
 pub data Inline : Type 0 where
   string number variable function inner : Inline
   message : ℕ → Bool → Inline
@@ -85,7 +88,12 @@ getCallArguments sub = do
   callArguments sub
 
 unfoldable pub getAttributeAccessor : Reader Bool
-getAttributeAccessor s = elim (startsWith Byte.dot s) [ true ↦ (expectByte Byte.dot >> getIdentifier Kind.identifier >> pure true) s | false ↦ ok false [] 0 ]
+getAttributeAccessor s =
+    elim
+    (startsWith Byte.dot s) [
+      | true ↦ (expectByte Byte.dot >> getIdentifier Kind.identifier >> pure true) s
+      | false ↦ ok false [] 0
+    ]
 
 unfoldable pub termReference : Inside → Reader Inline
 termReference sub = do
@@ -180,7 +188,12 @@ separator names = do
 
 -- a positional argument after which k bytes are used; names are those of the named arguments before it
 unfoldable pub positional : List (List ℕ) → List Mark → ℕ → List ℕ → Out (List (List ℕ))
-positional names ms k s = elim (isNone names) [ true ↦ after ms k (separator names (drop k s)) | false ↦ after [] k (fail Errors.PositionalArgumentFollowsNamed (drop k s)) ]
+positional names ms k s =
+    elim
+    (isNone names) [
+      | true ↦ after ms k (separator names (drop k s))
+      | false ↦ after [] k (fail Errors.PositionalArgumentFollowsNamed (drop k s))
+    ]
 
 -- from the ':' of a named argument on
 unfoldable pub namedValue : Inside → Reader Inline
@@ -194,11 +207,13 @@ unfoldable pub namedArgument : Inside → List (List ℕ) → ℕ → ℕ → Li
 namedArgument sub names n k s =
     elim (isAmong (take n s) names) [
       | true ↦ bad (Errors.faultAt (Errors.DuplicatedNamedArgument 0 n) k) k
-      | false ↦ ((λ r. wrap Kind.namedArgument (after (textNode Kind.identifier 0 n) k (namedValue sub (drop k r)))) >> separator (take n s ∷ names)) s
+      | false ↦ ((λ r. wrap Kind.namedArgument (after (textNode Kind.identifier 0 n) k (namedValue sub (drop k r))))
+          >> separator (take n s ∷ names)) s
     ]
 
 unfoldable pub afterReference : Inside → List (List ℕ) → ℕ → List Mark → ℕ → List ℕ → Out (List (List ℕ))
-afterReference sub names n ms k s = elim (startsWith Byte.colon (drop k s)) [ true ↦ namedArgument sub names n k s | false ↦ positional names ms k s ]
+afterReference sub names n ms k s =
+    elim (startsWith Byte.colon (drop k s)) [ true ↦ namedArgument sub names n k s | false ↦ positional names ms k s ]
 
 -- bytes used, and blanks after them
 unfoldable pub pastBlank : ℕ → List ℕ → ℕ
@@ -219,7 +234,12 @@ argumentBy sub names s (deep k) = deep k
 
 unfoldable pub argumentTurn : Inside → List (List ℕ) → List ℕ → Turn (List (List ℕ)) (Unit {0})
 argumentTurn sub names [] = done (ok tt [] 0)
-argumentTurn sub names (b ∷ bs) = elim (eqb b Byte.closeParenthesis) [ true ↦ done (ok tt [] 0) | false ↦ turnOf (argumentBy sub names (b ∷ bs) (getInlineExpression sub false (b ∷ bs))) ]
+argumentTurn sub names (b ∷ bs) =
+    elim
+    (eqb b Byte.closeParenthesis) [
+      | true ↦ done (ok tt [] 0)
+      | false ↦ turnOf (argumentBy sub names (b ∷ bs) (getInlineExpression sub false (b ∷ bs)))
+    ]
 
 -- the arguments, from '(' through ')'
 unfoldable pub parenthesised : Inside → Reader (Unit {0})
@@ -231,7 +251,12 @@ parenthesised sub = inNode Kind.arguments do
 
 -- get_variant_key
 unfoldable pub keyText : Reader ℕ
-keyText s = elim (starts (λ b. isDigit b || eqb b Byte.minus) s) [ true ↦ getNumberLiteral Kind.numberKey s | false ↦ getIdentifier Kind.identifierKey s ]
+keyText s =
+    elim
+    (starts (λ b. isDigit b || eqb b Byte.minus) s) [
+      | true ↦ getNumberLiteral Kind.numberKey s
+      | false ↦ getIdentifier Kind.identifierKey s
+    ]
 
 unfoldable pub getVariantKey : Reader (Unit {0})
 getVariantKey = do
@@ -272,7 +297,11 @@ unfoldable pub afterStar : Inside → Bool → Bool → List ℕ → Turn Bool (
 afterStar sub default hasDefault s =
     elim (default && hasDefault) [
       | true ↦ done (fail Errors.MultipleDefaultVariants s)
-      | false ↦ elim (startsWith Byte.openBracket s) [ true ↦ turnOf (variantWith sub default hasDefault s) | false ↦ done (endVariants (default || hasDefault) s) ]
+      | false ↦ elim
+          (startsWith Byte.openBracket s) [
+            | true ↦ turnOf (variantWith sub default hasDefault s)
+            | false ↦ done (endVariants (default || hasDefault) s)
+          ]
     ]
 
 unfoldable pub turnAfter : {S A : Type 0} → ℕ → Turn S A → Turn S A
@@ -281,7 +310,12 @@ turnAfter k (done o) = done (after [] k o)
 
 -- the state is whether there was a default
 unfoldable pub variantTurn : Inside → Bool → List ℕ → Turn Bool (Unit {0})
-variantTurn sub hasDefault s = elim (startsWith Byte.star s) [ true ↦ turnAfter 1 (afterStar sub true hasDefault (drop 1 s)) | false ↦ afterStar sub false hasDefault s ]
+variantTurn sub hasDefault s =
+    elim
+    (startsWith Byte.star s) [
+      | true ↦ turnAfter 1 (afterStar sub true hasDefault (drop 1 s))
+      | false ↦ afterStar sub false hasDefault s
+    ]
 
 unfoldable pub getVariants : Inside → Reader (Unit {0})
 getVariants sub = repeat (variantTurn sub) false
@@ -327,7 +361,12 @@ selectFrom sub shape = do
   pure true
 
 unfoldable pub afterInline : Inside → Inline → Reader Bool
-afterInline sub shape s = elim (startsWith Byte.minus s && second (λ b. eqb b Byte.greater) s) [ true ↦ selectFrom sub shape s | false ↦ alone shape s ]
+afterInline sub shape s =
+    elim
+    (startsWith Byte.minus s && second (λ b. eqb b Byte.greater) s) [
+      | true ↦ selectFrom sub shape s
+      | false ↦ alone shape s
+    ]
 
 unfoldable pub inSelect : Out Bool → Out (Unit {0})
 inSelect (ok true ms k) = ok tt (node Kind.select ms) k

@@ -19,7 +19,12 @@ unfoldable pub skipEol : Reader Bool
 skipEol s = ok (ltb 0 (eol s)) [] (eol s)
 
 unfoldable pub blankTurn : Unit {0} → List ℕ → Turn (Unit {0}) (Unit {0})
-blankTurn u s = elim (startsWith Byte.space s) [ true ↦ again tt [] 1 | false ↦ elim (ltb 0 (eol s)) [ true ↦ again tt [] (eol s) | false ↦ done (ok tt [] 0) ] ]
+blankTurn u s =
+    elim
+    (startsWith Byte.space s) [
+      | true ↦ again tt [] 1
+      | false ↦ elim (ltb 0 (eol s)) [ true ↦ again tt [] (eol s) | false ↦ done (ok tt [] 0) ]
+    ]
 
 -- skip_blank
 unfoldable pub skipBlank : Reader (Unit {0})
@@ -41,7 +46,12 @@ unfoldable pub expectByte : ℕ → Reader (Unit {0})
 expectByte b s = elim (startsWith b s) [ true ↦ ok tt [] 1 | false ↦ fail (Errors.ExpectedToken b) s ]
 
 unfoldable pub skipDigits : Reader (Unit {0})
-skipDigits s = elim (eqb (run isDigit s) 0) [ true ↦ fail (Errors.ExpectedCharRange Errors.digitRange) s | false ↦ ok tt [] (run isDigit s) ]
+skipDigits s =
+    elim
+    (eqb (run isDigit s) 0) [
+      | true ↦ fail (Errors.ExpectedCharRange Errors.digitRange) s
+      | false ↦ ok tt [] (run isDigit s)
+    ]
 
 unfoldable pub fraction : Bool → Reader (Unit {0})
 fraction true = skipDigits
@@ -66,10 +76,19 @@ getNumberLiteral kind s = asText kind (number s)
 
 -- get_identifier: answers the identifier's length
 unfoldable pub getIdentifier : ℕ → Reader ℕ
-getIdentifier kind s = elim (starts isLetter s) [ true ↦ ok (run isNamePart s) (textNode kind 0 (run isNamePart s)) (run isNamePart s) | false ↦ fail (Errors.ExpectedCharRange Errors.letterRange) s ]
+getIdentifier kind s =
+    elim
+    (starts isLetter s) [
+      | true ↦ ok (run isNamePart s) (textNode kind 0 (run isNamePart s)) (run isNamePart s)
+      | false ↦ fail (Errors.ExpectedCharRange Errors.letterRange) s
+    ]
 
 -- skip_unicode_escape_sequence. The argument of its error ends after the first wrong character, of which the Rust takes a byte
 unfoldable pub skipUnicodeEscapeSequence : ℕ → Reader (Unit {0})
 skipUnicodeEscapeSequence len s =
     let n = min len (run isHex s) in
-    elim (eqb n len) [ true ↦ ok tt [] n | false ↦ bad (Errors.faultAt (Errors.InvalidUnicodeEscapeSequence 0 (n + firstWidth (drop n s))) n) n ]
+    elim
+    (eqb n len) [
+      | true ↦ ok tt [] n
+      | false ↦ bad (Errors.faultAt (Errors.InvalidUnicodeEscapeSequence 0 (n + firstWidth (drop n s))) n) n
+    ]

@@ -98,4 +98,7 @@ closing k = 100 + k
 -- whether a kind is a T kind
 unfoldable pub isText : ℕ → Bool
 isText k =
-    eqb k junk || (eqb k commentLine || (eqb k identifier || (eqb k text || (eqb k numberKey || (eqb k identifierKey || (eqb k string || eqb k number))))))
+    eqb k junk
+    || (eqb k commentLine
+    || (eqb k identifier
+    || (eqb k text || (eqb k numberKey || (eqb k identifierKey || (eqb k string || eqb k number))))))

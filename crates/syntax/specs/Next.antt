@@ -53,7 +53,12 @@ parseExtents n s = let k = usedBy (skipBlankBlock s) in map (upExtent k) (extent
 
 -- the entries of a source: none where refusal 1 or 2 holds
 unfoldable pub entriesOf : List ℕ → List Extent
-entriesOf s = elim (ltb maxLength (length s)) [ true ↦ [] | false ↦ elim (firstIllFormed s) [ some k ↦ [] | none ↦ parseExtents maxOpen s ] ]
+entriesOf s =
+    elim
+    (ltb maxLength (length s)) [
+      | true ↦ []
+      | false ↦ elim (firstIllFormed s) [ some k ↦ [] | none ↦ parseExtents maxOpen s ]
+    ]
 
 -- the place from which a new reader goes on: the end where refusal 1 or 2 holds, so that none is left, else the start
 unfoldable pub firstPlace : List ℕ → ℕ
@@ -61,13 +66,19 @@ firstPlace s = elim (ltb maxLength (length s)) [ true ↦ length s | false ↦ e
 
 -- ---- a call
 
--- what a call from a place finds with a tree of m words: the start of an entry, that there is none, or that the tree is too short to read it
+-- what a call from a place finds with a tree of m words: the start of an entry, that there is none, or that the tree is
+-- too short to read it
 pub data Ahead : Type 0 where
   entryAt : ℕ → Ahead
   nothing short : Ahead
 
 unfoldable pub aheadFrom : List ℕ → (start m : ℕ) → Ahead
-aheadFrom s start m = elim (ltb start (length s)) [ true ↦ elim (ltb m (treeLayout (length s))) [ true ↦ short | false ↦ entryAt start ] | false ↦ nothing ]
+aheadFrom s start m =
+    elim
+    (ltb start (length s)) [
+      | true ↦ elim (ltb m (treeLayout (length s))) [ true ↦ short | false ↦ entryAt start ]
+      | false ↦ nothing
+    ]
 
 -- past the blank lines; nothing where refusal 1 holds. Refusal 2 is tested once, by `firstPlace`
 unfoldable pub ahead : List ℕ → (at m : ℕ) → Ahead

@@ -65,7 +65,8 @@ sliceBy t (b ∷ bs) =
 unfoldable pub getTextSlice : Reader Slice
 getTextSlice s = sliceBy (take (run isTextByte s) s) (drop (run isTextByte s) s)
 
--- PatternElementPlaceholders. Places count from the pattern's start. Of a text: its start, its end, its indent, and whether it starts a line
+-- PatternElementPlaceholders. Places count from the pattern's start. Of a text: its start, its end, its indent, and
+-- whether it starts a line
 pub data Element : Type 0 where
   placeable : List Mark → Element
   text : ℕ → ℕ → ℕ → Bool → Element
@@ -105,13 +106,26 @@ unfoldable pub isContinuation : ℕ → Bool
 isContinuation b = not (eqb b Byte.dot || (eqb b Byte.closeBrace || (eqb b Byte.openBracket || eqb b Byte.star)))
 
 unfoldable pub withPlaceable : State → Out (Unit {0}) → Turn State State
-withPlaceable st (ok u ms k) = again (record { role = continuation; elements = st .elements ++ (placeable (moveUp (st .used) ms) ∷ []); kept = suc (length (st .elements)); common = elim (isLineStart (st .role)) [ true ↦ some 0 | false ↦ st .common ]; used = st .used + k }) [] k
+withPlaceable st (ok u ms k) =
+    again
+    (record {
+      role = continuation;
+      elements = st .elements ++ (placeable (moveUp (st .used) ms) ∷ []);
+      kept = suc (length (st .elements));
+      common = elim (isLineStart (st .role)) [ true ↦ some 0 | false ↦ st .common ];
+      used = st .used + k;
+    }) [] k
 withPlaceable st (bad f k) = done (bad f k)
 withPlaceable st (deep k) = done (deep k)
 
 -- a text that is not empty at the start of a line counts for the common indent if it is not blank
 unfoldable pub commonAfter : State → ℕ → Slice → Option ℕ
-commonAfter st indent t = elim (ltb 0 (t .size) && (isLineStart (st .role) && not (t .blank))) [ true ↦ leastIndent (st .common) indent | false ↦ st .common ]
+commonAfter st indent t =
+    elim
+    (ltb 0 (t .size) && (isLineStart (st .role) && not (t .blank))) [
+      | true ↦ leastIndent (st .common) indent
+      | false ↦ st .common
+    ]
 
 unfoldable pub isElement : State → Slice → Bool
 isElement st t = ltb 0 (t .size) && (not (isLineStart (st .role)) || (not (t .blank) || isLineFeed (t .ending)))
@@ -121,7 +135,13 @@ withText st indent (ok t ms k) =
     again
     (record {
       role = roleAfter (t .ending);
-      elements = elim (isElement st t) [ true ↦ st .elements ++ (text (st .used) (st .used + indent + t .size) indent (isLineStart (st .role)) ∷ []) | false ↦ st .elements ];
+      elements =
+          elim
+          (isElement st t) [
+            | true ↦ st .elements
+                ++ (text (st .used) (st .used + indent + t .size) indent (isLineStart (st .role)) ∷ [])
+            | false ↦ st .elements
+          ];
       kept = elim (isElement st t && not (t .blank)) [ true ↦ suc (length (st .elements)) | false ↦ st .kept ];
       common = commonAfter st indent t;
       used = st .used + (indent + k);
@@ -149,7 +169,12 @@ patternTurn sub st (b ∷ bs) = elim (eqb b Byte.openBrace) [ true ↦ withPlace
 -- the length without what is trimmed at the end
 unfoldable pub trimmed : List ℕ → ℕ
 trimmed [] = 0
-trimmed (x ∷ xs) = elim ((eqb x Byte.space || (eqb x Byte.carriageReturn || eqb x Byte.lineFeed)) && eqb (trimmed xs) 0) [ true ↦ 0 | false ↦ suc (trimmed xs) ]
+trimmed (x ∷ xs) =
+    elim
+    ((eqb x Byte.space || (eqb x Byte.carriageReturn || eqb x Byte.lineFeed)) && eqb (trimmed xs) 0) [
+      | true ↦ 0
+      | false ↦ suc (trimmed xs)
+    ]
 
 unfoldable pub dedented : Option ℕ → ℕ → ℕ → Bool → ℕ
 dedented c a indent false = a
@@ -168,7 +193,12 @@ elementMarks s c (suc n) (placeable ms ∷ es) = node Kind.placeable ms ++ eleme
 elementMarks s c (suc n) (text a e i l ∷ es) = textMarks s (eqb n 0) (dedented c a i l) e ++ elementMarks s c n es
 
 unfoldable pub finish : List ℕ → Out State → Out Bool
-finish s (ok st ms k) = elim (eqb (st .kept) 0) [ true ↦ ok false [] k | false ↦ ok true (node Kind.pattern (elementMarks s (st .common) (st .kept) (st .elements))) k ]
+finish s (ok st ms k) =
+    elim
+    (eqb (st .kept) 0) [
+      | true ↦ ok false [] k
+      | false ↦ ok true (node Kind.pattern (elementMarks s (st .common) (st .kept) (st .elements))) k
+    ]
 finish s (bad f k) = bad f k
 finish s (deep k) = deep k
 

@@ -44,7 +44,8 @@ errorsOf (refused k) = []
 -- every word of the tree and of the errors at the end
 unfoldable pub treeAfter : (source tree errors : List ℕ) → List ℕ
 treeAfter s t e =
-    sliceAfter (readAnswer s (length t) (length e)) (treeLayout (length s)) (treeWords (treeCapacity (length s)) (marksOf (parse maxOpen s))) t
+    sliceAfter (readAnswer s (length t) (length e)) (treeLayout (length s))
+    (treeWords (treeCapacity (length s)) (marksOf (parse maxOpen s))) t
 
 unfoldable pub errorsAfter : (source tree errors : List ℕ) → List ℕ
 errorsAfter s t e =

@@ -135,7 +135,16 @@ module _ (source : List ℕ) where
   -- is_select_expr, of the one node inside a placeable
   unfoldable pub isSelect : ℕ → List Node → Bool
   isSelect zero es = false
-  isSelect (suc n) es = elim es [ [] ↦ false | e ∷ more ↦ elim (eqb (e .kind) Kind.select) [ true ↦ true | false ↦ elim (eqb (e .kind) Kind.placeable) [ true ↦ isSelect n (nodes (e .inner)) | false ↦ false ] ] ]
+  isSelect (suc n) es =
+      elim es [
+        | [] ↦ false
+        | e
+            ∷ more ↦ elim
+            (eqb (e .kind) Kind.select) [
+              | true ↦ true
+              | false ↦ elim (eqb (e .kind) Kind.placeable) [ true ↦ isSelect n (nodes (e .inner)) | false ↦ false ]
+            ]
+      ]
 
   unfoldable pub hasNewline : List ℕ → Bool
   hasNewline [] = false
@@ -143,7 +152,12 @@ module _ (source : List ℕ) where
 
   unfoldable pub multilineElement : Node → Bool
   unfolding hasNewline textOf isSelect
-  multilineElement e = elim (eqb (e .kind) Kind.text) [ true ↦ hasNewline (textOf e) | false ↦ isSelect (suc (length (e .inner))) (nodes (e .inner)) ]
+  multilineElement e =
+      elim
+      (eqb (e .kind) Kind.text) [
+        | true ↦ hasNewline (textOf e)
+        | false ↦ isSelect (suc (length (e .inner))) (nodes (e .inner))
+      ]
 
   -- Pattern::is_multiline
   unfoldable pub isMultiline : List Node → Bool
@@ -198,7 +212,11 @@ module _ (source : List ℕ) where
     -- serialize_select_expression
     pub select : ℕ → List Node → Piece
     select zero xs = empty
-    select (suc n) xs = elim xs [ [] ↦ empty | x ∷ vs ↦ inline n x ⊕ literal (ascii " ->") ⊕ newline ⊕ indented (each (λ v. variant n v ⊕ newline) vs) ]
+    select (suc n) xs =
+        elim xs [
+          | [] ↦ empty
+          | x ∷ vs ↦ inline n x ⊕ literal (ascii " ->") ⊕ newline ⊕ indented (each (λ v. variant n v ⊕ newline) vs)
+        ]
 
     -- serialize_variant
     pub variant : ℕ → Node → Piece
@@ -220,7 +238,9 @@ module _ (source : List ℕ) where
             | true ↦ name x
             | false ↦ elim (eqb k Kind.placeable) [
               | true ↦ literal (ascii "{") ⊕ first (λ z. expression n z) (nodes (x .inner)) ⊕ literal (ascii "}")
-              | false ↦ (if (eqb k Kind.variable) (literal (ascii "$")) ⊕ if (eqb k Kind.termReference) (literal (ascii "-")) ⊕ reference ids ⊕ each (λ a. arguments n (nodes (a .inner))) args)
+              | false ↦ (if (eqb k Kind.variable) (literal (ascii "$"))
+                  ⊕ if (eqb k Kind.termReference) (literal (ascii "-")) ⊕ reference ids
+                  ⊕ each (λ a. arguments n (nodes (a .inner))) args)
             ]
           ]
         ]
@@ -233,7 +253,8 @@ module _ (source : List ℕ) where
     -- the arguments, with a comma before each but the first
     pub separated : ℕ → Bool → List Node → Piece
     separated zero written rest = empty
-    separated (suc n) written xs = elim xs [ [] ↦ empty | a ∷ rest ↦ if written (literal (ascii ", ")) ⊕ argument n a ⊕ separated n true rest ]
+    separated (suc n) written xs =
+        elim xs [ [] ↦ empty | a ∷ rest ↦ if written (literal (ascii ", ")) ⊕ argument n a ⊕ separated n true rest ]
 
     pub argument : ℕ → Node → Piece
     argument zero a = empty
@@ -248,7 +269,8 @@ module _ (source : List ℕ) where
   unfolding first reference ofKind pattern
   attribute a =
       let ns = nodes (a .inner) in
-      newline ⊕ literal (ascii ".") ⊕ first name ns ⊕ literal (ascii " =") ⊕ first (λ p. pattern (length (a .inner)) (p .inner)) (ofKind (λ k. eqb k Kind.pattern) ns)
+      newline ⊕ literal (ascii ".") ⊕ first name ns ⊕ literal (ascii " =")
+      ⊕ first (λ p. pattern (length (a .inner)) (p .inner)) (ofKind (λ k. eqb k Kind.pattern) ns)
 
   -- serialize_attributes
   unfoldable pub attributes : List Node → Piece

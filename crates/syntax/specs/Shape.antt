@@ -51,7 +51,10 @@ models =
     -- 1 to 7, each 6 right before a 1 or 2: the state 1 is right after a 6
     model top (move 0 named 0 ∷ move 0 free 0 ∷ move 0 (Kind.attachedComment ∷ []) 1 ∷ move 1 named 0 ∷ []) (0 ∷ [])
     -- 9, 11 if any, 10s
-    ∷ model Kind.message (move 0 (Kind.identifier ∷ []) 1 ∷ move 1 (Kind.pattern ∷ Kind.attribute ∷ []) 2 ∷ move 2 (Kind.attribute ∷ []) 2 ∷ []) (1 ∷ 2 ∷ [])
+    ∷ model Kind.message
+    (move 0 (Kind.identifier ∷ []) 1 ∷ move 1 (Kind.pattern ∷ Kind.attribute ∷ []) 2
+    ∷ move 2 (Kind.attribute ∷ []) 2 ∷ [])
+    (1 ∷ 2 ∷ [])
     -- 9, 11, 10s
     ∷ model Kind.term (move 0 (Kind.identifier ∷ []) 1 ∷ move 1 (Kind.pattern ∷ []) 2 ∷ move 2 (Kind.attribute ∷ []) 2 ∷ []) (2 ∷ [])
     ∷ model Kind.comment lines (0 ∷ [])
@@ -75,7 +78,10 @@ models =
     -- 9, then 9 if written
     ∷ model Kind.messageReference (move 0 (Kind.identifier ∷ []) 1 ∷ move 1 (Kind.identifier ∷ []) 2 ∷ []) (1 ∷ 2 ∷ [])
     -- 9, then 9, then 25, each of these two if written
-    ∷ model Kind.termReference (move 0 (Kind.identifier ∷ []) 1 ∷ move 1 (Kind.identifier ∷ []) 2 ∷ move 1 (Kind.arguments ∷ []) 3 ∷ move 2 (Kind.arguments ∷ []) 3 ∷ []) (1 ∷ 2 ∷ 3 ∷ [])
+    ∷ model Kind.termReference
+    (move 0 (Kind.identifier ∷ []) 1 ∷ move 1 (Kind.identifier ∷ []) 2 ∷ move 1 (Kind.arguments ∷ []) 3
+    ∷ move 2 (Kind.arguments ∷ []) 3 ∷ [])
+    (1 ∷ 2 ∷ 3 ∷ [])
     -- inlines, then 26s
     ∷ model Kind.arguments (move 0 inline 0 ∷ move 0 (Kind.namedArgument ∷ []) 1 ∷ move 1 (Kind.namedArgument ∷ []) 1 ∷ []) (0 ∷ 1 ∷ [])
     -- 9, an inline
@@ -158,7 +164,13 @@ needs j = elim (among j (Kind.placeable ∷ Kind.function ∷ Kind.arguments ∷
 
 unfoldable pub enter : (left k q : ℕ) → List Frame → ℕ → Option State
 enter left k q fs j =
-    elim (not (Kind.isText j) && leb (needs j) left) [ true ↦ elim (step k q j) [ none ↦ none | some r ↦ some (between (left - opens j) j start (frame k r ∷ fs)) ] | false ↦ none ]
+    elim
+    (not (Kind.isText j)
+    && leb (needs j) left) [
+      | true ↦ elim
+          (step k q j) [ none ↦ none | some r ↦ some (between (left - opens j) j start (frame k r ∷ fs)) ]
+      | false ↦ none
+    ]
 
 unfoldable pub leave : (left k : ℕ) → List Frame → Option State
 leave left k [] = none

@@ -8,7 +8,8 @@ use mathlib.Core.Option.{Option, some, none}
 use lib.Dec.{leb}
 use Rattle.syntax.specs.Kind as Kind
 use Rattle.syntax.specs.Marks.{Mark, plain, placed, node, textNode}
-use Rattle.syntax.specs.Shape.{top, models, among, stepIn, stepBy, finalBy, step, final, opens, needs, enter, leave, stepMark, mayEnd, judge, verdict}
+use Rattle.syntax.specs.Shape.{top, models, among, stepIn, stepBy, finalBy, step, final, opens, needs, enter}
+use Rattle.syntax.specs.Shape.{leave, stepMark, mayEnd, judge, verdict}
 
 -- a limit on the openings, a list and the answer
 pub data Row : Type 0 where
@@ -51,7 +52,9 @@ rows =
     row 1 [] none
     -- the top
     ∷ row 1 (entry ++ node Kind.term (name ++ value)) none
-    ∷ row 1 (node Kind.comment [] ++ node Kind.groupComment (t Kind.commentLine) ++ node Kind.resourceComment (t Kind.commentLine ++ t Kind.commentLine) ++ t Kind.junk) none
+    ∷ row 1
+    (node Kind.comment [] ++ node Kind.groupComment (t Kind.commentLine)
+    ++ node Kind.resourceComment (t Kind.commentLine ++ t Kind.commentLine) ++ t Kind.junk) none
     ∷ row 1 (node Kind.attachedComment (t Kind.commentLine) ++ entry) none
     ∷ row 1 (node Kind.attachedComment [] ++ node Kind.term (name ++ value)) none
     ∷ row 1 (node Kind.attachedComment [] ++ node Kind.comment []) (some 2)
@@ -71,12 +74,21 @@ rows =
     ∷ row 1 (node Kind.message (name ++ node Kind.attribute name)) (some 6)
     ∷ row 1 (node Kind.comment name) (some 1)
     -- patterns, placeables, selects
-    ∷ row 2 (node Kind.message (name ++ node Kind.pattern (t Kind.text ++ t Kind.text ++ node Kind.placeable (t Kind.string) ++ node Kind.placeable (t Kind.number)))) none
+    ∷ row 2
+    (node Kind.message
+    (name
+    ++ node Kind.pattern
+    (t Kind.text ++ t Kind.text ++ node Kind.placeable (t Kind.string)
+    ++ node Kind.placeable (t Kind.number)))) none
     ∷ row 2 (holding (node Kind.placeable (node Kind.variable name))) none
     ∷ row 1 (holding []) (some 5)
     ∷ row 1 (holding (t Kind.string ++ t Kind.string)) (some 7)
     ∷ row 1 (holding (node Kind.select (t Kind.number))) none
-    ∷ row 1 (holding (node Kind.select (t Kind.number ++ node Kind.defaultVariant (t Kind.identifierKey ++ value) ++ node Kind.variant (t Kind.numberKey ++ value)))) none
+    ∷ row 1
+    (holding
+    (node Kind.select
+    (t Kind.number ++ node Kind.defaultVariant (t Kind.identifierKey ++ value)
+    ++ node Kind.variant (t Kind.numberKey ++ value)))) none
     ∷ row 1 (holding (node Kind.select [])) (some 6)
     ∷ row 1 (holding (node Kind.select (node Kind.select (t Kind.number)))) (some 6)
     ∷ row 1 (holding (node Kind.select (t Kind.number ++ node Kind.variant (t Kind.numberKey)))) (some 11)

@@ -27,18 +27,25 @@ Leads k q js t = everyMove (λ k′ q′ j r. not (eqb k k′ && eqb q q′) || 
 
 has : (k q : ℕ) (js : List ℕ) → Has k q js → (p j r : ℕ) → q ≤ p → step k p j ≡ some r → (among j js ≡ true) × (q ≤ r)
 has k q js h p j r l s =
-    let b = otherwise (not (eqb k k && leb q p)) (among j js && leb q r) (rule (λ k′ q′ j r. not (eqb k k′ && leb q q′) || (among j js && leb q r)) h k p j r s) (rw (eq-eqb k k refl, le-leb q p l)) in
+    let b =
+    otherwise (not (eqb k k && leb q p)) (among j js && leb q r)
+    (rule (λ k′ q′ j r. not (eqb k k′ && leb q q′) || (among j js && leb q r)) h k p j r s)
+    (rw (eq-eqb k k refl, le-leb q p l)) in
     let c = and-eq-true-iff (among j js) (leb q r) .0 b in
     (c .0, leb-true q r (c .1))
 
 leads : (k q : ℕ) (js : List ℕ) (t : ℕ) → Leads k q js t → (j r : ℕ) → step k q j ≡ some r → (among j js ≡ true) × (r ≡ t)
 leads k q js t h j r s =
-    let b = otherwise (not (eqb k k && eqb q q)) (among j js && eqb r t) (rule (λ k′ q′ j r. not (eqb k k′ && eqb q q′) || (among j js && eqb r t)) h k q j r s) (rw (eq-eqb k k refl, eq-eqb q q refl)) in
+    let b =
+    otherwise (not (eqb k k && eqb q q)) (among j js && eqb r t)
+    (rule (λ k′ q′ j r. not (eqb k k′ && eqb q q′) || (among j js && eqb r t)) h k q j r s)
+    (rw (eq-eqb k k refl, eq-eqb q q refl)) in
     let c = and-eq-true-iff (among j js) (eqb r t) .0 b in
     (c .0, eqb-true r t (c .1))
 
 -- a T node, where all the kinds are T kinds
-pub text-one : {boundary : ℕ → Bool} {ks : List ℕ} {ms : List Mark} {i : ℕ} → OneAt boundary ks ms i → everyChild Kind.isText ks ≡ true → TextAt boundary ms i
+pub text-one : {boundary : ℕ → Bool} {ks : List ℕ} {ms : List Mark} {i : ℕ} → OneAt boundary ks ms i
+    → everyChild Kind.isText ks ≡ true → TextAt boundary ms i
 text-one {ks = ks} a h = record { kind = a .kind; isText = child-rule Kind.isText ks (a .kind) h (a .one); at = a .at }
 
 -- a node of the one kind that there is
@@ -50,9 +57,15 @@ only {k = k} a = byCase (eqb (a .kind) k) (λ e. eqb-true (a .kind) k e) (λ e. 
 pub at-as : {boundary : ℕ → Bool} {ks : List ℕ} {ms : List Mark} {i j : ℕ} → OneAt boundary ks ms i → kindAt ms i ≡ j → At boundary ms i j
 at-as a e = rw (sym (at-kind (a .at)) ∙ e) at (a .at)
 
-pub others : {boundary : ℕ → Bool} {j : ℕ} {ks : List ℕ} {ms : List Mark} {i : ℕ} → OneAt boundary (j ∷ ks) ms i → (kindAt ms i ≡ j → ⊥) → OneAt boundary ks ms i
+pub others : {boundary : ℕ → Bool} {j : ℕ} {ks : List ℕ} {ms : List Mark} {i : ℕ} → OneAt boundary (j ∷ ks) ms i
+    → (kindAt ms i ≡ j → ⊥) → OneAt boundary ks ms i
 unfolding among
-others {j = j} {ks} a h = record { kind = a .kind; one = otherwise (eqb (a .kind) j) (among (a .kind) ks) (a .one) (ne-eqb (a .kind) j (λ e. h (at-kind (a .at) ∙ e))); at = a .at }
+others {j = j} {ks} a h =
+    record {
+      kind = a .kind;
+      one = otherwise (eqb (a .kind) j) (among (a .kind) ks) (a .one) (ne-eqb (a .kind) j (λ e. h (at-kind (a .at) ∙ e)));
+      at = a .at;
+    }
 
 -- the nodes of a kind: one that is, and one that is not
 module _ (source : List ℕ) (k : ℕ) (n : Node) (ns : List Node) where
@@ -86,7 +99,11 @@ module _ {boundary : ℕ → Bool} {ms : List Mark} {i k q : ℕ} where
       go (ends c z f) = absurd (omega arith)
       go (goes j r s a o ns t) =
           let b = has k q js h (n .state) j r (n .least) s in
-          record { state = r; least = b .1; follows = record { child = record { kind = j; one = b .0; at = a }; on = o; split = ns; till = t } }
+          record {
+            state = r;
+            least = b .1;
+            follows = record { child = record { kind = j; one = b .0; at = a }; on = o; split = ns; till = t };
+          }
 
   pub goes-out : Inside boundary ms i k q → Kind.closing 0 ≤ kindAt ms i → innerAt ms i ≡ []
   goes-out n l = go (next n)
@@ -101,7 +118,8 @@ module _ {boundary : ℕ → Bool} {ms : List Mark} {i k q : ℕ} where
     where
       go : Next boundary ms i k q → Follows boundary ms i k js t
       go (ends c z f) = clash f e
-      go (goes j r s a o ns l) = let b = leads k q js t h j r s in record { child = record { kind = j; one = b .0; at = a }; on = rw (b .1) at o; split = ns; till = l }
+      go (goes j r s a o ns l) = let b = leads k q js t h j r s in
+          record { child = record { kind = j; one = b .0; at = a }; on = rw (b .1) at o; split = ns; till = l }
 
   pub none : (t : ℕ) → Leads k q [] t → Inside boundary ms i k q → innerAt ms i ≡ []
   unfolding among

@@ -43,7 +43,9 @@ pub record Pair (boundary : ℕ → Bool) (ms : List Mark) (i : ℕ) (js : List 
   pub both : nodes (nodeAt ms i .inner) ≡ nodeAt ms (i + 1) ∷ nodeAt ms (i + 3) ∷ []
   pub till : after ms (i + 3) + 1 ≡ after ms i
 
-module _ (k : ℕ) (ks js : List ℕ) (plainly : Kind.isText k ≡ false) (texts : everyChild Kind.isText ks ≡ true) (keys : Leads k 0 ks 1) (more : final k 0 ≡ false) (values : Leads k 1 js 2) (more₁ : final k 1 ≡ false) (last : Leads k 2 [] 0) where
+module _ (k : ℕ) (ks js : List ℕ) (plainly : Kind.isText k ≡ false) (texts : everyChild Kind.isText ks ≡ true)
+    (keys : Leads k 0 ks 1) (more : final k 0 ≡ false) (values : Leads k 1 js 2) (more₁ : final k 1 ≡ false)
+    (last : Leads k 2 [] 0) where
   pair : {boundary : ℕ → Bool} {ms : List Mark} {i : ℕ} → At boundary ms i k → Pair boundary ms i js
   unfolding nodes nodesFrom
   pair {boundary} {ms} {i} a =
@@ -58,7 +60,9 @@ module _ (k : ℕ) (ks js : List ℕ) (plainly : Kind.isText k ≡ false) (texts
         key = t;
         behind = behind;
         value = g .child;
-        both = ap nodes (sym (m .inner)) ∙ f .split ∙ ap (λ ns. nodeAt ms (i + 1) ∷ ns) (ap (λ j. nodes (innerAt ms j)) behind ∙ g .split ∙ ap (λ r. nodeAt ms (i + 3) ∷ nodes r) z);
+        both = ap nodes (sym (m .inner)) ∙ f .split
+            ∙ ap (λ ns. nodeAt ms (i + 1) ∷ ns)
+            (ap (λ j. nodes (innerAt ms j)) behind ∙ g .split ∙ ap (λ r. nodeAt ms (i + 3) ∷ nodes r) z);
         till = omega (arith, m .behind, f .till, ap (λ j. length (innerAt ms j)) behind, g .till, ap length z);
       }
 
@@ -67,12 +71,15 @@ module _ {boundary : ℕ → Bool} {ms : List Mark} {i : ℕ} where
   unfolding Kind.isText among models finalBy final
   variant-pair a =
       byCase (eqb (a .kind) Kind.variant) (λ e. of Kind.variant e refl refl refl refl refl refl)
-      (λ e. byCase (eqb (a .kind) Kind.defaultVariant) (λ z. of Kind.defaultVariant z refl refl refl refl refl refl) (λ z. clash (a .one) (rw (e, z))))
+      (λ e. byCase (eqb (a .kind) Kind.defaultVariant) (λ z. of Kind.defaultVariant z refl refl refl refl refl refl)
+      (λ z. clash (a .one) (rw (e, z))))
     where
       keys : List ℕ
       keys = Kind.numberKey ∷ Kind.identifierKey ∷ []
 
-      of : (k : ℕ) → eqb (a .kind) k ≡ true → Kind.isText k ≡ false → Leads k 0 keys 1 → final k 0 ≡ false → Leads k 1 (Kind.pattern ∷ []) 2 → final k 1 ≡ false → Leads k 2 [] 0 → Pair boundary ms i (Kind.pattern ∷ [])
+      of : (k : ℕ) → eqb (a .kind) k ≡ true → Kind.isText k ≡ false → Leads k 0 keys 1 → final k 0 ≡ false
+          → Leads k 1 (Kind.pattern ∷ []) 2 → final k 1 ≡ false → Leads k 2 [] 0
+          → Pair boundary ms i (Kind.pattern ∷ [])
       of k e p l₀ f₀ l₁ f₁ l₂ = pair k keys (Kind.pattern ∷ []) p refl l₀ f₀ l₁ f₁ l₂ (rw (eqb-true (a .kind) k e) at (a .at))
 
   pub attribute-pair : At boundary ms i Kind.attribute → Pair boundary ms i (Kind.pattern ∷ [])

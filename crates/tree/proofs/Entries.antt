@@ -38,14 +38,19 @@ pub record TopNext (boundary : ℕ → Bool) (ms : List Mark) (i : ℕ) : Type 0
 
 is-entry : (q j r : ℕ) → step top q j ≡ some r → among j entries ≡ true
 unfolding models among
-is-entry q j r s = otherwise (not (eqb top top)) (among j entries) (rule (λ k q j r. not (eqb k top) || among j entries) refl top q j r s) refl
+is-entry q j r s =
+    otherwise (not (eqb top top)) (among j entries)
+    (rule (λ k q j r. not (eqb k top) || among j entries) refl top q j r s) refl
 
-child-split : {boundary : ℕ → Bool} {j : ℕ} {cs : List Mark} → Child boundary j cs → j ≤ Kind.namedArgument → (rest : List Mark) → nodes (cs ++ rest) ≡ firstNode (nodes (cs ++ rest)) ∷ nodes rest
+child-split : {boundary : ℕ → Bool} {j : ℕ} {cs : List Mark} → Child boundary j cs → j ≤ Kind.namedArgument
+    → (rest : List Mark) → nodes (cs ++ rest) ≡ firstNode (nodes (cs ++ rest)) ∷ nodes rest
 child-split {j = j} (Spec.text a e x ba be l) h rest = rw (nodes-text j a e rest (lt-ltb j 100 (omega arith)))
-child-split {j = j} (Spec.nest {inner = inner} left x content) h rest = rw (nodes-node j inner rest (lt-ltb j 100 (omega arith)) (run-levels (content .run)))
+child-split {j = j} (Spec.nest {inner = inner} left x content) h rest =
+    rw (nodes-node j inner rest (lt-ltb j 100 (omega arith)) (run-levels (content .run)))
 
 module _ {boundary : ℕ → Bool} {ms : List Mark} {i : ℕ} where
-  entry-from : {left j r : ℕ} {cs rest : List Mark} (q : ℕ) → drop i ms ≡ cs ++ rest → Child boundary j cs → step top q j ≡ some r → Content boundary left top r rest → TopNext boundary ms i
+  entry-from : {left j r : ℕ} {cs rest : List Mark} (q : ℕ) → drop i ms ≡ cs ++ rest → Child boundary j cs
+      → step top q j ≡ some r → Content boundary left top r rest → TopNext boundary ms i
   unfolding nodeAt
   entry-from {left} {j} {r} {cs} {rest} q e c s o =
       let known = known-child top q j r s .1 in
@@ -59,7 +64,11 @@ module _ {boundary : ℕ → Bool} {ms : List Mark} {i : ℕ} where
   pub top-next : Top boundary ms i → (m : Mark) (more : List Mark) → drop i ms ≡ m ∷ more → TopNext boundary ms i
   top-next h m more e = go refl (h .content .run) (h .content .ended)
     where
-      go : {left t : ℕ} {cs : List Mark} → drop i ms ≡ cs → Run boundary left top (h .state) t cs → final top t ≡ true → TopNext boundary ms i
+      go : {left t : ℕ} {cs : List Mark} → drop i ms ≡ cs → Run boundary left top (h .state) t cs → final top t ≡ true
+          → TopNext boundary ms i
       go z stay f = let no : _≡_ {A = ℕ} 0 1 = cc in absurd (omega arith)
-      go z (text {t = t} j a b x s p y l rest) f = entry-from (h .state) z (Spec.text a b x p y l) s (record { to = t; run = rest; ended = f })
-      go z (nest {inside = left} {s = u} {t = t} x s o inner g rest) f = entry-from (h .state) z (Spec.nest left x (record { to = u; run = inner; ended = g })) s (record { to = t; run = rest; ended = f })
+      go z (text {t = t} j a b x s p y l rest) f =
+          entry-from (h .state) z (Spec.text a b x p y l) s (record { to = t; run = rest; ended = f })
+      go z (nest {inside = left} {s = u} {t = t} x s o inner g rest) f =
+          entry-from (h .state) z (Spec.nest left x (record { to = u; run = inner; ended = g })) s
+          (record { to = t; run = rest; ended = f })

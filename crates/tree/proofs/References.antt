@@ -26,7 +26,8 @@ stuck k q = everyMove (λ k′ q′ j r. not (eqb k k′ && eqb q q′) || (amon
 abbrev moved : (k q j r : ℕ) → Bool
 moved k q j r =
     not (among k references)
-    || ((eqb q 0 && (eqb j Kind.identifier && eqb r 1)) || ((eqb q 1 && (eqb j Kind.identifier && eqb r 2)) || (leb 1 q && (eqb j Kind.arguments && stuck k r))))
+    || ((eqb q 0 && (eqb j Kind.identifier && eqb r 1))
+    || ((eqb q 1 && (eqb j Kind.identifier && eqb r 2)) || (leb 1 q && (eqb j Kind.arguments && stuck k r))))
 
 data Moved (k q j r : ℕ) : Type 0 where
   named : q ≡ 0 → j ≡ Kind.identifier → r ≡ 1 → Moved k q j r
@@ -61,14 +62,19 @@ module _ {boundary : ℕ → Bool} {ms : List Mark} {i k : ℕ} (h : among k ref
   unfolding among models
   first-name n = go (next n)
     where
-      from : (j r : ℕ) → Moved k start j r → At boundary ms i j → Inside boundary ms (after ms i) k r → nodes (innerAt ms i) ≡ nodeAt ms i ∷ nodes (innerAt ms (after ms i)) → i + length (innerAt ms i) ≡ after ms i + length (innerAt ms (after ms i))
+      from : (j r : ℕ) → Moved k start j r → At boundary ms i j → Inside boundary ms (after ms i) k r
+          → nodes (innerAt ms i) ≡ nodeAt ms i ∷ nodes (innerAt ms (after ms i))
+          → i + length (innerAt ms i) ≡ after ms i + length (innerAt ms (after ms i))
           → Follows boundary ms i k (Kind.identifier ∷ []) 1
       from j r (named q e f) a o ns l = record { child = record { kind = j; one = rw e; at = a }; on = rw f at o; split = ns; till = l }
       from j r (further q e f) a o ns l = absurd (omega arith)
       from j r (called q e f) a o ns l = absurd (omega arith)
 
       go : Next boundary ms i k start → Follows boundary ms i k (Kind.identifier ∷ []) 1
-      go (ends c z f) = clash (rw h) (untrue (among k references && eqb start start) (end-rule (λ k q. not (among k references && eqb q start)) refl k start f))
+      go (ends c z f) =
+          clash (rw h)
+          (untrue (among k references && eqb start start)
+          (end-rule (λ k q. not (among k references && eqb q start)) refl k start f))
       go (goes j r s a o ns l) = from j r (moves-of k start j r h s) a o ns l
 
   -- an attribute's name after it
@@ -76,7 +82,9 @@ module _ {boundary : ℕ → Bool} {ms : List Mark} {i k : ℕ} (h : among k ref
   unfolding among
   second-name n x = go (next n)
     where
-      from : (j r : ℕ) → Moved k 1 j r → At boundary ms i j → Inside boundary ms (after ms i) k r → nodes (innerAt ms i) ≡ nodeAt ms i ∷ nodes (innerAt ms (after ms i)) → i + length (innerAt ms i) ≡ after ms i + length (innerAt ms (after ms i))
+      from : (j r : ℕ) → Moved k 1 j r → At boundary ms i j → Inside boundary ms (after ms i) k r
+          → nodes (innerAt ms i) ≡ nodeAt ms i ∷ nodes (innerAt ms (after ms i))
+          → i + length (innerAt ms i) ≡ after ms i + length (innerAt ms (after ms i))
           → Follows boundary ms i k (Kind.identifier ∷ []) 2
       from j r (named q e f) a o ns l = absurd (omega arith)
       from j r (further q e f) a o ns l = record { child = record { kind = j; one = rw e; at = a }; on = rw f at o; split = ns; till = l }
@@ -103,11 +111,14 @@ module _ {boundary : ℕ → Bool} {ms : List Mark} {i k : ℕ} (h : among k ref
   unfolding nodes nodesFrom
   call-here {q} l n x = go (next n)
     where
-      from : (j r : ℕ) → Moved k q j r → At boundary ms i j → Inside boundary ms (after ms i) k r → nodes (innerAt ms i) ≡ nodeAt ms i ∷ nodes (innerAt ms (after ms i)) → i + length (innerAt ms i) ≡ after ms i + length (innerAt ms (after ms i))
+      from : (j r : ℕ) → Moved k q j r → At boundary ms i j → Inside boundary ms (after ms i) k r
+          → nodes (innerAt ms i) ≡ nodeAt ms i ∷ nodes (innerAt ms (after ms i))
+          → i + length (innerAt ms i) ≡ after ms i + length (innerAt ms (after ms i))
           → Call boundary ms i
       from j r (named z e f) a o ns t = absurd (omega arith)
       from j r (further z e f) a o ns t = absurd (x (at-kind a ∙ e))
-      from j r (called z e f) a o ns t = let y = none 0 f o in Spec.some (rw e at a) (ns ∙ ap (λ r. nodeAt ms i ∷ nodes r) y) (omega (arith, ap length y))
+      from j r (called z e f) a o ns t = let y = none 0 f o in
+          Spec.some (rw e at a) (ns ∙ ap (λ r. nodeAt ms i ∷ nodes r) y) (omega (arith, ap length y))
 
       go : Next boundary ms i k q → Call boundary ms i
       go (ends c z f) = Spec.none (omega arith) z

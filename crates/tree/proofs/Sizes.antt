@@ -42,7 +42,8 @@ marks-drop (suc i) [] ps = refl
 marks-drop (suc i) (k ∷ ks) [] = sym (marks-none (drop i ks))
 marks-drop (suc i) (k ∷ ks) (p ∷ ps) = marks-drop i ks ps
 
-marks-at : (i : ℕ) (ks ps : List ℕ) → i < length ks → i < length ps → drop i (marksBy ks ps) ≡ markOf (getD ks i 0) (getD ps i 0) ∷ drop (suc i) (marksBy ks ps)
+marks-at : (i : ℕ) (ks ps : List ℕ) → i < length ks → i < length ps
+    → drop i (marksBy ks ps) ≡ markOf (getD ks i 0) (getD ps i 0) ∷ drop (suc i) (marksBy ks ps)
 unfolding marksBy
 marks-at i ks ps h l = rw (marks-drop i ks ps, marks-drop (suc i) ks ps, drop-cons ks i 0 h, drop-cons ps i 0 l)
 
@@ -64,7 +65,8 @@ module _ (ws : List ℕ) (fit : Sizes ws) where
   place-at i h = rw (getD-take, getD-drop)
 
   -- the mark after i others
-  pub next-mark : (i : ℕ) → i < count ws → drop i (marksIn ws) ≡ markOf (getD ws (2 + i) 0) (getD ws (2 + capacity ws + i) 0) ∷ drop (suc i) (marksIn ws)
+  pub next-mark : (i : ℕ) → i < count ws
+      → drop i (marksIn ws) ≡ markOf (getD ws (2 + i) 0) (getD ws (2 + capacity ws + i) 0) ∷ drop (suc i) (marksIn ws)
   unfolding marksIn
   next-mark i h =
       rw (← kind-at i h, ← place-at i h) (marks-at i (kinds ws) (places ws) (omega (arith, kinds-length)) (omega (arith, places-length)))
@@ -78,7 +80,8 @@ module _ (ws : List ℕ) (fit : Sizes ws) where
   -- where a mark stands, and the marks after it
   pub mark-inside : (i : ℕ) (m : Mark) (rest : List Mark) → drop i (marksIn ws) ≡ m ∷ rest → i < count ws
   mark-inside i m rest e =
-      byCase (ltb i (count ws)) (λ q. ltb-true i (count ws) q) (λ q. let z : _≡_ {A = ℕ} 0 1 = cc (no-mark i (ltb-false i (count ws) q)) in absurd (omega arith))
+      byCase (ltb i (count ws)) (λ q. ltb-true i (count ws) q)
+      (λ q. let z : _≡_ {A = ℕ} 0 1 = cc (no-mark i (ltb-false i (count ws) q)) in absurd (omega arith))
 
   pub mark-next : (i : ℕ) (m : Mark) (rest : List Mark) → drop i (marksIn ws) ≡ m ∷ rest → drop (i + 1) (marksIn ws) ≡ rest
   mark-next i m rest e = rw add-one (cc (next-mark i (mark-inside i m rest e)))

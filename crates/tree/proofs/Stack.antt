@@ -15,7 +15,8 @@ use Rattle.syntax.specs.Shape.{start, among, step, final, opens, Frame, frame, 
 use Rattle.syntax.specs.Shape as Definition
 use Rattle.syntax.specs.Layout.{markOf}
 use Rattle.laws.specs.Bytes.{byCase}
-use Rattle.laws.specs.Shape.Check.{needs-demand, Stepped, starts, stops, enters, leaves, stepped-to, stepped-from, Holds, holds-between, holds-within}
+use Rattle.laws.specs.Shape.Check.{needs-demand, Stepped, starts, stops, enters, leaves, stepped-to, stepped-from}
+use Rattle.laws.specs.Shape.Check.{Holds, holds-between, holds-within}
 use Rattle.laws.specs.Shape.Bound.{mostFrames, Small, small-step, small-depth}
 use Rattle.tree.specs.declared.check.Open.{Open}
 use Rattle.tree.specs.declared.check.State.{State}
@@ -68,25 +69,32 @@ module _ (boundary : ℕ → Bool) where
   text-step (enters j i s n) = tt
   text-step (leaves f) = tt
 
-  holds-reached : (ks qs : List ℕ) (s : State) → InText (stateOf ks qs s) → Holds boundary (Small maxOpen) (stateOf ks qs s) → Reached boundary ks qs s
+  holds-reached : (ks qs : List ℕ) (s : State) → InText (stateOf ks qs s)
+      → Holds boundary (Small maxOpen) (stateOf ks qs s) → Reached boundary ks qs s
   unfolding stateOf
   holds-reached ks qs (Between o) t (holds-between p a) = record { inner = rw (frames-length ks qs (o .depth)) at p; around = a }
-  holds-reached ks qs (Within j x o) t (holds-within b p a) = (t, (b, record { inner = rw (frames-length ks qs (o .depth)) at p; around = a }))
+  holds-reached ks qs (Within j x o) t (holds-within b p a) =
+      (t, (b, record { inner = rw (frames-length ks qs (o .depth)) at p; around = a }))
 
   -- what the check reaches it goes on from to what it reaches
-  pub reached-step : (ks qs ks′ qs′ : List ℕ) (s s′ : State) (m : Mark) → stepMark boundary (stateOf ks qs s) m ≡ some (stateOf ks′ qs′ s′) → Reached boundary ks qs s → Reached boundary ks′ qs′ s′
+  pub reached-step : (ks qs ks′ qs′ : List ℕ) (s s′ : State) (m : Mark)
+      → stepMark boundary (stateOf ks qs s) m ≡ some (stateOf ks′ qs′ s′) → Reached boundary ks qs s
+      → Reached boundary ks′ qs′ s′
   reached-step ks qs ks′ qs′ s s′ m e r =
-      holds-reached ks′ qs′ s′ (text-step (stepped-from boundary (stateOf ks qs s) (stateOf ks′ qs′ s′) m e)) (small-step m e (reached-holds ks qs s r))
+      holds-reached ks′ qs′ s′ (text-step (stepped-from boundary (stateOf ks qs s) (stateOf ks′ qs′ s′) m e))
+      (small-step m e (reached-holds ks qs s r))
 
 -- there is room for another frame where a child may open
-pub enter-room : (ks qs : List ℕ) (o : Open) (j r : ℕ) → Fits ks qs o → Kind.isText j ≡ false → step (o .kind) (o .state) j ≡ some r → needs j ≤ o .left → o .depth < mostFrames maxOpen
+pub enter-room : (ks qs : List ℕ) (o : Open) (j r : ℕ) → Fits ks qs o → Kind.isText j ≡ false
+    → step (o .kind) (o .state) j ≡ some r → needs j ≤ o .left → o .depth < mostFrames maxOpen
 unfolding stateOf
 enter-room ks qs o j r f i s n = go (small-step (plain j) (stepped-to always (enters j i s n)) (fits-holds always ks qs o f))
   where
     always : ℕ → Bool
     always p = true
 
-    go : {left k q : ℕ} {x : Frame} → Holds always (Small maxOpen) (between left k q (x ∷ framesIn ks qs (o .depth))) → o .depth < mostFrames maxOpen
+    go : {left k q : ℕ} {x : Frame} → Holds always (Small maxOpen) (between left k q (x ∷ framesIn ks qs (o .depth)))
+        → o .depth < mostFrames maxOpen
     go (holds-between p a) = omega (arith, small-depth p, frames-length ks qs (o .depth))
 
 pub opens-small : (j : ℕ) → opens j ≤ 1
@@ -98,11 +106,18 @@ opens-needs j = omega (arith, needs-demand j)
 
 module _ (ks qs : List ℕ) (o : Open) where
   -- the stack where a child opens, and where the node closes
-  pub enter-goes : (j r n : ℕ) → Room ks qs → Fits ks qs o → Kind.isText j ≡ false → step (o .kind) (o .state) j ≡ some r → needs j ≤ o .left → n ≡ opens j
-      → some (between (o .left - n) j start (framesIn (set ks (o .depth) (o .kind)) (set qs (o .depth) r) (o .depth + 1))) ≡ enter (o .left) (o .kind) (o .state) (framesIn ks qs (o .depth)) j
+  pub enter-goes : (j r n : ℕ) → Room ks qs → Fits ks qs o → Kind.isText j ≡ false
+      → step (o .kind) (o .state) j ≡ some r → needs j ≤ o .left → n ≡ opens j
+      → some
+      (between (o .left - n) j start (framesIn (set ks (o .depth) (o .kind)) (set qs (o .depth) r) (o .depth + 1)))
+      ≡ enter (o .left) (o .kind) (o .state) (framesIn ks qs (o .depth)) j
   enter-goes j r n m f i s h e =
       let l = enter-room ks qs o j r f i s h in
-      rw (e, frames-push ks qs (o .depth) (o .kind) r (omega arith) (omega arith), entered (o .left) (o .kind) (o .state) (framesIn ks qs (o .depth)) j r i s h)
+      rw (
+        e,
+        frames-push ks qs (o .depth) (o .kind) r (omega arith) (omega arith),
+        entered (o .left) (o .kind) (o .state) (framesIn ks qs (o .depth)) j r i s h,
+      )
 
   module _ (boundary : ℕ → Bool) (f : final (o .kind) (o .state) ≡ true) where
     pub leave-top : o .depth ≡ 0 → none ≡ stepMark boundary (stateOf ks qs (Between o)) (markOf (Kind.closing (o .kind)) 0)
@@ -110,7 +125,10 @@ module _ (ks qs : List ℕ) (o : Open) where
     leave-top e = rw (closed boundary (o .left) (o .kind) (o .state) (framesIn ks qs (o .depth)) f, e)
 
     pub leave-goes : (n : ℕ) → (o .depth ≡ 0 → ⊥) → n ≡ opens (o .kind)
-        → some (between (o .left + n) (getD ks (o .depth - 1) 0) (getD qs (o .depth - 1) 0) (framesIn ks qs (o .depth - 1))) ≡ stepMark boundary (stateOf ks qs (Between o)) (markOf (Kind.closing (o .kind)) 0)
+        → some
+        (between (o .left + n) (getD ks (o .depth - 1) 0) (getD qs (o .depth - 1) 0)
+        (framesIn ks qs (o .depth - 1)))
+        ≡ stepMark boundary (stateOf ks qs (Between o)) (markOf (Kind.closing (o .kind)) 0)
     unfolding stateOf leave
     leave-goes n h e =
         let z : o .left + n ≡ opens (o .kind) + o .left = omega arith in

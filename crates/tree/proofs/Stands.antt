@@ -38,7 +38,8 @@ module _ (source tree : List ℕ) (fit : Sizes tree) (ks qs : List ℕ) (s : Sta
   stepped = stepMark (isBoundary source) (stateOf ks qs s) mark
 
   -- a mark leads on
-  pub stands-on : (ks′ qs′ : List ℕ) (s′ : State) → i < count tree → some (stateOf ks′ qs′ s′) ≡ stepped → length ks′ ≡ length ks → length qs′ ≡ length qs → Stands source tree ks′ qs′ s′ (i + 1)
+  pub stands-on : (ks′ qs′ : List ℕ) (s′ : State) → i < count tree → some (stateOf ks′ qs′ s′) ≡ stepped
+      → length ks′ ≡ length ks → length qs′ ≡ length qs → Stands source tree ks′ qs′ s′ (i + 1)
   unfolding judge
   stands-on ks′ qs′ s′ h e k q =
       record {
@@ -55,11 +56,13 @@ module _ (source tree : List ℕ) (fit : Sizes tree) (ks qs : List ℕ) (s : Sta
   stands-refused h e = rw (st .same, next-mark tree fit i h, judge, ← e)
 
   -- the list ends
-  pub stands-whole : count tree ≤ i → true ≡ mayEnd (stateOf ks qs s) → WellFormed ≡ shapeOf (verdict (isBoundary source) maxOpen (marksIn tree))
+  pub stands-whole : count tree ≤ i → true ≡ mayEnd (stateOf ks qs s)
+      → WellFormed ≡ shapeOf (verdict (isBoundary source) maxOpen (marksIn tree))
   unfolding judge shapeOf
   stands-whole h e = rw (st .same, no-mark tree fit i h, judge, ← e)
 
-  pub stands-early : count tree ≤ i → false ≡ mayEnd (stateOf ks qs s) → IllFormed (count tree) ≡ shapeOf (verdict (isBoundary source) maxOpen (marksIn tree))
+  pub stands-early : count tree ≤ i → false ≡ mayEnd (stateOf ks qs s)
+      → IllFormed (count tree) ≡ shapeOf (verdict (isBoundary source) maxOpen (marksIn tree))
   unfolding judge shapeOf
   stands-early h e = let n : i ≡ count tree = omega arith in rw (st .same, no-mark tree fit i h, judge, ← e, n)
 
@@ -68,7 +71,9 @@ stands-known {s = Between o} st = st .reached .inner
 stands-known {s = Within j a o} st = tt
 
 -- at the start nothing is open
-pub stands-first : (source tree : List ℕ) → Stands source tree (replicate 259 0) (replicate 259 0) (Between (record { kind = 0; state = 0; left = 64; depth = 0 })) 0
+pub stands-first : (source tree : List ℕ)
+    → Stands source tree (replicate 259 0) (replicate 259 0)
+    (Between (record { kind = 0; state = 0; left = 64; depth = 0 })) 0
 unfolding verdict stateOf framesIn
 stands-first source tree =
     record {
@@ -79,5 +84,6 @@ stands-first source tree =
       same = refl;
     }
   where
-    first : {left k q : ℕ} → Holds (isBoundary source) (Small maxOpen) (between left k q []) → Fits (replicate 259 0) (replicate 259 0) (record { kind = k; state = q; left = left; depth = 0 })
+    first : {left k q : ℕ} → Holds (isBoundary source) (Small maxOpen) (between left k q [])
+        → Fits (replicate 259 0) (replicate 259 0) (record { kind = k; state = q; left = left; depth = 0 })
     first (holds-between p a) = record { inner = p; around = a }

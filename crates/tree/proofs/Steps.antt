@@ -22,7 +22,16 @@ no-and false = refl
 pub not-text : (j : ℕ) → Kind.namedArgument < j → Kind.isText j ≡ false
 unfolding Kind.isText
 not-text j h =
-    rw (other Kind.junk (omega arith), other Kind.commentLine (omega arith), other Kind.identifier (omega arith), other Kind.text (omega arith), other Kind.numberKey (omega arith), other Kind.identifierKey (omega arith), other Kind.string (omega arith), other Kind.number (omega arith))
+    rw (
+      other Kind.junk (omega arith),
+      other Kind.commentLine (omega arith),
+      other Kind.identifier (omega arith),
+      other Kind.text (omega arith),
+      other Kind.numberKey (omega arith),
+      other Kind.identifierKey (omega arith),
+      other Kind.string (omega arith),
+      other Kind.number (omega arith),
+    )
   where
     other : (n : ℕ) → n ≤ Kind.namedArgument → eqb j n ≡ false
     other n l = ne-eqb j n (λ e. omega arith)
@@ -77,7 +86,8 @@ module _ (left k q : ℕ) (fs : List Frame) where
   unfolding enter
   not-entered j h = rw (lt-leb (needs j) left h, enter, no-and (not (Kind.isText j)))
 
-  pub entered : (j r : ℕ) → Kind.isText j ≡ false → step k q j ≡ some r → needs j ≤ left → enter left k q fs j ≡ some (between (left - opens j) j start (frame k r ∷ fs))
+  pub entered : (j r : ℕ) → Kind.isText j ≡ false → step k q j ≡ some r → needs j ≤ left
+      → enter left k q fs j ≡ some (between (left - opens j) j start (frame k r ∷ fs))
   unfolding enter
   entered j r e s h = rw (e, le-leb (needs j) left h, s, enter)
 
@@ -103,7 +113,8 @@ module _ (boundary : ℕ → Bool) (left k q : ℕ) (fs : List Frame) where
   opened j h e = let z : eqb j (Kind.closing k) ≡ false = ne-eqb j (Kind.closing k) (λ e. omega arith) in rw (mark-node j h e, stepMark, z)
 
   -- a T child starts
-  pub started : (j p r : ℕ) → Kind.isText j ≡ true → step k q j ≡ some r → boundary p ≡ true → child (markOf j p) ≡ some (within j p left k r fs)
+  pub started : (j p r : ℕ) → Kind.isText j ≡ true → step k q j ≡ some r → boundary p ≡ true
+      → child (markOf j p) ≡ some (within j p left k r fs)
   unfolding stepMark
   started j p r e s h = rw (mark-text j p e, stepMark, e, h, s)
 
@@ -124,7 +135,8 @@ module _ (boundary : ℕ → Bool) (left k q : ℕ) (fs : List Frame) where
 
 module _ (boundary : ℕ → Bool) (j a left k q : ℕ) (fs : List Frame) where
   -- a T child ends
-  pub stopped : (e : ℕ) → Kind.isText j ≡ true → boundary e ≡ true → a ≤ e → stepMark boundary (within j a left k q fs) (markOf (Kind.closing j) e) ≡ some (between left k q fs)
+  pub stopped : (e : ℕ) → Kind.isText j ≡ true → boundary e ≡ true → a ≤ e
+      → stepMark boundary (within j a left k q fs) (markOf (Kind.closing j) e) ≡ some (between left k q fs)
   unfolding stepMark
   stopped e t h l = let z = eq-eqb (Kind.closing j) (Kind.closing j) refl in rw (mark-closed j e t, stepMark, z, h, le-leb a e l)
 

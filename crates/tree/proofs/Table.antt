@@ -22,7 +22,8 @@ abbrev every : {A : Type 0} → (ℕ → A → Bool) → ℕ → List A → Bool
 every f i [] = true
 every f i (x ∷ xs) = f i x && every f (suc i) xs
 
-every-at : {A : Type 0} (d : A) (f : ℕ → A → Bool) (xs : List A) (i k : ℕ) → every f i xs ≡ true → k < length xs → f (i + k) (getD xs k d) ≡ true
+every-at : {A : Type 0} (d : A) (f : ℕ → A → Bool) (xs : List A) (i k : ℕ) → every f i xs ≡ true → k < length xs
+    → f (i + k) (getD xs k d) ≡ true
 every-at d f [] i k t h = absurd (not-suc-le-zero h)
 every-at d f (x ∷ xs) i zero t h = rw add-zero (and-eq-true-iff (f i x) (every f (suc i) xs) .0 t .0)
 every-at d f (x ∷ xs) i (suc k) t h =
@@ -93,9 +94,11 @@ module _ (text : Bool) (x : ℕ) where
   reads-nothing : (o : Option ℕ) → x ≡ byteOf text o → x ≡ 45 → Nothing ≡ nextOf text o
   unfolding nextOf byteOf
   reads-nothing none e h = refl
-  reads-nothing (some r) e h = byCase text (λ t. absurd (omega (arith, rw (t, byteOf) at e))) (λ t. absurd (omega (arith, rw (t, byteOf) at e)))
+  reads-nothing (some r) e h =
+      byCase text (λ t. absurd (omega (arith, rw (t, byteOf) at e))) (λ t. absurd (omega (arith, rw (t, byteOf) at e)))
 
-  reads-text : (o : Option ℕ) → ((r : ℕ) → o ≡ some r → r ≤ 3) → x ≡ byteOf text o → (x ≡ 45 → ⊥) → x < 97 → (48 ≤ x) × (Text (x - 48) ≡ nextOf text o)
+  reads-text : (o : Option ℕ) → ((r : ℕ) → o ≡ some r → r ≤ 3) → x ≡ byteOf text o → (x ≡ 45 → ⊥) → x < 97 → (48 ≤ x)
+      × (Text (x - 48) ≡ nextOf text o)
   unfolding nextOf byteOf
   reads-text none s e h l = absurd (h e)
   reads-text (some r) s e h l =
@@ -115,7 +118,8 @@ module _ (t : Table) (w : Right t) (k q j : ℕ) (a : k ≤ Kind.namedArgument) 
   pub step-nothing : entry t k q j ≡ 45 → Nothing ≡ nextOf (Kind.isText j) (step k q j)
   step-nothing h = reads-nothing (Kind.isText j) (entry t k q j) (step k q j) (w .next k q j a b d) h
 
-  pub step-text : (entry t k q j ≡ 45 → ⊥) → entry t k q j < 97 → (48 ≤ entry t k q j) × (Text (entry t k q j - 48) ≡ nextOf (Kind.isText j) (step k q j))
+  pub step-text : (entry t k q j ≡ 45 → ⊥) → entry t k q j < 97 → (48 ≤ entry t k q j)
+      × (Text (entry t k q j - 48) ≡ nextOf (Kind.isText j) (step k q j))
   step-text h l = reads-text (Kind.isText j) (entry t k q j) (step k q j) (next-small k q j) (w .next k q j a b d) h l
 
   pub step-node : 97 ≤ entry t k q j → Node (entry t k q j - 97) ≡ nextOf (Kind.isText j) (step k q j)

@@ -23,7 +23,8 @@ use Rattle.tree.proofs.Sizes.{Sizes, next-mark, mark-inside, mark-next,
 use Rattle.tree.proofs.Walk.{at-after}
 
 -- The text between two places, which are held to the source.
-pub between-held : (s : List ℕ) (a e start end : ℕ) → end ≡ min e (length s) → start ≡ min a end → take (end - start) (drop start s) ≡ take (e - a) (drop a s)
+pub between-held : (s : List ℕ) (a e start end : ℕ) → end ≡ min e (length s) → start ≡ min a end
+    → take (end - start) (drop start s) ≡ take (e - a) (drop a s)
 between-held s a e start end h l =
     byCase (leb end a)
     (λ q. let n : end - start ≡ 0 = omega (arith, leb-true end a q) in rw n (sym (nothing (leb-true end a q))))
@@ -36,7 +37,9 @@ between-held s a e start end h l =
         (λ q. rw (drop-of-length-le s {i = a} (omega (arith, leb-false e a q))) (take-nil (e - a)))
 
     some : a < end → take (end - a) (drop a s) ≡ take (e - a) (drop a s)
-    some z = byCase (leb e (length s)) (λ q. let n : end ≡ e = omega (arith, leb-true e (length s) q) in rw n) (λ q. all (omega (arith, leb-false e (length s) q)) ∙ sym (all (omega (arith, leb-false e (length s) q))))
+    some z =
+        byCase (leb e (length s)) (λ q. let n : end ≡ e = omega (arith, leb-true e (length s) q) in rw n)
+        (λ q. all (omega (arith, leb-false e (length s) q)) ∙ sym (all (omega (arith, leb-false e (length s) q))))
       where
         all : {n : ℕ} → length s ≤ n → take (n - a) (drop a s) ≡ drop a s
         all {n} m = take-all (n - a) (drop a s) (simp length-drop (omega arith))
@@ -58,7 +61,10 @@ module _ (ws : List ℕ) where
 
   next-kind : (i : ℕ) → i < length (kinds ws) → drop i (kinds ws) ≡ getD ws (2 + i) 0 ∷ drop (i + 1) (kinds ws)
   unfolding kinds
-  next-kind i h = rw (add-one, drop-cons (kinds ws) i 0) (ap (λ k. k ∷ drop (suc i) (kinds ws)) (rw (getD-take (count ws) (drop 2 ws) i 0 (omega (arith, length-take (count ws) (drop 2 ws))), getD-drop)))
+  next-kind i h =
+      rw (add-one, drop-cons (kinds ws) i 0)
+      (ap (λ k. k ∷ drop (suc i) (kinds ws))
+      (rw (getD-take (count ws) (drop 2 ws) i 0 (omega (arith, length-take (count ws) (drop 2 ws))), getD-drop)))
 
   -- with depth nodes open at the mark next
   pub record Passing (i depth next : ℕ) : Type 0 where
@@ -74,12 +80,22 @@ module _ (ws : List ℕ) where
       module _ (h : next < length (kinds ws)) where
         pub passing-open : getD ws (2 + next) 0 < Kind.closing 0 → Passing i (depth + 1) (next + 1)
         unfolding upToClosing
-        passing-open k = record { same = p .same ∙ rw (next-kind next h, upToClosing, lt-ltb (getD ws (2 + next) 0) 100 k, add-one depth) (omega arith); small = omega (arith, p .small) }
+        passing-open k =
+            record {
+              same = p .same
+                  ∙ rw (next-kind next h, upToClosing, lt-ltb (getD ws (2 + next) 0) 100 k, add-one depth) (omega arith);
+              small = omega (arith, p .small);
+            }
 
         module _ (k : Kind.closing 0 ≤ getD ws (2 + next) 0) where
           pub passing-close : 1 < depth → Passing i (depth - 1) (next + 1)
           unfolding upToClosing
-          passing-close d = record { same = p .same ∙ rw (next-kind next h, upToClosing, le-ltb (getD ws (2 + next) 0) 100 k, lt-leb depth 1 d) (omega arith); small = omega (arith, p .small) }
+          passing-close d =
+              record {
+                same = p .same
+                    ∙ rw (next-kind next h, upToClosing, le-ltb (getD ws (2 + next) 0) 100 k, lt-leb depth 1 d) (omega arith);
+                small = omega (arith, p .small);
+              }
 
           pub passing-last : depth ≤ 1 → next + 1 ≡ afterIn ws i
           unfolding upToClosing
@@ -96,7 +112,9 @@ mark-kind k p = byCase (hasPlace k || not (eqb p 0)) (λ e. rw (e, markOf)) (λ 
 
 mark-place : (k p : ℕ) → placeOf (markOf k p) ≡ p
 unfolding markOf
-mark-place k p = byCase (hasPlace k || not (eqb p 0)) (λ e. rw (e, markOf)) (λ e. rw (e, markOf) (sym (eqb-true p 0 (none (hasPlace k) (eqb p 0) e))))
+mark-place k p =
+    byCase (hasPlace k || not (eqb p 0)) (λ e. rw (e, markOf))
+    (λ e. rw (e, markOf) (sym (eqb-true p 0 (none (hasPlace k) (eqb p 0) e))))
   where
     none : (a b : Bool) → (a || not b) ≡ false → b ≡ true
     none true b e = clash refl e
@@ -117,7 +135,8 @@ module _ (ws : List ℕ) (fit : Sizes ws) where
   place-word i h = sym (ap firstPlace (next-mark ws fit i h) ∙ mark-place (getD ws (2 + i) 0) (getD ws (2 + capacity ws + i) 0))
 
   -- the text of a T node
-  pub text-word : {boundary : ℕ → Bool} (source : List ℕ) (i : ℕ) → TextAt boundary (marksIn ws) i → textIn source ws i ≡ textOf source (nodeAt (marksIn ws) i)
+  pub text-word : {boundary : ℕ → Bool} (source : List ℕ) (i : ℕ) → TextAt boundary (marksIn ws) i
+      → textIn source ws i ≡ textOf source (nodeAt (marksIn ws) i)
   unfolding textIn textNode textOf between firstPlace nodeAt
   text-word {boundary} source i t = go (t .at .child) (t .at .there)
     where
@@ -128,9 +147,17 @@ module _ (ws : List ℕ) (fit : Sizes ws) where
           let k = t .kind in
           let rest = t .at .rest in
           let n = mark-next ws fit i (placed k a) (placed (Kind.closing k) e ∷ rest) there in
-          let wa : placeIn ws i ≡ a = place-word i (mark-inside ws fit i (placed k a) (placed (Kind.closing k) e ∷ rest) there) ∙ ap firstPlace there in
-          let we : placeIn ws (i + 1) ≡ e = place-word (i + 1) (mark-inside ws fit (i + 1) (placed (Kind.closing k) e) rest n) ∙ ap firstPlace n in
-          rw (wa, we) (sym (ap (λ r. textOf source (firstNode (nodes r))) there ∙ ap (λ r. textOf source (firstNode r)) (nodes-text k a e rest (lt-ltb k 100 (omega (arith, t .at .known))))))
+          let wa : placeIn ws i ≡ a =
+          place-word i (mark-inside ws fit i (placed k a) (placed (Kind.closing k) e ∷ rest) there)
+          ∙ ap firstPlace there in
+          let we : placeIn ws (i + 1) ≡ e =
+          place-word (i + 1) (mark-inside ws fit (i + 1) (placed (Kind.closing k) e) rest n)
+          ∙ ap firstPlace n in
+          rw (wa, we)
+          (sym
+          (ap (λ r. textOf source (firstNode (nodes r))) there
+          ∙ ap (λ r. textOf source (firstNode r))
+          (nodes-text k a e rest (lt-ltb k 100 (omega (arith, t .at .known))))))
 
   -- the kinds are those of the marks
   kinds-marks : kinds ws ≡ map kindOf (marksIn ws)
@@ -148,27 +175,37 @@ map-drop (suc i) [] = refl
 map-drop (suc i) (m ∷ ms) = map-drop i ms
 
 -- marks that close all they open, and the one that closes the node around them
-up-levels : (d : ℕ) (ms : List Mark) (last : Mark) (rest : List Mark) → Levels d ms → Kind.closing 0 ≤ kindOf last → upToClosing (suc d) (map kindOf (ms ++ (last ∷ rest))) ≡ length ms + 1
+up-levels : (d : ℕ) (ms : List Mark) (last : Mark) (rest : List Mark) → Levels d ms → Kind.closing 0 ≤ kindOf last
+    → upToClosing (suc d) (map kindOf (ms ++ (last ∷ rest))) ≡ length ms + 1
 unfolding upToClosing
 up-levels d [] last rest l c = rw (le-ltb (kindOf last) 100 c, upToClosing, l)
 up-levels d (m ∷ ms) last rest l c = go (ltb (kindOf m) 100) refl l (λ i h. up-levels i ms last rest h c)
   where
-    go : (v : Bool) → ltb (kindOf m) 100 ≡ v → Opened v d ms → ((i : ℕ) → Levels i ms → upToClosing (suc i) (map kindOf (ms ++ (last ∷ rest))) ≡ length ms + 1)
+    go : (v : Bool) → ltb (kindOf m) 100 ≡ v → Opened v d ms
+        → ((i : ℕ) → Levels i ms → upToClosing (suc i) (map kindOf (ms ++ (last ∷ rest))) ≡ length ms + 1)
         → upToClosing (suc d) (kindOf m ∷ map kindOf (ms ++ (last ∷ rest))) ≡ suc (length ms) + 1
     go true e o f = rw (e, upToClosing) (omega (arith, f (suc d) o))
     go false e o f =
         let n : suc (d - 1) ≡ suc d - 1 = omega (arith, o .0) in
-        rw (e, upToClosing, lt-leb (suc d) 1 (omega (arith, o .0))) (omega (arith, subst (λ i. upToClosing i (map kindOf (ms ++ (last ∷ rest))) ≡ length ms + 1) n (f (d - 1) (o .1))))
+        rw (e, upToClosing, lt-leb (suc d) 1 (omega (arith, o .0)))
+        (omega
+        (arith, subst (λ i. upToClosing i (map kindOf (ms ++ (last ∷ rest))) ≡ length ms + 1) n (f (d - 1) (o .1))))
 
-up-child : {boundary : ℕ → Bool} {j : ℕ} {marks : List Mark} → Child boundary j marks → j ≤ Kind.namedArgument → (rest : List Mark) → upToClosing 0 (map kindOf (marks ++ rest)) ≡ length marks
+up-child : {boundary : ℕ → Bool} {j : ℕ} {marks : List Mark} → Child boundary j marks → j ≤ Kind.namedArgument
+    → (rest : List Mark) → upToClosing 0 (map kindOf (marks ++ rest)) ≡ length marks
 unfolding upToClosing textNode node
-up-child {j = j} (Spec.text a e t x y l) h rest = rw (lt-ltb j 100 (omega arith), upToClosing) (ap suc (up-levels 0 [] (placed (Kind.closing j) e) rest refl (omega arith)))
+up-child {j = j} (Spec.text a e t x y l) h rest =
+    rw (lt-ltb j 100 (omega arith), upToClosing)
+    (ap suc (up-levels 0 [] (placed (Kind.closing j) e) rest refl (omega arith)))
 up-child {j = j} (Spec.nest {inner = inner} left x content) h rest =
     rw (lt-ltb j 100 (omega arith), upToClosing, append-assoc inner (plain (Kind.closing j) ∷ []) rest)
-    (ap suc (up-levels 0 inner (plain (Kind.closing j)) rest (run-levels (content .run)) (omega arith) ∙ sym (length-append inner (plain (Kind.closing j) ∷ []))))
+    (ap suc
+    (up-levels 0 inner (plain (Kind.closing j)) rest (run-levels (content .run)) (omega arith)
+    ∙ sym (length-append inner (plain (Kind.closing j) ∷ []))))
 
 -- the mark after a node
-pub after-word : (ws : List ℕ) (fit : Sizes ws) {boundary : ℕ → Bool} {i j : ℕ} → At boundary (marksIn ws) i j → afterIn ws i ≡ after (marksIn ws) i
+pub after-word : (ws : List ℕ) (fit : Sizes ws) {boundary : ℕ → Bool} {i j : ℕ} → At boundary (marksIn ws) i j
+    → afterIn ws i ≡ after (marksIn ws) i
 unfolding afterIn
 after-word ws fit {i = i} a =
     ap (λ k. i + k)

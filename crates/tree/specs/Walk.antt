@@ -33,7 +33,11 @@ after ms i = i + (2 + length (nodeAt ms i .inner))
 unfoldable pub inside : ℕ → List Mark → List Mark
 inside d [] = []
 inside d (m ∷ ms) =
-    elim (ltb (kindOf m) (Kind.closing 0)) [ true ↦ m ∷ inside (suc d) ms | false ↦ elim (eqb d 0) [ true ↦ [] | false ↦ m ∷ inside (d - 1) ms ] ]
+    elim
+    (ltb (kindOf m) (Kind.closing 0)) [
+      | true ↦ m ∷ inside (suc d) ms
+      | false ↦ elim (eqb d 0) [ true ↦ [] | false ↦ m ∷ inside (d - 1) ms ]
+    ]
 
 -- what is left of the node that is open at a mark
 unfoldable pub innerAt : List Mark → ℕ → List Mark
@@ -107,4 +111,5 @@ references = Kind.variable ∷ Kind.function ∷ Kind.messageReference ∷ Kind.
 -- of the node that is open at the mark m nothing is left, or arguments alone
 pub data Call (boundary : ℕ → Bool) (ms : List Mark) (m : ℕ) : Type 0 where
   none : Kind.closing 0 ≤ kindAt ms m → innerAt ms m ≡ [] → Call boundary ms m
-  some : At boundary ms m Kind.arguments → nodes (innerAt ms m) ≡ nodeAt ms m ∷ [] → m + length (innerAt ms m) ≡ after ms m → Call boundary ms m
+  some : At boundary ms m Kind.arguments → nodes (innerAt ms m) ≡ nodeAt ms m ∷ []
+      → m + length (innerAt ms m) ≡ after ms m → Call boundary ms m

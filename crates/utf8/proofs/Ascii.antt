@@ -40,7 +40,8 @@ or-ascii x y =
 module _ (r : Range) (s : List ℕ) where
   -- one more byte in the same range
   pub fits-more : (n at : ℕ) → at + n < length s
-      → fits (replicate (suc n) r) (drop at s) ≡ elim (fits (replicate n r) (drop at s)) [ true ↦ within r (getD s (at + n) 0) | false ↦ false ]
+      → fits (replicate (suc n) r) (drop at s) ≡ elim
+      (fits (replicate n r) (drop at s)) [ true ↦ within r (getD s (at + n) 0) | false ↦ false ]
   unfolding fits
   fits-more zero at h = rw add-zero (fits-one s at r (omega arith))
   fits-more (suc n) at h =
@@ -55,17 +56,21 @@ module _ (r : Range) (s : List ℕ) where
       (λ t. rw (t, fits)))
 
 -- past bytes that are ASCII
-pub past-ascii : (s : List ℕ) (n at : ℕ) → at + n ≤ length s → fits (replicate n ascii) (drop at s) ≡ true → FoundFrom s at → FoundFrom s (at + n)
+pub past-ascii : (s : List ℕ) (n at : ℕ) → at + n ≤ length s → fits (replicate n ascii) (drop at s) ≡ true
+    → FoundFrom s at → FoundFrom s (at + n)
 unfolding fits
 past-ascii s zero at h e f = rw add-zero f
 past-ascii s (suc n) at h e f =
     let d = drop-cons s at 0 (omega arith) in
     let t = first e in
-    let g = past s at (omega arith) (f .found) 1 (width-ascii s at (omega arith) (ltb-true _ _ (sym (within-ascii _) ∙ t .0))) (omega arith) in
+    let g =
+    past s at (omega arith) (f .found) 1
+    (width-ascii s at (omega arith) (ltb-true _ _ (sym (within-ascii _) ∙ t .0))) (omega arith) in
     let m : at + 1 + n ≡ at + suc n = omega arith in
     rw m at (past-ascii s n (at + 1) (omega arith) (t .1) g)
   where
-    first : fits (replicate (suc n) ascii) (drop at s) ≡ true → (within ascii (getD s at 0) ≡ true) × (fits (replicate n ascii) (drop (at + 1) s) ≡ true)
+    first : fits (replicate (suc n) ascii) (drop at s) ≡ true → (within ascii (getD s at 0) ≡ true)
+        × (fits (replicate n ascii) (drop (at + 1) s) ≡ true)
     first q =
         let o = rw (drop-cons s at 0 (omega arith), fits) at q in
         cases (within ascii (getD s at 0)) (λ t. (t, rw add-one (rw t at o))) (λ t. clash (sym (rw t at o)))

@@ -11,7 +11,8 @@ use lib.Dec.{ltb}
 use lib.ListN.{length, getD, take, drop, length-drop, take-append-drop, drop-of-length-le}
 use lib.Seq.{drop-cons, drop-drop}
 use borrow.Author.Tests.{ltb-true, ltb-false}
-use Rattle.utf8.specs.Utf8.{Range, Row, _‥_, _then_, within, table, fits, whole, widthBy, width, scan, firstIllFormed, moved, FoundFrom, isContinuation}
+use Rattle.utf8.specs.Utf8.{Range, Row, _‥_, _then_, within, table, fits, whole, widthBy, width, scan}
+use Rattle.utf8.specs.Utf8.{firstIllFormed, moved, FoundFrom, isContinuation}
 use Rattle.utf8.specs.Sequence.{cases, clash, within-true, within-below, within-above, read-within}
 use Rattle.utf8.specs.Law.{ill-here, ill-past}
 

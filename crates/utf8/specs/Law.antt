@@ -11,7 +11,8 @@ use lib.Dec.{leb, ltb, eqb}
 use lib.ListN.{length, getD, take, drop}
 use lib.Seq.{drop-cons}
 use borrow.Author.Tests.{leb-true, leb-false, lt-ltb, le-ltb, ltb-true, ltb-false, eq-eqb, ne-eqb, eqb-true}
-use Rattle.utf8.specs.Utf8.{_‥_, table, fits, whole, widthBy, width, widthOfFirst, scan, firstIllFormed, moved, WellFormed, isContinuation, isBoundary}
+use Rattle.utf8.specs.Utf8.{_‥_, table, fits, whole, widthBy, width, widthOfFirst, scan, firstIllFormed, moved}
+use Rattle.utf8.specs.Utf8.{WellFormed, isContinuation, isBoundary}
 use Rattle.utf8.specs.Sequence.{cases, clash, within-true, first-below, read-within, read-append, read-take, read-first, read-rest}
 
 -- a scan from the start of a sequence, and past it
@@ -181,9 +182,11 @@ edge-dropped [] (suc k) j (inr h) = absurd (omega (arith, h .0))
 edge-dropped (x ∷ s) (suc k) j g = edge-dropped s k j (edge-tail x s (k + j) (rw suc-add at g))
 
 -- what stands between two boundaries
-pub span-formed : (s : List ℕ) (a e : ℕ) → WellFormed s → isBoundary s a ≡ true → isBoundary s e ≡ true → WellFormed (take (e - a) (drop a s))
+pub span-formed : (s : List ℕ) (a e : ℕ) → WellFormed s → isBoundary s a ≡ true → isBoundary s e ≡ true
+    → WellFormed (take (e - a) (drop a s))
 unfolding firstIllFormed scan
-span-formed s a e w p q = cases (ltb a e) (λ t. after (ltb-true a e t)) (λ t. let z : e - a ≡ 0 = omega (arith, ltb-false a e t) in rw z refl)
+span-formed s a e w p q =
+    cases (ltb a e) (λ t. after (ltb-true a e t)) (λ t. let z : e - a ≡ 0 = omega (arith, ltb-false a e t) in rw z refl)
   where
     after : a < e → WellFormed (take (e - a) (drop a s))
     after l =

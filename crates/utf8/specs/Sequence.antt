@@ -1,4 +1,5 @@
--- One sequence that `width` reads: it lies within the source, more bytes or fewer after it do not change it, its first byte says its width and
+-- One sequence that `width` reads: it lies within the source, more bytes or fewer after it do not change it, its first
+-- byte says its width and
 -- is no continuation byte, and the others are.
 use Prim.Native.Nat.{ℕ, zero, suc, _≤_, _<_}
 use native.Mathlib.Nat.{le-of-suc-le-suc, not-suc-le-zero}
@@ -72,7 +73,8 @@ fits-take (suc k) (r ∷ rs) (b ∷ s) h e =
     let p = fits-parts r rs b s e in
     fits-cons r rs b (take k s) (p .0) (fits-take k rs s (le-of-suc-le-suc h) (p .1))
 
--- what the laws ask of a row of the table, computed for each: its first byte asks for the row's width and is no continuation byte, the others are
+-- what the laws ask of a row of the table, computed for each: its first byte asks for the row's width and is no
+-- continuation byte, the others are
 
 placed : Range → List Range → Bool
 placed r [] = leb (r .high) 127
@@ -176,12 +178,16 @@ placed-first r (_ ∷ []) b g e =
     (rw (lt-leb b 127 (omega arith), widthOfFirst, le-leb b 223 (omega arith)), within-above (0x80 ‥ 0xBF) b (omega arith))
 placed-first r (_ ∷ _ ∷ []) b g e =
     let m = within-bounds r b e in
-    let q = both-le 224 (r .low) (r .high) 239 g in
-    (rw (lt-leb b 127 (omega arith), widthOfFirst, lt-leb b 223 (omega arith), le-leb b 239 (omega arith)), within-above (0x80 ‥ 0xBF) b (omega arith))
+    let q = both-le 224 (r .low) (r .high) 239 g in (
+      rw (lt-leb b 127 (omega arith), widthOfFirst, lt-leb b 223 (omega arith), le-leb b 239 (omega arith)),
+      within-above (0x80 ‥ 0xBF) b (omega arith),
+    )
 placed-first r (_ ∷ _ ∷ _ ∷ []) b g e =
     let m = within-bounds r b e in
-    let q = leb-true 240 (r .low) g in
-    (rw (lt-leb b 127 (omega arith), widthOfFirst, lt-leb b 223 (omega arith), lt-leb b 239 (omega arith)), within-above (0x80 ‥ 0xBF) b (omega arith))
+    let q = leb-true 240 (r .low) g in (
+      rw (lt-leb b 127 (omega arith), widthOfFirst, lt-leb b 223 (omega arith), lt-leb b 239 (omega arith)),
+      within-above (0x80 ‥ 0xBF) b (omega arith),
+    )
 placed-first r (_ ∷ _ ∷ _ ∷ _ ∷ rs) b g e = clash (sym g)
 
 -- a sequence lies within the source, and what follows it does not change it

@@ -24,11 +24,15 @@ pub length-between : (from to : ℕ) (l : List ℕ) → from ≤ to → to ≤ l
 length-between from to l h k = length-take-le (to - from) (drop from l) (rw length-drop (omega arith))
 
 -- the rest of a slice is filled with v
-pub rest-yes : (s : List ℕ) (n v : ℕ) → between n (length s) s ≡ replicate (length (between n (length s) s)) v → drop n s ≡ drop n (replicate (length s) v)
-rest-yes s n v e = sym (end-part s n) ∙ (e ∙ (ap (λ i. replicate i v) (ap length (end-part s n) ∙ length-drop n s) ∙ sym (drop-replicate n (length s) v)))
+pub rest-yes : (s : List ℕ) (n v : ℕ) → between n (length s) s ≡ replicate (length (between n (length s) s)) v
+    → drop n s ≡ drop n (replicate (length s) v)
+rest-yes s n v e = sym (end-part s n)
+    ∙ (e ∙ (ap (λ i. replicate i v) (ap length (end-part s n) ∙ length-drop n s) ∙ sym (drop-replicate n (length s) v)))
 
-pub rest-no : (s : List ℕ) (n v : ℕ) → drop n s ≡ drop n (replicate (length s) v) → between n (length s) s ≡ replicate (length (between n (length s) s)) v
-rest-no s n v e = end-part s n ∙ (e ∙ (drop-replicate n (length s) v ∙ ap (λ i. replicate i v) (sym (ap length (end-part s n) ∙ length-drop n s))))
+pub rest-no : (s : List ℕ) (n v : ℕ) → drop n s ≡ drop n (replicate (length s) v)
+    → between n (length s) s ≡ replicate (length (between n (length s) s)) v
+rest-no s n v e = end-part s n
+    ∙ (e ∙ (drop-replicate n (length s) v ∙ ap (λ i. replicate i v) (sym (ap length (end-part s n) ∙ length-drop n s))))
 
 -- an array in a slice
 module _ (s ws : List ℕ) (from n to : ℕ) (e : to ≡ from + n) (h : to ≤ length s) where
@@ -101,7 +105,9 @@ module _ (s : List ℕ) (a : Arrays) (f g : List ℕ) (st : Stores a f g) where
       let last = drop-drop (a .size) (2 + a .capacity) s ∙ rest-yes s (laidLength a) filling (p .rest) in
       let more = drop-drop (a .capacity) 2 s ∙ parts (drop (2 + a .capacity) s) seconds past (a .size) two last in
       let tail = parts (drop 2 s) firsts (seconds ++ past) (a .capacity) one more ∙ sym (append-assoc firsts seconds past) in
-      heads s (omega (arith, p .long)) ∙ (ap (λ z. z ∷ getD s 1 0 ∷ drop 2 s) (p .count) ∙ (ap (λ z. a .count ∷ z ∷ drop 2 s) (p .capacity) ∙ ap (λ z. a .count ∷ a .capacity ∷ z) tail))
+      heads s (omega (arith, p .long))
+      ∙ (ap (λ z. z ∷ getD s 1 0 ∷ drop 2 s) (p .count)
+      ∙ (ap (λ z. a .count ∷ z ∷ drop 2 s) (p .capacity) ∙ ap (λ z. a .count ∷ a .capacity ∷ z) tail))
 
 -- the same of a slice that refusal 5 left
 module _ (s : List ℕ) (n : ℕ) where
@@ -113,11 +119,14 @@ module _ (s : List ℕ) (n : ℕ) where
       let l = length-take-le n s (zeroed-long e) in
       first-part s (replicate n 0) (drop n (filled (length s))) n (length-replicate n 0) e ∙ ap (λ i. replicate i 0) (sym l)
 
-  pub zeroed-rest : s ≡ replicate n 0 ++ drop n (filled (length s)) → between n (length s) s ≡ replicate (length (between n (length s) s)) filling
+  pub zeroed-rest : s ≡ replicate n 0 ++ drop n (filled (length s))
+      → between n (length s) s ≡ replicate (length (between n (length s) s)) filling
   unfolding filled
   zeroed-rest e = rest-no s n filling (second-part s (replicate n 0) (drop n (filled (length s))) n (length-replicate n 0) e)
 
-  pub zeroed-is : n ≤ length s → take n s ≡ replicate (length (take n s)) 0 → between n (length s) s ≡ replicate (length (between n (length s) s)) filling → s ≡ replicate n 0 ++ drop n (filled (length s))
+  pub zeroed-is : n ≤ length s → take n s ≡ replicate (length (take n s)) 0
+      → between n (length s) s ≡ replicate (length (between n (length s) s)) filling
+      → s ≡ replicate n 0 ++ drop n (filled (length s))
   unfolding filled
   zeroed-is h p q =
       parts s (replicate n 0) (drop n (filled (length s))) n (p ∙ ap (λ i. replicate i 0) (length-take-le n s h)) (rest-yes s n filling q)

@@ -42,7 +42,8 @@ length-filled-bytes : (n : ℕ) → length (filledBytes n) ≡ n
 unfolding filledBytes
 length-filled-bytes n = length-replicate n fillingByte
 
-pub did-write : (c : Written) (s l t o o′ : List ℕ) (n : ℕ) (r : Answer) → t ≡ treeIn c l → o ≡ filledBytes n → DidWrite s t o o′ (c .junk) r → WroteFilled c s l n o′ r
+pub did-write : (c : Written) (s l t o o′ : List ℕ) (n : ℕ) (r : Answer) → t ≡ treeIn c l → o ≡ filledBytes n
+    → DidWrite s t o o′ (c .junk) r → WroteFilled c s l n o′ r
 did-write c s l t o o′ n r p q d =
     let k : length o ≡ n = ap length q ∙ length-filled-bytes n in
     record {
@@ -50,7 +51,8 @@ did-write c s l t o o′ n r p q d =
       leaves = d .output ∙ (ap (λ x. outputAfter s x o (c .junk)) p ∙ ap (λ x. outputAfter s (treeIn c l) x (c .junk)) q);
     }
 
-module _ (c : Written) (s l : List ℕ) (o : ℕ) (output : List ℕ) (r : Answer) (q : WroteFilled c s l o output r) (lo : length output ≡ o) where
+module _ (c : Written) (s l : List ℕ) (o : ℕ) (output : List ℕ) (r : Answer) (q : WroteFilled c s l o output r)
+    (lo : length output ≡ o) where
   abbrev expected : ℕ → List ℕ
   expected n = textIn c l ++ drop (length (textIn c l)) (filledBytes n)
 
@@ -67,10 +69,18 @@ module _ (c : Written) (s l : List ℕ) (o : ℕ) (output : List ℕ) (r : Answe
         output = sym (q .leaves) ∙ (x ∙ ap expected lo);
       }
 
-pub was-rewritten : (c : Written) (before last rest listing output : List ℕ) (t : ℕ) (r : Bool) → FitsText c (length before) (length listing) t (length output) → Repeats (c .stored) (between 0 (c .length) before) last → Tells r (AgreesText c (between 0 (c .length) (last ++ rest)) (between 0 (listedText c) listing) (length (between 0 (c .output) output))) → Rewritten c before (last ++ rest) listing r
+pub was-rewritten : (c : Written) (before last rest listing output : List ℕ) (t : ℕ) (r : Bool)
+    → FitsText c (length before) (length listing) t (length output)
+    → Repeats (c .stored) (between 0 (c .length) before) last
+    → Tells r
+    (AgreesText c (between 0 (c .length) (last ++ rest)) (between 0 (listedText c) listing)
+    (length (between 0 (c .output) output)))
+    → Rewritten c before (last ++ rest) listing r
 was-rewritten c before last rest listing output t r h p a =
     let l : length last ≡ c .length = p .long ∙ (length-between 0 (c .length) before (omega arith) (h .source) ∙ omega arith) in
-    let o : length (between 0 (c .output) output) ≡ c .output = length-between 0 (c .output) output (omega arith) (h .output) ∙ omega arith in
+    let o : length (between 0 (c .output) output) ≡ c .output =
+    length-between 0 (c .output) output (omega arith) (h .output)
+    ∙ omega arith in
     let s = between 0 (c .length) (last ++ rest) in
     let m = between 0 (listedText c) listing in
     record {

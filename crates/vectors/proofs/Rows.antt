@@ -37,7 +37,8 @@ untold false t e p = let q = t .no p in let z : _≡_ {A = ℕ} 0 1 = cc in omeg
 -- all words are v
 pub all-same : (words : List ℕ) (v i : ℕ) → length words ≤ i → ((k : ℕ) → k < i → getD words k 0 ≡ v) → words ≡ replicate (length words) v
 all-same words v i h f =
-    ext-getD 0 words (replicate (length words) v) (sym (length-replicate (length words) v)) (λ k l. f k (omega arith) ∙ sym (getD-replicate (length words) k v 0 l))
+    ext-getD 0 words (replicate (length words) v) (sym (length-replicate (length words) v))
+    (λ k l. f k (omega arith) ∙ sym (getD-replicate (length words) k v 0 l))
 
 pub one-same : (words : List ℕ) (v i : ℕ) → i < length words → words ≡ replicate (length words) v → getD words i 0 ≡ v
 one-same words v i l e = ap (λ x. getD x i 0) e ∙ getD-replicate (length words) i v 0 l
@@ -61,11 +62,14 @@ short-in (suc n) (a ∷ b ∷ bytes) e (suc i) h =
     let k : 2 * suc i ≡ suc (suc (2 * i)) = omega arith in
     rw (k, add-one) (rw add-one at (short-in n bytes (omega arith) i (omega arith)))
 
-pub all-stored : (words bytes : List ℕ) (i : ℕ) → length bytes ≡ 2 * length words → length words ≤ i → ((k : ℕ) → k < i → getD words k 0 ≡ shortAt bytes (2 * k)) → words ≡ shorts bytes
+pub all-stored : (words bytes : List ℕ) (i : ℕ) → length bytes ≡ 2 * length words → length words ≤ i
+    → ((k : ℕ) → k < i → getD words k 0 ≡ shortAt bytes (2 * k)) → words ≡ shorts bytes
 all-stored words bytes i e h f =
-    ext-getD 0 words (shorts bytes) (sym (length-shorts (length words) bytes e)) (λ k l. f k (omega arith) ∙ sym (short-in (length words) bytes e k l))
+    ext-getD 0 words (shorts bytes) (sym (length-shorts (length words) bytes e))
+    (λ k l. f k (omega arith) ∙ sym (short-in (length words) bytes e k l))
 
-pub one-stored : (words bytes : List ℕ) (i : ℕ) → length bytes ≡ 2 * length words → i < length words → words ≡ shorts bytes → getD words i 0 ≡ shortAt bytes (2 * i)
+pub one-stored : (words bytes : List ℕ) (i : ℕ) → length bytes ≡ 2 * length words → i < length words
+    → words ≡ shorts bytes → getD words i 0 ≡ shortAt bytes (2 * i)
 one-stored words bytes i e l q = ap (λ x. getD x i 0) q ∙ short-in (length words) bytes e i l
 
 -- a list in two parts
@@ -88,7 +92,8 @@ unfolding array
 length-array n ws h = simp (length-append, length-replicate) (omega arith)
 
 module _ (words ws : List ℕ) (n : ℕ) (l : length ws ≡ n) where
-  pub array-yes : n ≤ length words → take n words ≡ ws → drop n words ≡ replicate (length (drop n words)) 0 → words ≡ array (length words) ws
+  pub array-yes : n ≤ length words → take n words ≡ ws → drop n words ≡ replicate (length (drop n words)) 0
+      → words ≡ array (length words) ws
   unfolding array
   array-yes h p q =
       let k : length words - n ≡ length words - length ws = omega arith in
@@ -112,7 +117,10 @@ pub repeat-more : (s : List ℕ) (n i : ℕ) → i < length s
 repeat-more s n i h f k low high l =
     let b = getD s (i - n) 0 in
     ⊎-elim
-    (λ e. rw e (⊎-elim (λ z. rw z refl) (λ m. getD-set-same s i b 0 h ∙ sym (getD-set-other s i (i - n) b 0 (λ q. omega arith))) (eq-or-lt-of-le (sub-le i n))))
+    (λ e. rw e
+    (⊎-elim (λ z. rw z refl)
+    (λ m. getD-set-same s i b 0 h ∙ sym (getD-set-other s i (i - n) b 0 (λ q. omega arith)))
+    (eq-or-lt-of-le (sub-le i n))))
     (λ m.
     getD-set-other s i k b 0 (λ q. omega arith) ∙ (f k low m (omega arith) ∙ sym (getD-set-other s i (k - n) b 0 (λ q. omega arith))))
     (eq-or-lt-of-le (le-of-suc-le-suc (rw add-one at high)))

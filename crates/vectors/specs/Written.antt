@@ -72,7 +72,8 @@ pub record WroteFilled (c : Written) (s l : List ℕ) (o : ℕ) (output : List �
   pub answers : r ≡ writeAnswer s (treeIn c l) o (c .junk)
   pub leaves : output ≡ outputAfter s (treeIn c l) (filledBytes o) (c .junk)
 
--- the definition's answer for the source s, the case's tree and a filled output of o bytes is the case's, and so is every byte that it leaves
+-- the definition's answer for the source s, the case's tree and a filled output of o bytes is the case's, and so is
+-- every byte that it leaves
 pub record AgreesText (c : Written) (s l : List ℕ) (o : ℕ) : Type 0 where
   pub answers : Answers (c .number) (c .value) (writeAnswer s (treeIn c l) o (c .junk))
   pub output : outputAfter s (treeIn c l) (filledBytes o) (c .junk) ≡ textIn c l ++ drop (length (textIn c l)) (filledBytes o)

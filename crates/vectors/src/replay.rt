@@ -2,7 +2,8 @@
 ghost use Prim.Native.Nat.{_≤_};
 ghost use mathlib.Core.Path.{_≡_};
 ghost use lib.ListN.{length};
-ghost use Rattle.vectors.specs.Agreement.{Tells, left, treeArrays, errorArrays, kindsIn, placesIn, errorsIn, groupsIn, Lists, Answers, ReadFilled, Agrees, Fits, Replayed};
+ghost use Rattle.vectors.specs.Agreement.{Tells, left, treeArrays, errorArrays, kindsIn, placesIn, errorsIn};
+ghost use Rattle.vectors.specs.Agreement.{groupsIn, Lists, Answers, ReadFilled, Agrees, Fits, Replayed};
 use crate::compare::Arrays;
 use crate::compare::FILLING;
 use crate::compare::fill;

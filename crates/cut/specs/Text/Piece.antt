@@ -112,12 +112,15 @@ module _ (S : List ℕ) where
       (pick-calm (eqb (e .kind) 3) _ _ (calm-free w 35 [] (e .inner))
       (pick-calm (eqb (e .kind) 4) _ _ (calm-free w 35 (35 ∷ []) (e .inner))
       (pick-calm (eqb (e .kind) 5) _ _ (calm-free w 35 (35 ∷ 35 ∷ []) (e .inner))
-      (calm-plus (Ser.if (eqb (e .kind) 2) (literal (45 ∷ []))) (Ser.message S (e .inner)) (calm-if (eqb (e .kind) 2) (literal (45 ∷ [])) (calm-literal (45 ∷ []))) (calm-message (e .inner)))))))
+      (calm-plus (Ser.if (eqb (e .kind) 2) (literal (45 ∷ []))) (Ser.message S (e .inner))
+      (calm-if (eqb (e .kind) 2) (literal (45 ∷ [])) (calm-literal (45 ∷ []))) (calm-message (e .inner)))))))
 
   calm-resource : (junk w : Bool) (ns : List Node) → Calm (Ser.resource S junk w ns)
   unfolding Ser.resource
   calm-resource junk w [] = calm-empty
-  calm-resource junk w (n ∷ ns) = calm-plus (Ser.entry S junk w n) (Ser.resource S junk (Ser.wroteBy S w (n .kind)) ns) (calm-entry junk w n) (calm-resource junk (Ser.wroteBy S w (n .kind)) ns)
+  calm-resource junk w (n ∷ ns) =
+      calm-plus (Ser.entry S junk w n) (Ser.resource S junk (Ser.wroteBy S w (n .kind)) ns) (calm-entry junk w n)
+      (calm-resource junk (Ser.wroteBy S w (n .kind)) ns)
 
   pick-ends : (v : Bool) (p q : Piece) → (v ≡ true → EndsTen p) → (v ≡ false → EndsTen q) → EndsTen (elim v [ true ↦ p | false ↦ q ])
   pick-ends true p q a b = a refl
@@ -142,8 +145,11 @@ module _ (S : List ℕ) where
 
   pub resource-ends : (junk w : Bool) (n : Node) (ns : List Node) → Ends (n ∷ ns) → EndsTen (Ser.resource S junk w (n ∷ ns))
   unfolding Ser.resource _⊕_ empty
-  resource-ends junk w n [] h = λ level last. ap (lastOf last) (append-nil (Ser.entry S junk w n level last)) ∙ ends-entry junk w n (h .0) (h .1) level last
-  resource-ends junk w n (m ∷ ns) h = ends-plus (Ser.entry S junk w n) (Ser.resource S junk (Ser.wroteBy S w (n .kind)) (m ∷ ns)) (resource-ends junk (Ser.wroteBy S w (n .kind)) m ns (h .1))
+  resource-ends junk w n [] h = λ level last. ap (lastOf last) (append-nil (Ser.entry S junk w n level last))
+      ∙ ends-entry junk w n (h .0) (h .1) level last
+  resource-ends junk w n (m ∷ ns) h =
+      ends-plus (Ser.entry S junk w n) (Ser.resource S junk (Ser.wroteBy S w (n .kind)) (m ∷ ns))
+      (resource-ends junk (Ser.wroteBy S w (n .kind)) m ns (h .1))
 
   abbrev pub wroteAll : Bool → List Node → Bool
   wroteAll w [] = w
@@ -155,7 +161,8 @@ module _ (S : List ℕ) where
   wrote-ends w n (m ∷ ns) h = wrote-ends (Ser.wroteBy S w (n .kind)) m ns (h .1)
 
   pub resource-append : (junk w : Bool) (xs ys : List Node) (level last : ℕ)
-      → Ser.resource S junk w (xs ++ ys) level last ≡ Ser.resource S junk w xs level last ++ Ser.resource S junk (wroteAll w xs) ys level (lastOf last (Ser.resource S junk w xs level last))
+      → Ser.resource S junk w (xs ++ ys) level last ≡ Ser.resource S junk w xs level last
+      ++ Ser.resource S junk (wroteAll w xs) ys level (lastOf last (Ser.resource S junk w xs level last))
   unfolding Ser.resource _⊕_ empty lastOf
   resource-append junk w [] ys level last = refl
   resource-append junk w (x ∷ xs) ys level last =
@@ -188,7 +195,8 @@ module _ (S : List ℕ) where
   unfolding Ser.wroteBy
   wrote-indep v w k h = byCase (eqb k 7) (λ q. rw (q, Ser.wroteBy) refl) (λ q. rw (q, Ser.wroteBy) (rw h refl))
 
-  same-resource : (junk v w : Bool) (n : Node) (ns : List Node) → isFree (n .kind) ≡ false → eqb (n .kind) 6 ≡ false → Ser.resource S junk v (n ∷ ns) ≡ Ser.resource S junk w (n ∷ ns)
+  same-resource : (junk v w : Bool) (n : Node) (ns : List Node) → isFree (n .kind) ≡ false → eqb (n .kind) 6 ≡ false
+      → Ser.resource S junk v (n ∷ ns) ≡ Ser.resource S junk w (n ∷ ns)
   unfolding Ser.resource
   same-resource junk v w n ns p q = ap₂ (λ a b. a ⊕ Ser.resource S junk b ns) (entry-indep junk v w n p) (wrote-indep v w (n .kind) q)
 
@@ -199,20 +207,39 @@ module _ (S : List ℕ) where
   unfolding Ser.wroteBy
   wrote-six w k h = rw (differs k 6 7 h refl, Ser.wroteBy) (rw h refl)
 
-  plain-resource : (junk v w : Bool) (n : Node) (ns : List Node) → Opening (n ∷ ns) → isFree (n .kind) ≡ false → Ser.resource S junk v (n ∷ ns) ≡ Ser.resource S junk w (n ∷ ns)
+  plain-resource : (junk v w : Bool) (n : Node) (ns : List Node) → Opening (n ∷ ns) → isFree (n .kind) ≡ false
+      → Ser.resource S junk v (n ∷ ns) ≡ Ser.resource S junk w (n ∷ ns)
   unfolding Ser.resource
   plain-resource junk v w n [] o p = same-resource junk v w n [] p o
   plain-resource junk v w n (m ∷ ns) o p = byCase (eqb (n .kind) 6)
       (λ q. ap₂ (λ a b. a ⊕ Ser.resource S junk b (m ∷ ns)) (entry-indep junk v w n p) (wrote-six v (n .kind) q)
-      ∙ ap (λ b. Ser.entry S junk w n ⊕ b) (same-resource junk v w m ns (o q .0) (o q .1)) ∙ ap (λ b. Ser.entry S junk w n ⊕ Ser.resource S junk b (m ∷ ns)) (sym (wrote-six w (n .kind) q)))
+      ∙ ap (λ b. Ser.entry S junk w n ⊕ b) (same-resource junk v w m ns (o q .0) (o q .1))
+      ∙ ap (λ b. Ser.entry S junk w n ⊕ Ser.resource S junk b (m ∷ ns)) (sym (wrote-six w (n .kind) q)))
       (λ q. same-resource junk v w n (m ∷ ns) p q)
 
   -- a free comment has a newline before it where something was written
-  free-entry : (junk : Bool) (e : Node) → isFree (e .kind) ≡ true → (x : ℕ) × (xs : List ℕ) × ((w : Bool) → Ser.entry S junk w e ≡ Ser.if w newline ⊕ body (x ∷ xs) (e .inner))
+  free-entry : (junk : Bool) (e : Node) → isFree (e .kind) ≡ true → (x : ℕ) × (xs : List ℕ)
+      × ((w : Bool) → Ser.entry S junk w e ≡ Ser.if w newline ⊕ body (x ∷ xs) (e .inner))
   unfolding Ser.entry Ser.freeComment body
-  free-entry junk e h = byCase (eqb (e .kind) 3) (λ q. (35, [], λ w. rw (differs (e .kind) 3 7 q refl, Ser.entry) (rw (differs (e .kind) 3 6 q refl) (rw q refl))))
-      (λ q. byCase (eqb (e .kind) 4) (λ r. (35, 35 ∷ [], λ w. rw (differs (e .kind) 4 7 r refl, Ser.entry) (rw (differs (e .kind) 4 6 r refl) (rw q (rw r refl)))))
-      (λ r. byCase (eqb (e .kind) 5) (λ t. (35, 35 ∷ 35 ∷ [], λ w. rw (differs (e .kind) 5 7 t refl, Ser.entry) (rw (differs (e .kind) 5 6 t refl) (rw q (rw r (rw t refl)))))) (λ t. clash h (rw q (rw r (rw t refl))))))
+  free-entry junk e h =
+      byCase (eqb (e .kind) 3)
+      (λ q. (35, [], λ w. rw (differs (e .kind) 3 7 q refl, Ser.entry) (rw (differs (e .kind) 3 6 q refl) (rw q refl))))
+      (λ q. byCase (eqb (e .kind) 4)
+      (λ r. (
+        35,
+        35
+            ∷ [],
+        λ w. rw (differs (e .kind) 4 7 r refl, Ser.entry) (rw (differs (e .kind) 4 6 r refl) (rw q (rw r refl))),
+      ))
+      (λ r. byCase (eqb (e .kind) 5)
+      (λ t. (
+        35,
+        35 ∷ 35
+            ∷ [],
+        λ w. rw (differs (e .kind) 5 7 t refl, Ser.entry)
+            (rw (differs (e .kind) 5 6 t refl) (rw q (rw r (rw t refl)))),
+      ))
+      (λ t. clash h (rw q (rw r (rw t refl))))))
 
   free-six : (k : ℕ) → isFree k ≡ true → eqb k 6 ≡ false
   free-six k h = byCase (eqb k 6) (λ q. clash h (rw (eqb-true k 6 q) refl)) (λ q. q)
@@ -221,21 +248,31 @@ module _ (S : List ℕ) where
   unfolding body
   ends-body prefix ms = ends-plus (Ser.comment S prefix ms) newline ends-newline
 
-  free-text : (junk : Bool) (n : Node) (ns : List Node) → isFree (n .kind) ≡ true → Ser.resource S junk true (n ∷ ns) 0 10 ≡ 10 ∷ Ser.resource S junk false (n ∷ ns) 0 0
+  free-text : (junk : Bool) (n : Node) (ns : List Node) → isFree (n .kind) ≡ true
+      → Ser.resource S junk true (n ∷ ns) 0 10 ≡ 10 ∷ Ser.resource S junk false (n ∷ ns) 0 0
   unfolding Ser.resource
   free-text junk n ns h =
       let (x, xs, e) = free-entry junk n h in
       ap₂ (λ a b. (a ⊕ Ser.resource S junk b ns) 0 10) (e true) (wrote-indep true false (n .kind) (free-six (n .kind) h))
-      ∙ texts (body (x ∷ xs) (n .inner)) (Ser.resource S junk (Ser.wroteBy S false (n .kind)) ns) (calm-body x xs (n .inner)) (ends-body (x ∷ xs) (n .inner))
+      ∙ texts (body (x ∷ xs) (n .inner)) (Ser.resource S junk (Ser.wroteBy S false (n .kind)) ns)
+      (calm-body x xs (n .inner)) (ends-body (x ∷ xs) (n .inner))
       ∙ ap (λ a. 10 ∷ (a ⊕ Ser.resource S junk (Ser.wroteBy S false (n .kind)) ns) 0 0) (sym (e false))
     where
       texts : (C Q : Piece) → Calm C → EndsTen C → ((Ser.if true newline ⊕ C) ⊕ Q) 0 10 ≡ 10 ∷ ((Ser.if false newline ⊕ C) ⊕ Q) 0 0
       texts C Q calm ends = unfold _⊕_ Ser.if newline empty lastOf in (ap₂ (λ a l. 10 ∷ (a ++ Q 0 l)) calm (ends 0 10 ∙ sym (ends 0 0)))
 
   -- the text after something was written: a newline more where it opens with a free comment
-  pub opened-text : (junk : Bool) (ns : List Node) → Opening ns → Ser.resource S junk true ns 0 10 ≡ (elim (opensNodes ns) [ true ↦ 10 ∷ [] | false ↦ [] ]) ++ Ser.resource S junk false ns 0 0
+  pub opened-text : (junk : Bool) (ns : List Node) → Opening ns
+      → Ser.resource S junk true ns 0 10 ≡ (elim (opensNodes ns) [ true ↦ 10 ∷ [] | false ↦ [] ])
+      ++ Ser.resource S junk false ns 0 0
   unfolding Ser.resource empty
   opened-text junk [] o = refl
   opened-text junk (n ∷ ns) o = byCase (isFree (n .kind))
-      (λ q. free-text junk n ns q ∙ ap (λ v. (elim v as (λ z. List ℕ) [ true ↦ 10 ∷ [] | false ↦ [] ]) ++ Ser.resource S junk false (n ∷ ns) 0 0) (sym q))
-      (λ q. calm-resource junk true (n ∷ ns) ∙ ap (λ p. p 0 0) (plain-resource junk true false n ns o q) ∙ ap (λ v. (elim v as (λ z. List ℕ) [ true ↦ 10 ∷ [] | false ↦ [] ]) ++ Ser.resource S junk false (n ∷ ns) 0 0) (sym q))
+      (λ q. free-text junk n ns q
+      ∙ ap
+      (λ v. (elim v as (λ z. List ℕ) [ true ↦ 10 ∷ [] | false ↦ [] ]) ++ Ser.resource S junk false (n ∷ ns) 0 0)
+      (sym q))
+      (λ q. calm-resource junk true (n ∷ ns) ∙ ap (λ p. p 0 0) (plain-resource junk true false n ns o q)
+      ∙ ap
+      (λ v. (elim v as (λ z. List ℕ) [ true ↦ 10 ∷ [] | false ↦ [] ]) ++ Ser.resource S junk false (n ∷ ns) 0 0)
+      (sym q))

@@ -17,7 +17,8 @@ choice v a b = elim v [ true ↦ a | false ↦ b ]
 abbrev patternBy : Bool → Piece → Piece
 patternBy v body = elim v [ true ↦ newline ⊕ indented body | false ↦ literal (32 ∷ []) ⊕ body ]
 
-module _ (S S′ : List ℕ) (k : ℕ) (P : ℕ → Type 0) (same-span : (p q : ℕ) → P p → P q → take (k + q - (k + p)) (drop (k + p) S′) ≡ take (q - p) (drop p S)) where
+module _ (S S′ : List ℕ) (k : ℕ) (P : ℕ → Type 0)
+    (same-span : (p q : ℕ) → P p → P q → take (k + q - (k + p)) (drop (k + p) S′) ≡ take (q - p) (drop p S)) where
   between-same : (m c : Mark) → OkMark P m → OkMark P c → Ser.between S′ (up k m) (up k c) ≡ Ser.between S m c
   unfolding Ser.between
   between-same (plain i) c a b = refl
@@ -32,12 +33,14 @@ module _ (S S′ : List ℕ) (k : ℕ) (P : ℕ → Type 0) (same-span : (p q : 
   unfolding Ser.name
   name-same n a = ap literal (text-same n a)
 
-  each-same : (f g : Node → Piece) → ((n : Node) → OkNode P n → f (upNode k n) ≡ g n) → (ns : List Node) → OkNodes P ns → Ser.each f (map (upNode k) ns) ≡ Ser.each g ns
+  each-same : (f g : Node → Piece) → ((n : Node) → OkNode P n → f (upNode k n) ≡ g n) → (ns : List Node) → OkNodes P ns
+      → Ser.each f (map (upNode k) ns) ≡ Ser.each g ns
   unfolding Ser.each
   each-same f g h [] a = refl
   each-same f g h (n ∷ ns) a = ap₂ (λ p q. p ⊕ q) (h n (a .0)) (each-same f g h ns (a .1))
 
-  first-same : (f g : Node → Piece) → ((n : Node) → OkNode P n → f (upNode k n) ≡ g n) → (ns : List Node) → OkNodes P ns → Ser.first S′ f (map (upNode k) ns) ≡ Ser.first S g ns
+  first-same : (f g : Node → Piece) → ((n : Node) → OkNode P n → f (upNode k n) ≡ g n) → (ns : List Node) → OkNodes P ns
+      → Ser.first S′ f (map (upNode k) ns) ≡ Ser.first S g ns
   unfolding Ser.first
   first-same f g h [] a = refl
   first-same f g h (n ∷ ns) a = h n (a .0)
@@ -48,7 +51,12 @@ module _ (S S′ : List ℕ) (k : ℕ) (P : ℕ → Type 0) (same-span : (p q : 
   ofKind-same t (n ∷ ns) = go (t (n .kind)) (ofKind-same t ns)
     where
       go : (v : Bool) → Ser.ofKind S′ t (map (upNode k) ns) ≡ map (upNode k) (Ser.ofKind S t ns)
-          → _≡_ {A = List Node} (elim v [ true ↦ upNode k n ∷ Ser.ofKind S′ t (map (upNode k) ns) | false ↦ Ser.ofKind S′ t (map (upNode k) ns) ]) (map (upNode k) (elim v [ true ↦ n ∷ Ser.ofKind S t ns | false ↦ Ser.ofKind S t ns ]))
+          → _≡_ {A = List Node}
+          (elim v [
+            | true ↦ upNode k n ∷ Ser.ofKind S′ t (map (upNode k) ns)
+            | false ↦ Ser.ofKind S′ t (map (upNode k) ns)
+          ])
+          (map (upNode k) (elim v [ true ↦ n ∷ Ser.ofKind S t ns | false ↦ Ser.ofKind S t ns ]))
       go true e = ap (λ r. upNode k n ∷ r) e
       go false e = e
 
@@ -62,10 +70,12 @@ module _ (S S′ : List ℕ) (k : ℕ) (P : ℕ → Type 0) (same-span : (p q : 
       go false b = b
 
   -- the same for the nodes of marks
-  each-inner : (f g : Node → Piece) → ((n : Node) → OkNode P n → f (upNode k n) ≡ g n) → (ms : List Mark) → OkMarks P ms → Ser.each f (nodes (moveUp k ms)) ≡ Ser.each g (nodes ms)
+  each-inner : (f g : Node → Piece) → ((n : Node) → OkNode P n → f (upNode k n) ≡ g n) → (ms : List Mark) → OkMarks P ms
+      → Ser.each f (nodes (moveUp k ms)) ≡ Ser.each g (nodes ms)
   each-inner f g h ms a = ap (Ser.each f) (nodes-up k ms) ∙ each-same f g h (nodes ms) (ok-nodes P ms a)
 
-  first-inner : (f g : Node → Piece) → ((n : Node) → OkNode P n → f (upNode k n) ≡ g n) → (ms : List Mark) → OkMarks P ms → Ser.first S′ f (nodes (moveUp k ms)) ≡ Ser.first S g (nodes ms)
+  first-inner : (f g : Node → Piece) → ((n : Node) → OkNode P n → f (upNode k n) ≡ g n) → (ms : List Mark)
+      → OkMarks P ms → Ser.first S′ f (nodes (moveUp k ms)) ≡ Ser.first S g (nodes ms)
   first-inner f g h ms a = ap (Ser.first S′ f) (nodes-up k ms) ∙ first-same f g h (nodes ms) (ok-nodes P ms a)
 
   kind-inner : (t : ℕ → Bool) (ms : List Mark) → Ser.ofKind S′ t (nodes (moveUp k ms)) ≡ map (upNode k) (Ser.ofKind S t (nodes ms))
@@ -85,14 +95,16 @@ module _ (S S′ : List ℕ) (k : ℕ) (P : ℕ → Type 0) (same-span : (p q : 
   unfolding Ser.isSelect
   isSelect-same zero es = refl
   isSelect-same (suc n) [] = refl
-  isSelect-same (suc n) (e ∷ es) = ap (λ v. elim (eqb (e .kind) 14) [ true ↦ true | false ↦ elim (eqb (e .kind) 13) [ true ↦ v | false ↦ false ] ])
+  isSelect-same (suc n) (e ∷ es) =
+      ap (λ v. elim (eqb (e .kind) 14) [ true ↦ true | false ↦ elim (eqb (e .kind) 13) [ true ↦ v | false ↦ false ] ])
       (ap (Ser.isSelect S′ n) (nodes-up k (e .inner)) ∙ isSelect-same n (nodes (e .inner)))
 
   multiline-element : (e : Node) → OkNode P e → Ser.multilineElement S′ (upNode k e) ≡ Ser.multilineElement S e
   unfolding Ser.multilineElement
   multiline-element e a = ap₂ (λ u v. elim (eqb (e .kind) 12) [ true ↦ u | false ↦ v ])
       (ap (Ser.hasNewline S′) (text-same e a) ∙ hasNewline-same (Ser.textOf S e))
-      (ap₂ (λ i es. Ser.isSelect S′ (suc i) es) (length-same (e .inner)) (nodes-up k (e .inner)) ∙ isSelect-same (suc (length (e .inner))) (nodes (e .inner)))
+      (ap₂ (λ i es. Ser.isSelect S′ (suc i) es) (length-same (e .inner)) (nodes-up k (e .inner))
+      ∙ isSelect-same (suc (length (e .inner))) (nodes (e .inner)))
 
   multiline-same : (es : List Node) → OkNodes P es → Ser.isMultiline S′ (map (upNode k) es) ≡ Ser.isMultiline S es
   unfolding Ser.isMultiline
@@ -108,7 +120,8 @@ module _ (S S′ : List ℕ) (k : ℕ) (P : ℕ → Type 0) (same-span : (p q : 
   unfolding Ser.reference
   reference-same [] a = refl
   reference-same (n ∷ ns) a = ap₂ (λ p q. p ⊕ q) (name-same n (a .0))
-      (each-same (λ x. literal (46 ∷ []) ⊕ Ser.name S′ x) (λ x. literal (46 ∷ []) ⊕ Ser.name S x) (λ x b. ap (λ p. literal (46 ∷ []) ⊕ p) (name-same x b)) ns (a .1))
+      (each-same (λ x. literal (46 ∷ []) ⊕ Ser.name S′ x) (λ x. literal (46 ∷ []) ⊕ Ser.name S x)
+      (λ x b. ap (λ p. literal (46 ∷ []) ⊕ p) (name-same x b)) ns (a .1))
 
   -- the functions that go into a pattern, n deep
   record Same (n : ℕ) : Type 0 where
@@ -125,87 +138,145 @@ module _ (S S′ : List ℕ) (k : ℕ) (P : ℕ → Type 0) (same-span : (p q : 
     namedArgument : (es : List Node) → OkNodes P es → Ser.namedArgument S′ n (map (upNode k) es) ≡ Ser.namedArgument S n es
 
   same-zero : Same 0
-  unfolding Ser.pattern Ser.element Ser.inBraces Ser.expression Ser.select Ser.variant Ser.inline Ser.arguments Ser.separated Ser.argument Ser.namedArgument
-  same-zero = record { pattern = λ ms a. refl; element = λ e a. refl; inBraces = λ e a. refl; expression = λ e a. refl; select = λ e a. refl; variant = λ e a. refl; inline = λ e a. refl; arguments = λ e a. refl; separated = λ v e a. refl; argument = λ e a. refl; namedArgument = λ e a. refl }
+  unfolding Ser.pattern Ser.element Ser.inBraces Ser.expression Ser.select Ser.variant Ser.inline Ser.arguments
+      Ser.separated Ser.argument Ser.namedArgument
+  same-zero =
+      record {
+        pattern = λ ms a. refl;
+        element = λ e a. refl;
+        inBraces = λ e a. refl;
+        expression = λ e a. refl;
+        select = λ e a. refl;
+        variant = λ e a. refl;
+        inline = λ e a. refl;
+        arguments = λ e a. refl;
+        separated = λ v e a. refl;
+        argument = λ e a. refl;
+        namedArgument = λ e a. refl;
+      }
 
   module _ (n : ℕ) (s : Same n) where
     pattern-suc : (ms : List Mark) → OkMarks P ms → Ser.pattern S′ (suc n) (moveUp k ms) ≡ Ser.pattern S (suc n) ms
     unfolding Ser.pattern
     pattern-suc ms a = ap₂ patternBy
-        (ap₂ (λ u v. not u && v) (ap (Ser.leadingDot S′) (nodes-up k ms) ∙ dot-same (nodes ms) (ok-nodes P ms a)) (ap (Ser.isMultiline S′) (nodes-up k ms) ∙ multiline-same (nodes ms) (ok-nodes P ms a)))
+        (ap₂ (λ u v. not u && v) (ap (Ser.leadingDot S′) (nodes-up k ms) ∙ dot-same (nodes ms) (ok-nodes P ms a))
+        (ap (Ser.isMultiline S′) (nodes-up k ms) ∙ multiline-same (nodes ms) (ok-nodes P ms a)))
         (each-inner (λ z. Ser.element S′ n z) (λ z. Ser.element S n z) (s .element) ms a)
 
     element-suc : (e : Node) → OkNode P e → Ser.element S′ (suc n) (upNode k e) ≡ Ser.element S (suc n) e
     unfolding Ser.element
-    element-suc e a = ap₂ (choice (eqb (e .kind) 12)) (name-same e a) (first-inner (λ z. Ser.inBraces S′ n z) (λ z. Ser.inBraces S n z) (s .inBraces) (e .inner) (a .2))
+    element-suc e a =
+        ap₂ (choice (eqb (e .kind) 12)) (name-same e a)
+        (first-inner (λ z. Ser.inBraces S′ n z) (λ z. Ser.inBraces S n z) (s .inBraces) (e .inner) (a .2))
 
     inBraces-suc : (e : Node) → OkNode P e → Ser.inBraces S′ (suc n) (upNode k e) ≡ Ser.inBraces S (suc n) e
     unfolding Ser.inBraces
     inBraces-suc e a = ap₂ (λ p q. choice (eqb (e .kind) 13) (literal (123 ∷ 123 ∷ 32 ∷ []) ⊕ p ⊕ literal (32 ∷ 125 ∷ 125 ∷ []))
-        (choice (eqb (e .kind) 14) (literal (123 ∷ 32 ∷ []) ⊕ q ⊕ literal (125 ∷ [])) (literal (123 ∷ 32 ∷ []) ⊕ q ⊕ literal (32 ∷ 125 ∷ []))))
+        (choice (eqb (e .kind) 14) (literal (123 ∷ 32 ∷ []) ⊕ q ⊕ literal (125 ∷ []))
+        (literal (123 ∷ 32 ∷ []) ⊕ q ⊕ literal (32 ∷ 125 ∷ []))))
         (first-inner (λ z. Ser.expression S′ n z) (λ z. Ser.expression S n z) (s .expression) (e .inner) (a .2)) (s .expression e a)
 
     expression-suc : (e : Node) → OkNode P e → Ser.expression S′ (suc n) (upNode k e) ≡ Ser.expression S (suc n) e
     unfolding Ser.expression
-    expression-suc e a = ap₂ (choice (eqb (e .kind) 14)) (ap (Ser.select S′ n) (nodes-up k (e .inner)) ∙ s .select (nodes (e .inner)) (ok-nodes P (e .inner) (a .2))) (s .inline e a)
+    expression-suc e a =
+        ap₂ (choice (eqb (e .kind) 14))
+        (ap (Ser.select S′ n) (nodes-up k (e .inner)) ∙ s .select (nodes (e .inner)) (ok-nodes P (e .inner) (a .2)))
+        (s .inline e a)
 
     select-suc : (es : List Node) → OkNodes P es → Ser.select S′ (suc n) (map (upNode k) es) ≡ Ser.select S (suc n) es
     unfolding Ser.select
     select-suc [] a = refl
     select-suc (x ∷ vs) a = ap₂ (λ p q. p ⊕ literal (32 ∷ 45 ∷ 62 ∷ []) ⊕ newline ⊕ indented q) (s .inline x (a .0))
-        (each-same (λ v. Ser.variant S′ n v ⊕ newline) (λ v. Ser.variant S n v ⊕ newline) (λ v b. ap (λ p. p ⊕ newline) (s .variant v b)) vs (a .1))
+        (each-same (λ v. Ser.variant S′ n v ⊕ newline) (λ v. Ser.variant S n v ⊕ newline)
+        (λ v b. ap (λ p. p ⊕ newline) (s .variant v b)) vs (a .1))
 
     variant-suc : (e : Node) → OkNode P e → Ser.variant S′ (suc n) (upNode k e) ≡ Ser.variant S (suc n) e
     unfolding Ser.variant
     variant-suc e a = ap₂ (λ p q. Ser.if (eqb (e .kind) 16) star ⊕ literal (91 ∷ []) ⊕ p ⊕ literal (93 ∷ []) ⊕ q)
         (first-inner (Ser.name S′) (Ser.name S) name-same (e .inner) (a .2))
         (ap (Ser.first S′ (λ p. Ser.pattern S′ n (p .inner))) (kind-inner (λ j. eqb j 11) (e .inner))
-        ∙ first-same (λ p. Ser.pattern S′ n (p .inner)) (λ p. Ser.pattern S n (p .inner)) (λ p b. s .pattern (p .inner) (b .2)) (Ser.ofKind S (λ j. eqb j 11) (nodes (e .inner))) (ofKind-ok (λ j. eqb j 11) (nodes (e .inner)) (ok-nodes P (e .inner) (a .2))))
+        ∙ first-same (λ p. Ser.pattern S′ n (p .inner)) (λ p. Ser.pattern S n (p .inner))
+        (λ p b. s .pattern (p .inner) (b .2)) (Ser.ofKind S (λ j. eqb j 11) (nodes (e .inner)))
+        (ofKind-ok (λ j. eqb j 11) (nodes (e .inner)) (ok-nodes P (e .inner) (a .2))))
 
     inline-suc : (e : Node) → OkNode P e → Ser.inline S′ (suc n) (upNode k e) ≡ Ser.inline S (suc n) e
     unfolding Ser.inline
     inline-suc e a =
         ap₂ (λ p q. choice (eqb (e .kind) 19) (literal (34 ∷ []) ⊕ p ⊕ literal (34 ∷ [])) (choice (eqb (e .kind) 20) p q)) (name-same e a)
-        (ap₂ (λ p q. choice (eqb (e .kind) 13) (literal (123 ∷ []) ⊕ p ⊕ literal (125 ∷ [])) (Ser.if (eqb (e .kind) 21) (literal (36 ∷ [])) ⊕ Ser.if (eqb (e .kind) 24) (literal (45 ∷ [])) ⊕ q))
+        (ap₂
+        (λ p q. choice (eqb (e .kind) 13) (literal (123 ∷ []) ⊕ p ⊕ literal (125 ∷ []))
+        (Ser.if (eqb (e .kind) 21) (literal (36 ∷ [])) ⊕ Ser.if (eqb (e .kind) 24) (literal (45 ∷ [])) ⊕ q))
         (first-inner (λ z. Ser.expression S′ n z) (λ z. Ser.expression S n z) (s .expression) (e .inner) (a .2))
         (ap₂ (λ p q. p ⊕ q)
-        (ap (Ser.reference S′) (kind-inner (λ j. eqb j 9) (e .inner)) ∙ reference-same (Ser.ofKind S (λ j. eqb j 9) (nodes (e .inner))) (ofKind-ok (λ j. eqb j 9) (nodes (e .inner)) (ok-nodes P (e .inner) (a .2))))
+        (ap (Ser.reference S′) (kind-inner (λ j. eqb j 9) (e .inner))
+        ∙ reference-same (Ser.ofKind S (λ j. eqb j 9) (nodes (e .inner)))
+        (ofKind-ok (λ j. eqb j 9) (nodes (e .inner)) (ok-nodes P (e .inner) (a .2))))
         (ap (Ser.each (λ z. Ser.arguments S′ n (nodes (z .inner)))) (kind-inner (λ j. eqb j 25) (e .inner))
-        ∙ each-same (λ z. Ser.arguments S′ n (nodes (z .inner))) (λ z. Ser.arguments S n (nodes (z .inner))) (λ z b. ap (Ser.arguments S′ n) (nodes-up k (z .inner)) ∙ s .arguments (nodes (z .inner)) (ok-nodes P (z .inner) (b .2)))
+        ∙ each-same (λ z. Ser.arguments S′ n (nodes (z .inner))) (λ z. Ser.arguments S n (nodes (z .inner)))
+        (λ z b. ap (Ser.arguments S′ n) (nodes-up k (z .inner))
+        ∙ s .arguments (nodes (z .inner)) (ok-nodes P (z .inner) (b .2)))
         (Ser.ofKind S (λ j. eqb j 25) (nodes (e .inner))) (ofKind-ok (λ j. eqb j 25) (nodes (e .inner)) (ok-nodes P (e .inner) (a .2))))))
 
     arguments-suc : (es : List Node) → OkNodes P es → Ser.arguments S′ (suc n) (map (upNode k) es) ≡ Ser.arguments S (suc n) es
     unfolding Ser.arguments
     arguments-suc es a = ap (λ p. literal (40 ∷ []) ⊕ p ⊕ literal (41 ∷ [])) (s .separated false es a)
 
-    separated-suc : (v : Bool) (es : List Node) → OkNodes P es → Ser.separated S′ (suc n) v (map (upNode k) es) ≡ Ser.separated S (suc n) v es
+    separated-suc : (v : Bool) (es : List Node) → OkNodes P es
+        → Ser.separated S′ (suc n) v (map (upNode k) es) ≡ Ser.separated S (suc n) v es
     unfolding Ser.separated
     separated-suc v [] a = refl
     separated-suc v (x ∷ xs) a = ap₂ (λ p q. Ser.if v (literal (44 ∷ 32 ∷ [])) ⊕ p ⊕ q) (s .argument x (a .0)) (s .separated true xs (a .1))
 
     argument-suc : (e : Node) → OkNode P e → Ser.argument S′ (suc n) (upNode k e) ≡ Ser.argument S (suc n) e
     unfolding Ser.argument
-    argument-suc e a = ap₂ (choice (eqb (e .kind) 26)) (ap (Ser.namedArgument S′ n) (nodes-up k (e .inner)) ∙ s .namedArgument (nodes (e .inner)) (ok-nodes P (e .inner) (a .2))) (s .inline e a)
+    argument-suc e a =
+        ap₂ (choice (eqb (e .kind) 26))
+        (ap (Ser.namedArgument S′ n) (nodes-up k (e .inner))
+        ∙ s .namedArgument (nodes (e .inner)) (ok-nodes P (e .inner) (a .2)))
+        (s .inline e a)
 
     named-suc : (es : List Node) → OkNodes P es → Ser.namedArgument S′ (suc n) (map (upNode k) es) ≡ Ser.namedArgument S (suc n) es
     unfolding Ser.namedArgument
     named-suc [] a = refl
-    named-suc (i ∷ xs) a = ap₂ (λ p q. p ⊕ literal (58 ∷ 32 ∷ []) ⊕ q) (name-same i (a .0)) (first-same (λ z. Ser.inline S′ n z) (λ z. Ser.inline S n z) (s .inline) xs (a .1))
+    named-suc (i ∷ xs) a =
+        ap₂ (λ p q. p ⊕ literal (58 ∷ 32 ∷ []) ⊕ q) (name-same i (a .0))
+        (first-same (λ z. Ser.inline S′ n z) (λ z. Ser.inline S n z) (s .inline) xs (a .1))
 
   same : (n : ℕ) → Same n
   same zero = same-zero
-  same (suc n) = let s = same n in record { pattern = pattern-suc n s; element = element-suc n s; inBraces = inBraces-suc n s; expression = expression-suc n s; select = select-suc n s; variant = variant-suc n s; inline = inline-suc n s; arguments = arguments-suc n s; separated = separated-suc n s; argument = argument-suc n s; namedArgument = named-suc n s }
+  same (suc n) = let s = same n in
+      record {
+        pattern = pattern-suc n s;
+        element = element-suc n s;
+        inBraces = inBraces-suc n s;
+        expression = expression-suc n s;
+        select = select-suc n s;
+        variant = variant-suc n s;
+        inline = inline-suc n s;
+        arguments = arguments-suc n s;
+        separated = separated-suc n s;
+        argument = argument-suc n s;
+        namedArgument = named-suc n s;
+      }
 
   -- entries
-  pattern-first : (i : ℕ) (ms : List Mark) → OkMarks P ms → Ser.first S′ (λ p. Ser.pattern S′ i (p .inner)) (Ser.ofKind S′ (λ j. eqb j 11) (nodes (moveUp k ms))) ≡ Ser.first S (λ p. Ser.pattern S i (p .inner)) (Ser.ofKind S (λ j. eqb j 11) (nodes ms))
+  pattern-first : (i : ℕ) (ms : List Mark) → OkMarks P ms
+      → Ser.first S′ (λ p. Ser.pattern S′ i (p .inner)) (Ser.ofKind S′ (λ j. eqb j 11) (nodes (moveUp k ms)))
+      ≡ Ser.first S (λ p. Ser.pattern S i (p .inner)) (Ser.ofKind S (λ j. eqb j 11) (nodes ms))
   pattern-first i ms a = ap (Ser.first S′ (λ p. Ser.pattern S′ i (p .inner))) (kind-inner (λ j. eqb j 11) ms)
-      ∙ first-same (λ p. Ser.pattern S′ i (p .inner)) (λ p. Ser.pattern S i (p .inner)) (λ p b. same i .pattern (p .inner) (b .2)) (Ser.ofKind S (λ j. eqb j 11) (nodes ms)) (ofKind-ok (λ j. eqb j 11) (nodes ms) (ok-nodes P ms a))
+      ∙ first-same (λ p. Ser.pattern S′ i (p .inner)) (λ p. Ser.pattern S i (p .inner))
+      (λ p b. same i .pattern (p .inner) (b .2)) (Ser.ofKind S (λ j. eqb j 11) (nodes ms))
+      (ofKind-ok (λ j. eqb j 11) (nodes ms) (ok-nodes P ms a))
 
   attribute-same : (e : Node) → OkNode P e → Ser.attribute S′ (upNode k e) ≡ Ser.attribute S e
   unfolding Ser.attribute
   attribute-same e a = ap₂ (λ p q. newline ⊕ literal (46 ∷ []) ⊕ p ⊕ literal (32 ∷ 61 ∷ []) ⊕ q)
       (first-inner (Ser.name S′) (Ser.name S) name-same (e .inner) (a .2))
-      (ap (λ i. Ser.first S′ (λ p. Ser.pattern S′ i (p .inner)) (Ser.ofKind S′ (λ j. eqb j 11) (nodes (moveUp k (e .inner))))) (length-same (e .inner)) ∙ pattern-first (length (e .inner)) (e .inner) (a .2))
+      (ap
+      (λ i. Ser.first S′ (λ p. Ser.pattern S′ i (p .inner))
+      (Ser.ofKind S′ (λ j. eqb j 11) (nodes (moveUp k (e .inner)))))
+      (length-same (e .inner))
+      ∙ pattern-first (length (e .inner)) (e .inner) (a .2))
 
   attributes-same : (ns : List Node) → OkNodes P ns → Ser.attributes S′ (map (upNode k) ns) ≡ Ser.attributes S ns
   unfolding Ser.attributes Ser.isEmpty
@@ -219,18 +290,25 @@ module _ (S S′ : List ℕ) (k : ℕ) (P : ℕ → Type 0) (same-span : (p q : 
       (ap₂ (λ p q. p ⊕ q ⊕ newline)
       (ap (λ i. Ser.each (λ p. Ser.pattern S′ i (p .inner)) (Ser.ofKind S′ (λ j. eqb j 11) (nodes (moveUp k ms)))) (length-same ms)
       ∙ ap (Ser.each (λ p. Ser.pattern S′ (length ms) (p .inner))) (kind-inner (λ j. eqb j 11) ms)
-      ∙ each-same (λ p. Ser.pattern S′ (length ms) (p .inner)) (λ p. Ser.pattern S (length ms) (p .inner)) (λ p b. same (length ms) .pattern (p .inner) (b .2)) (Ser.ofKind S (λ j. eqb j 11) (nodes ms)) (ofKind-ok (λ j. eqb j 11) (nodes ms) (ok-nodes P ms a)))
-      (ap (Ser.attributes S′) (kind-inner (λ j. eqb j 10) ms) ∙ attributes-same (Ser.ofKind S (λ j. eqb j 10) (nodes ms)) (ofKind-ok (λ j. eqb j 10) (nodes ms) (ok-nodes P ms a))))
+      ∙ each-same (λ p. Ser.pattern S′ (length ms) (p .inner)) (λ p. Ser.pattern S (length ms) (p .inner))
+      (λ p b. same (length ms) .pattern (p .inner) (b .2)) (Ser.ofKind S (λ j. eqb j 11) (nodes ms))
+      (ofKind-ok (λ j. eqb j 11) (nodes ms) (ok-nodes P ms a)))
+      (ap (Ser.attributes S′) (kind-inner (λ j. eqb j 10) ms)
+      ∙ attributes-same (Ser.ofKind S (λ j. eqb j 10) (nodes ms))
+      (ofKind-ok (λ j. eqb j 10) (nodes ms) (ok-nodes P ms a))))
 
   line-same : (prefix : List ℕ) (e : Node) → OkNode P e → Ser.commentLine S′ prefix (upNode k e) ≡ Ser.commentLine S prefix e
   unfolding Ser.commentLine Ser.blankLine
-  line-same prefix e a = ap (λ t. literal prefix ⊕ Ser.if (not (Ser.blankLine S t)) (literal (32 ∷ []) ⊕ literal t) ⊕ newline) (text-same e a)
+  line-same prefix e a =
+      ap (λ t. literal prefix ⊕ Ser.if (not (Ser.blankLine S t)) (literal (32 ∷ []) ⊕ literal t) ⊕ newline)
+      (text-same e a)
 
   comment-same : (prefix : List ℕ) (ms : List Mark) → OkMarks P ms → Ser.comment S′ prefix (moveUp k ms) ≡ Ser.comment S prefix ms
   unfolding Ser.comment
   comment-same prefix ms a = each-inner (Ser.commentLine S′ prefix) (Ser.commentLine S prefix) (line-same prefix) ms a
 
-  free-same : (w : Bool) (prefix : List ℕ) (ms : List Mark) → OkMarks P ms → Ser.freeComment S′ w prefix (moveUp k ms) ≡ Ser.freeComment S w prefix ms
+  free-same : (w : Bool) (prefix : List ℕ) (ms : List Mark) → OkMarks P ms
+      → Ser.freeComment S′ w prefix (moveUp k ms) ≡ Ser.freeComment S w prefix ms
   unfolding Ser.freeComment
   free-same w prefix ms a = ap (λ p. Ser.if w newline ⊕ p ⊕ newline) (comment-same prefix ms a)
 
@@ -244,7 +322,9 @@ module _ (S S′ : List ℕ) (k : ℕ) (P : ℕ → Type 0) (same-span : (p q : 
       (ap₂ (choice (eqb (e .kind) 5)) (free-same w (35 ∷ 35 ∷ 35 ∷ []) (e .inner) (a .2))
       (ap (λ p. Ser.if (eqb (e .kind) 2) (literal (45 ∷ [])) ⊕ p) (message-same (e .inner) (a .2)))))))
 
-  pub resource-same : (junk w : Bool) (ns : List Node) → OkNodes P ns → Ser.resource S′ junk w (map (upNode k) ns) ≡ Ser.resource S junk w ns
+  pub resource-same : (junk w : Bool) (ns : List Node) → OkNodes P ns
+      → Ser.resource S′ junk w (map (upNode k) ns) ≡ Ser.resource S junk w ns
   unfolding Ser.resource Ser.wroteBy
   resource-same junk w [] a = refl
-  resource-same junk w (n ∷ ns) a = ap₂ (λ p q. p ⊕ q) (entry-same junk w n (a .0)) (resource-same junk (Ser.wroteBy S w (n .kind)) ns (a .1))
+  resource-same junk w (n ∷ ns) a =
+      ap₂ (λ p q. p ⊕ q) (entry-same junk w n (a .0)) (resource-same junk (Ser.wroteBy S w (n .kind)) ns (a .1))

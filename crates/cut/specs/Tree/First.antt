@@ -44,7 +44,8 @@ module _ (s : List ℕ) (hash : startsWith 35 s ≡ true) where
   line-level : (r : List ℕ) → drop (levelOf s) s ≡ r → (l : ℕ) (ms : List Mark) (k : ℕ) → getComment s ≡ ok l ms k → hashes s ≡ levelOf s
   unfolding hashes getComment repeat loop levelOf
   line-level [] d l ms k e = omega (arith, ap length d, length-drop (levelOf s) s, run-le (λ b. eqb b 35) s)
-  line-level (c ∷ cs) d l ms k e = byCase (eqb c 35) (λ q. absurd (no (fourth-hash (levelOf s) c cs (eqb-true c 35 q)))) (λ q. level-run s c cs d q)
+  line-level (c ∷ cs) d l ms k e =
+      byCase (eqb c 35) (λ q. absurd (no (fourth-hash (levelOf s) c cs (eqb-true c 35 q)))) (λ q. level-run s c cs d q)
     where
       no : (f : ParserError) × (j : ℕ) × (lineTurn 0 (levelOf s) (c ∷ cs) ≡ done (bad f j)) → ⊥
       no (f, j, t) =
@@ -55,11 +56,13 @@ module _ (s : List ℕ) (hash : startsWith 35 s ≡ true) where
   comment-level : (l : ℕ) (ms : List Mark) (k : ℕ) → getComment s ≡ ok l ms k → hashes s ≡ l
   unfolding getComment repeat
   comment-level l ms k e =
-      line-level (drop (levelOf s) s) refl l ms k e ∙ sym (subst (Holds (Levelled 0 s)) e (levelled (suc (length s)) 0 s) .1 refl (levelOf-some s hash))
+      line-level (drop (levelOf s) s) refl l ms k e
+      ∙ sym (subst (Holds (Levelled 0 s)) e (levelled (suc (length s)) 0 s) .1 refl (levelOf-some s hash))
 
 -- ---- the kind of an entry tells what it is
 
-comment-kind : (l : ℕ) (v : Bool) → 0 < l → l ≤ 3 → (isComment (kindOfEntry (comment l) v) ≡ true) × (isNamed (kindOfEntry (comment l) v) ≡ false)
+comment-kind : (l : ℕ) (v : Bool) → 0 < l → l ≤ 3 → (isComment (kindOfEntry (comment l) v) ≡ true)
+    × (isNamed (kindOfEntry (comment l) v) ≡ false)
 unfolding kindOfEntry isComment isNamed
 comment-kind zero v p q = absurd (omega arith)
 comment-kind (suc zero) true p q = (refl, refl)
@@ -72,7 +75,8 @@ module _ (sub : Inside) where
   entry-level : (b : ℕ) (bs : List ℕ) (l : ℕ) (ms : List Mark) (k : ℕ) → getEntry sub (b ∷ bs) ≡ ok (comment l) ms k → hashes (b ∷ bs) ≡ l
   unfolding startsWith
   entry-level b bs l ms k e = byCase (eqb b 35)
-      (λ q. let (i, c, g) = asComment-ok (getComment (b ∷ bs)) (comment l) ms k (sym (entry-comment sub b bs q) ∙ e) in comment-level (b ∷ bs) q l ms k (g ∙ ap (λ z. ok z ms k) (same i c)))
+      (λ q. let (i, c, g) = asComment-ok (getComment (b ∷ bs)) (comment l) ms k (sym (entry-comment sub b bs q) ∙ e) in
+      comment-level (b ∷ bs) q l ms k (g ∙ ap (λ z. ok z ms k) (same i c)))
       (λ q. absurd (no (named-entry sub b bs (comment l) ms k q e)))
     where
       same : (i : ℕ) → comment l ≡ comment i → i ≡ l
@@ -93,7 +97,8 @@ module _ (sub : Inside) where
       by (Claim.level c e) = clash c p
       by (Claim.named c e) = clash c q
 
-  kind-alike : (b : ℕ) (bs : List ℕ) (e : Entry) (ms : List Mark) (k : ℕ) (v : Bool) → getEntry sub (b ∷ bs) ≡ ok e ms k → Alike (b ∷ bs) (kindOfEntry e v) (ok e ms k)
+  kind-alike : (b : ℕ) (bs : List ℕ) (e : Entry) (ms : List Mark) (k : ℕ) (v : Bool) → getEntry sub (b ∷ bs) ≡ ok e ms k
+      → Alike (b ∷ bs) (kindOfEntry e v) (ok e ms k)
   unfolding Joins kindOfEntry isComment isNamed
   kind-alike b bs message ms k v h l = (by, λ j. Claim.named refl j)
     where
@@ -117,18 +122,24 @@ module _ (sub : Inside) where
       by (Claim.level c e) = sym lev ∙ e
       by (Claim.named c e) = clash c (kind .1)
 
-  first-alike : {s : List ℕ} {ms : List Mark} {es : List Error} {k : ℕ} → Passed sub s ms es k → length s ≤ k → Alike s (firstEntry (map kindOf ms)) (getEntry sub s)
+  first-alike : {s : List ℕ} {ms : List Mark} {es : List Error} {k : ℕ} → Passed sub s ms es k → length s ≤ k
+      → Alike s (firstEntry (map kindOf ms)) (getEntry sub s)
   unfolding firstEntry node textNode isComment isNamed Joins
-  first-alike {s} none z = let (f, k, e) = nil-entry sub in subst (λ r. Alike r 0 (getEntry sub r)) (sym (empty s z)) (neither [] 0 (getEntry sub []) refl refl (λ l j. subst (Joins l) e j))
+  first-alike {s} none z = let (f, k, e) = nil-entry sub in
+      subst (λ r. Alike r 0 (getEntry sub r)) (sym (empty s z))
+      (neither [] 0 (getEntry sub []) refl refl (λ l j. subst (Joins l) e j))
     where
       empty : (r : List ℕ) → length r ≤ 0 → r ≡ []
       empty [] h = refl
       empty (c ∷ cs) h = absurd (omega arith)
-  first-alike (more {b} {bs} (entry {e} {ms} {k} h) p) z = subst (Alike (b ∷ bs) (kindOfEntry e (near sub (b ∷ bs) k))) (sym h) (kind-alike b bs e ms k (near sub (b ∷ bs) k) h)
+  first-alike (more {b} {bs} (entry {e} {ms} {k} h) p) z =
+      subst (Alike (b ∷ bs) (kindOfEntry e (near sub (b ∷ bs) k))) (sym h)
+      (kind-alike b bs e ms k (near sub (b ∷ bs) k) h)
   first-alike (more {b} {bs} (junk {f} {k} h) p) z = neither (b ∷ bs) 7 (getEntry sub (b ∷ bs)) refl refl (λ l j. subst (Joins l) h j)
 
 module _ (n : ℕ) (s : List ℕ) (ms : List Mark) (es : List Error) (reads : entries (suc (length s)) (level n) s ≡ read ms es) (l : ℕ) where
-  alike : (Claim.Joins l s (firstEntry (map kindOf ms)) → Joins l (getEntry (level n) s)) × (Joins l (getEntry (level n) s) → Claim.Joins l s (firstEntry (map kindOf ms)))
+  alike : (Claim.Joins l s (firstEntry (map kindOf ms)) → Joins l (getEntry (level n) s))
+      × (Joins l (getEntry (level n) s) → Claim.Joins l s (firstEntry (map kindOf ms)))
   alike = first-alike (level n) (entries-read (level-bounds n) (suc (length s)) s (omega arith) reads) (omega arith) l
 
   pub joins-entry : Claim.Joins l s (firstEntry (map kindOf ms)) → Joins l (getEntry (level n) s)

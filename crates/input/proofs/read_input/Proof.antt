@@ -13,7 +13,8 @@ use Rattle.input.proofs.read_input.Statement.{statement}
 use Rattle.input.proofs.read_input.Tie as tie
 
 -- the bytes that come fit into the rest of the buffer
-within : (b : List ℕ) (a : ℕ) (y : List ℕ) {r : Input} {n : ℕ} → r ≡ Bytes n → Within y r → length y ≡ length (midOf a (length b - a) b) → a ≤ length b → a + n ≤ length b
+within : (b : List ℕ) (a : ℕ) (y : List ℕ) {r : Input} {n : ℕ} → r ≡ Bytes n → Within y r
+    → length y ≡ length (midOf a (length b - a) b) → a ≤ length b → a + n ≤ length b
 within b a y {r} {n} e w k l = let h : n ≤ length y = rw e at w in omega (arith, length-take (length b - a) (drop a b), length-drop a b)
 
 abbrev Inv-loop : tie.InvT-loop
@@ -50,13 +51,41 @@ returns : tie.Need-returns Inv-loop μ-loop
 returns c = search needs
 
 add-done : tie.Need-add-done Inv-loop μ-loop
-add-done c = omega (arith, within (c .before .before .before .before .before .before .before .before .before .loop .buffer) (c .before .before .before .before .before .before .before .before .before .loop .done) (c .before .before .before .before .before .before .read-some .last .0) (c .before .before .n .given .1) (c .before .before .before .before .before .before .read-some .ensures) (c .before .before .before .before .before .before .read-some .kept .0) (c .before .before .before .before .before .before .before .before .before .loop .inv .1))
+add-done c =
+    omega (
+      arith,
+      within (c .before .before .before .before .before .before .before .before .before .loop .buffer)
+          (c .before .before .before .before .before .before .before .before .before .loop .done)
+          (c .before .before .before .before .before .before .read-some .last .0) (c .before .before .n .given .1)
+          (c .before .before .before .before .before .before .read-some .ensures)
+          (c .before .before .before .before .before .before .read-some .kept .0)
+          (c .before .before .before .before .before .before .before .before .before .loop .inv .1),
+    )
 
 loop-less : tie.Need-loop-less Inv-loop μ-loop
 loop-less c = search needs
 
 loop-again : tie.Need-loop-again Inv-loop μ-loop
-loop-again c = let s = same-len-mid (c .before .before .before .before .before .before .before .before .before .loop .done) (length (c .before .before .before .before .before .before .before .before .before .loop .buffer) - c .before .before .before .before .before .before .before .before .before .loop .done) (c .before .before .before .before .before .before .before .before .before .loop .buffer) (c .before .before .before .before .before .before .read-some .last .0) (c .before .before .before .before .before .before .read-some .kept .0) in (s ∙ c .before .before .before .before .before .before .before .before .before .loop .inv .0, omega (arith, within (c .before .before .before .before .before .before .before .before .before .loop .buffer) (c .before .before .before .before .before .before .before .before .before .loop .done) (c .before .before .before .before .before .before .read-some .last .0) (c .before .before .n .given .1) (c .before .before .before .before .before .before .read-some .ensures) (c .before .before .before .before .before .before .read-some .kept .0) (c .before .before .before .before .before .before .before .before .before .loop .inv .1)))
+loop-again c = let s =
+    same-len-mid (c .before .before .before .before .before .before .before .before .before .loop .done)
+    (length
+    (c .before .before .before .before .before .before .before .before .before .loop .buffer) - c .before .before
+    .before .before .before .before .before .before .before .loop .done)
+    (c .before .before .before .before .before .before .before .before .before .loop .buffer)
+    (c .before .before .before .before .before .before .read-some .last .0)
+    (c .before .before .before .before .before .before .read-some .kept .0) in (
+      s
+          ∙ c .before .before .before .before .before .before .before .before .before .loop .inv .0,
+      omega (
+        arith,
+        within (c .before .before .before .before .before .before .before .before .before .loop .buffer)
+            (c .before .before .before .before .before .before .before .before .before .loop .done)
+            (c .before .before .before .before .before .before .read-some .last .0) (c .before .before .n .given .1)
+            (c .before .before .before .before .before .before .read-some .ensures)
+            (c .before .before .before .before .before .before .read-some .kept .0)
+            (c .before .before .before .before .before .before .before .before .before .loop .inv .1),
+      ),
+    )
 
 same-length-2 : tie.Need-same-length-2 Inv-loop μ-loop
 same-length-2 c = search needs

@@ -10,9 +10,12 @@ use borrow.Author.Tests.{eqb-false, ltb-true}
 use Rattle.syntax.specs.declared.errors.ErrorKind.the-variants.{ExpectedToken, ExpectedCharRange}
 use Rattle.syntax.specs.Bytes.{startsWith, starts, isLetter, isDigit, isNamePart, isHex, spaces, eol, run}
 use Rattle.syntax.specs.Reader.{Out, ok, again, done}
-use Rattle.syntax.specs.Helper.{skipBlankInline, skipEol, blankTurn, skipBlank, blockTurn, skipBlankBlock, takeByteIf, expectByte, skipDigits, fraction, number, asText, getNumberLiteral, getIdentifier, skipUnicodeEscapeSequence}
+use Rattle.syntax.specs.Helper.{skipBlankInline, skipEol, blankTurn, skipBlank, blockTurn, skipBlankBlock, takeByteIf}
+use Rattle.syntax.specs.Helper.{expectByte, skipDigits, fraction, number, asText, getNumberLiteral, getIdentifier}
+use Rattle.syntax.specs.Helper.{skipUnicodeEscapeSequence}
 use Rattle.laws.specs.Bytes.{clash, pick, run-le, spaces-le, eol-le, startsWith-some}
-use Rattle.laws.specs.Bounds.{uses-nil, uses-text, Bounded, used, stopped, tooDeep, Bounds, bind, then, less, pure-bounds, fail-bounds, TurnBounded, goes, ends, TurnBounds, repeat-bounds}
+use Rattle.laws.specs.Bounds.{uses-nil, uses-text, Bounded, used, stopped, tooDeep, Bounds, bind, then, less}
+use Rattle.laws.specs.Bounds.{pure-bounds, fail-bounds, TurnBounded, goes, ends, TurnBounds, repeat-bounds}
 
 pub name-some : (s : List ℕ) → starts isLetter s ≡ true → 0 < run isNamePart s
 unfolding starts run isNamePart
@@ -32,7 +35,9 @@ module _ {n : ℕ} where
   unfolding blankTurn
   blankTurn-bounds = record {
     on = λ u s. pick (TurnBounded n 1 0 s) (startsWith 32 s) _ _ (λ q. goes (uses-nil 1 (startsWith-some 32 s q) (omega arith)))
-        (λ q. pick (TurnBounded n 1 0 s) (ltb 0 (eol s)) _ _ (λ l. goes (uses-nil (eol s) (eol-le s) (omega (arith, ltb-true 0 (eol s) l)))) (λ l. ends (used (uses-nil 0 (omega arith) (omega arith)))));
+        (λ q. pick (TurnBounded n 1 0 s) (ltb 0 (eol s)) _ _
+        (λ l. goes (uses-nil (eol s) (eol-le s) (omega (arith, ltb-true 0 (eol s) l))))
+        (λ l. ends (used (uses-nil 0 (omega arith) (omega arith)))));
   }
 
   pub blank-bounds : Bounds n (λ _. 0) skipBlank
@@ -45,7 +50,12 @@ module _ {n : ℕ} where
     where
       go : (i : ℕ) (s : List ℕ) (e : ℕ) → e ≤ length (drop (spaces s) s)
           → TurnBounded {S = ℕ} {A = ℕ} n 1 0 s (elim (ltb 0 e) [ true ↦ again (suc i) [] (spaces s + e) | false ↦ done (ok i [] 0) ])
-      go i s e h = pick (TurnBounded n 1 0 s) (ltb 0 e) _ _ (λ l. goes (uses-nil (spaces s + e) (omega (arith, length-drop (spaces s) s, spaces-le s)) (omega (arith, ltb-true 0 e l)))) (λ l. ends (used (uses-nil 0 (omega arith) (omega arith))))
+      go i s e h =
+          pick (TurnBounded n 1 0 s) (ltb 0 e) _ _
+          (λ l. goes
+          (uses-nil (spaces s + e) (omega (arith, length-drop (spaces s) s, spaces-le s))
+          (omega (arith, ltb-true 0 e l))))
+          (λ l. ends (used (uses-nil 0 (omega arith) (omega arith))))
 
   pub block-bounds : Bounds n (λ _. 0) skipBlankBlock
   unfolding skipBlankBlock
@@ -53,16 +63,29 @@ module _ {n : ℕ} where
 
   pub takeByteIf-bounds : (b : ℕ) → Bounds n (λ _. 0) (takeByteIf b)
   unfolding takeByteIf
-  takeByteIf-bounds b = record { on = λ s. pick (Bounded n (λ _. 0) s) (startsWith b s) _ _ (λ q. used (uses-nil 1 (startsWith-some b s q) (omega arith))) (λ q. used (uses-nil 0 (omega arith) (omega arith))) }
+  takeByteIf-bounds b =
+      record {
+        on =
+            λ s. pick (Bounded n (λ _. 0) s) (startsWith b s) _ _
+            (λ q. used (uses-nil 1 (startsWith-some b s q) (omega arith)))
+            (λ q. used (uses-nil 0 (omega arith) (omega arith)));
+      }
 
   pub expectByte-bounds : (b : ℕ) → Bounds n (λ _. 8) (expectByte b)
   unfolding expectByte
-  expectByte-bounds b = record { on = λ s. pick (Bounded n (λ _. 8) s) (startsWith b s) _ _ (λ q. used (uses-nil 1 (startsWith-some b s q) (omega arith))) (λ q. fail-bounds (ExpectedToken b) .on s) }
+  expectByte-bounds b =
+      record {
+        on =
+            λ s. pick (Bounded n (λ _. 8) s) (startsWith b s) _ _
+            (λ q. used (uses-nil 1 (startsWith-some b s q) (omega arith))) (λ q. fail-bounds (ExpectedToken b) .on s);
+      }
 
   pub digits-bounds : Bounds n (λ _. 8) skipDigits
   unfolding skipDigits
   digits-bounds = record {
-    on = λ s. pick (Bounded n (λ _. 8) s) (eqb (run isDigit s) 0) _ _ (λ q. fail-bounds (ExpectedCharRange 3) .on s) (λ q. used (uses-nil (run isDigit s) (run-le isDigit s) (omega (arith, eqb-false (run isDigit s) 0 q))));
+    on =
+        λ s. pick (Bounded n (λ _. 8) s) (eqb (run isDigit s) 0) _ _ (λ q. fail-bounds (ExpectedCharRange 3) .on s)
+        (λ q. used (uses-nil (run isDigit s) (run-le isDigit s) (omega (arith, eqb-false (run isDigit s) 0 q))));
   }
 
   fraction-bounds : (v : Bool) → Bounds n (λ _. 0) (fraction v)
@@ -96,5 +119,7 @@ module _ {n : ℕ} where
   unfolding skipUnicodeEscapeSequence
   escape-bounds len = record {
     on = λ s. let i = min len (run isHex s) in
-        pick (Bounded n (λ _. 0) s) (eqb i len) _ _ (λ q. used (uses-nil i (omega (arith, run-le isHex s)) (omega arith))) (λ q. stopped i (omega (arith, run-le isHex s)));
+        pick (Bounded n (λ _. 0) s) (eqb i len) _ _
+        (λ q. used (uses-nil i (omega (arith, run-le isHex s)) (omega arith)))
+        (λ q. stopped i (omega (arith, run-le isHex s)));
   }

@@ -23,12 +23,16 @@ use Rattle.laws.specs.Formed.Reader.{at, by, stopped, Makes, skips, Turn
 eol-clear : (s : List ℕ) → ltb 0 (eol s) ≡ true → clear s ≡ true
 unfolding eol clear startsWith
 eol-clear [] q = refl
-eol-clear (b ∷ bs) q = byCase (eqb b 10) (ascii-of 10 refl b) (λ z. byCase (eqb b 13) (ascii-of 13 refl b) (λ y. absurd (omega (arith, ltb-true 0 0 (rw (z, eol, y) at q)))))
+eol-clear (b ∷ bs) q =
+    byCase (eqb b 10) (ascii-of 10 refl b)
+    (λ z. byCase (eqb b 13) (ascii-of 13 refl b) (λ y. absurd (omega (arith, ltb-true 0 0 (rw (z, eol, y) at q)))))
 
 lineLength-clear : (s : List ℕ) → clear (drop (lineLength s) s) ≡ true
 unfolding lineLength
 lineLength-clear [] = unfold clear in refl
-lineLength-clear (b ∷ bs) = byCase (ltb 0 (eol (b ∷ bs))) (λ q. rw (q, lineLength) (eol-clear (b ∷ bs) q)) (λ q. rw (q, lineLength) (lineLength-clear bs))
+lineLength-clear (b ∷ bs) =
+    byCase (ltb 0 (eol (b ∷ bs))) (λ q. rw (q, lineLength) (eol-clear (b ∷ bs) q))
+    (λ q. rw (q, lineLength) (lineLength-clear bs))
 
 lineEndUsed-edge : (r : List ℕ) → edge r (lineEndUsed r) ≡ true
 unfolding lineEndUsed
@@ -46,13 +50,18 @@ module _ {n k : ℕ} (t : step k 0 Kind.commentLine ≡ some 0) where
     line-made level (b ∷ bs) d =
         pick (TurnMade n k (at 0) (λ _. at 0) (λ _. at 0) s) (ltb 0 (eol (b ∷ bs))) _ _
         (λ q. let u = lineEndUsed (b ∷ bs) in
-        goes (edge-past s l e d u (l + 0 + u) (omega arith) (lineEndUsed-edge (b ∷ bs))) (by (run-text (edge s) 8 l (l + 0) refl t e (edge-past s l e d 0 (l + 0) refl refl) (omega arith))))
+        goes (edge-past s l e d u (l + 0 + u) (omega arith) (lineEndUsed-edge (b ∷ bs)))
+        (by (run-text (edge s) 8 l (l + 0) refl t e (edge-past s l e d 0 (l + 0) refl refl) (omega arith))))
         (λ q. pick (TurnMade n k (at 0) (λ _. at 0) (λ _. at 0) s) (eqb b 32) _ _
         (λ q. let m = lineLength bs in let u = lineEndUsed (drop m bs) in
         let first = edge-first b bs (ascii-of 32 refl b q) in
         let text = edge-clear bs m (lineLength-le bs) (lineLength-clear bs) in
-        goes (edge-past s l e d (1 + (m + u)) (l + 1 + m + u) (omega arith) (edge-add (b ∷ bs) 1 (m + u) first (edge-add bs m u text (lineEndUsed-edge (drop m bs)))))
-        (by (run-text (edge s) 8 (l + 1) (l + 1 + m) refl t (edge-past s l e d 1 (l + 1) refl first) (edge-past s l e d (1 + m) (l + 1 + m) (omega arith) (edge-add (b ∷ bs) 1 m first text)) (omega arith))))
+        goes
+        (edge-past s l e d (1 + (m + u)) (l + 1 + m + u) (omega arith)
+        (edge-add (b ∷ bs) 1 (m + u) first (edge-add bs m u text (lineEndUsed-edge (drop m bs)))))
+        (by
+        (run-text (edge s) 8 (l + 1) (l + 1 + m) refl t (edge-past s l e d 1 (l + 1) refl first)
+        (edge-past s l e d (1 + m) (l + 1 + m) (omega arith) (edge-add (b ∷ bs) 1 m first text)) (omega arith))))
         (λ q. pick (TurnMade n k (at 0) (λ _. at 0) (λ _. at 0) s) (eqb level 0) _ _ (λ q. ends stopped) (λ q. ends (skips refl))))
 
   pub comment-makes : Makes n k (at 0) (λ _. at 0) getComment
@@ -61,5 +70,7 @@ module _ {n k : ℕ} (t : step k 0 Kind.commentLine ≡ some 0) where
     where
       turn : (level : ℕ) (s : List ℕ) → TurnMade n k (at 0) (λ _. at 0) (λ _. at 0) s (commentTurn level s)
       turn level s = unfold commentTurn levelOf edge in
-          (pick (TurnMade n k (at 0) (λ _. at 0) (λ _. at 0) s) (eqb (levelOf s) 0 || (not (eqb level 0) && not (eqb (levelOf s) level))) _ _ (λ q. ends (skips refl))
-          (λ q. line-made s (levelOf s) (edge-run (λ b. eqb b 35) (ascii-of 35 refl) s (levelOf s) (omega arith)) level (drop (levelOf s) s) refl))
+          (pick (TurnMade n k (at 0) (λ _. at 0) (λ _. at 0) s)
+          (eqb (levelOf s) 0 || (not (eqb level 0) && not (eqb (levelOf s) level))) _ _ (λ q. ends (skips refl))
+          (λ q. line-made s (levelOf s) (edge-run (λ b. eqb b 35) (ascii-of 35 refl) s (levelOf s) (omega arith)) level
+          (drop (levelOf s) s) refl))

@@ -1,4 +1,5 @@
--- Edges: the places of a rest where an ASCII byte or nothing stands, or that an ASCII byte stands right before. The rest's own start counts as
+-- Edges: the places of a rest where an ASCII byte or nothing stands, or that an ASCII byte stands right before. The
+-- rest's own start counts as
 -- one: a reader starts at an edge of its source. In UTF-8 they are character boundaries.
 use Prim.Native.Nat.{ℕ, zero, suc, _+_, _≤_, _<_, suc-le-suc}
 use native.Mathlib.Nat.{le-of-suc-le-suc, zero-add}
@@ -51,7 +52,8 @@ edge-add (b ∷ bs) (suc zero) (suc j) e f = let z : 1 + suc j ≡ suc (suc j) =
 edge-add (b ∷ bs) (suc (suc m)) j e f = let z : suc (suc m) + j ≡ suc (suc m + j) = omega arith in
     rw z (edge-next b bs (suc m + j) (edge-add bs (suc m) j e f) (λ q. absurd (omega arith)))
 
-pub edge-past : (s : List ℕ) (k : ℕ) → edge s k ≡ true → {r : List ℕ} → drop k s ≡ r → (j i : ℕ) → k + j ≡ i → edge r j ≡ true → edge s i ≡ true
+pub edge-past : (s : List ℕ) (k : ℕ) → edge s k ≡ true → {r : List ℕ} → drop k s ≡ r → (j i : ℕ) → k + j ≡ i
+    → edge r j ≡ true → edge s i ≡ true
 edge-past s k e {r} d j i z f = subst (λ i. edge s i ≡ true) z (edge-add s k j e (subst (λ r. edge r j ≡ true) (sym d) f))
 
 -- where the rest is clear
@@ -75,7 +77,10 @@ pub edge-run : (p : ℕ → Bool) → ((b : ℕ) → p b ≡ true → ascii b �
 unfolding edge run
 edge-run p h s zero l = refl
 edge-run p h [] (suc k) l = absurd (omega arith)
-edge-run p h (b ∷ bs) (suc k) l = byCase (p b) (λ q. edge-next b bs k (edge-run p h bs k (le-of-suc-le-suc (rw (q, run) at l))) (λ z. rw (h b q) refl)) (λ q. absurd (omega (arith, rw (q, run) at l)))
+edge-run p h (b ∷ bs) (suc k) l =
+    byCase (p b)
+    (λ q. edge-next b bs k (edge-run p h bs k (le-of-suc-le-suc (rw (q, run) at l))) (λ z. rw (h b q) refl))
+    (λ q. absurd (omega (arith, rw (q, run) at l)))
 
 -- one byte, tested for
 pub ascii-of : (c : ℕ) → ascii c ≡ true → (b : ℕ) → eqb b c ≡ true → ascii b ≡ true
@@ -137,6 +142,8 @@ edge-boundary s w k e = go (edge-is s k e)
   where
     go : {k : ℕ} → Edge s k → isBoundary s k ≡ true
     go here = unfold isBoundary in refl
-    go end = unfold isBoundary in (byCase (eqb (length s) 0) (λ q. rw (q, isBoundary)) (λ q. rw (q, isBoundary, le-ltb (length s) (length s) (omega arith)) (eq-eqb (length s) (length s) refl)))
+    go end = unfold isBoundary in
+        (byCase (eqb (length s) 0) (λ q. rw (q, isBoundary))
+        (λ q. rw (q, isBoundary, le-ltb (length s) (length s) (omega arith)) (eq-eqb (length s) (length s) refl)))
     go (before k h g) = ascii-boundary s k w h g .0
     go (behind k h g) = rw (← (add-one k)) (ascii-boundary s k w h g .1)

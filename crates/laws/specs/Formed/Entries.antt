@@ -63,14 +63,16 @@ named-steps true = (refl, refl)
 named-steps false = (refl, refl)
 
 -- nothing waits
-free : {n : ℕ} {sub : Inside} {s : List ℕ} {v : Bool} {ms : List Mark} {k : ℕ} → edge s k ≡ true → Run (edge s) n top (waiting v) 0 ms → Ahead n sub s v ms k
+free : {n : ℕ} {sub : Inside} {s : List ℕ} {v : Bool} {ms : List Mark} {k : ℕ} → edge s k ≡ true
+    → Run (edge s) n top (waiting v) 0 ms → Ahead n sub s v ms k
 free p w = record { waits = false; named = λ z. clash z refl; place = p; run = w }
 
 blank-past : (s : List ℕ) (k : ℕ) → edge s k ≡ true → edge s (k + usedBy (skipBlankBlock (drop k s))) ≡ true
 blank-past s k p = edge-add s k (usedBy (skipBlankBlock (drop k s))) p (block-edge (drop k s))
 
 module _ {n : ℕ} {sub : Inside} (law : InsideFormed n sub) (bounds : InsideBounds n sub) where
-  entry-ahead : (s : List ℕ) (v : Bool) → (v ≡ true → isNamed (getEntry sub s) ≡ true) → (e : Entry) (ms : List Mark) (k : ℕ) → getEntry sub s ≡ ok e ms k → edge s k ≡ true → Inner n s e ms
+  entry-ahead : (s : List ℕ) (v : Bool) → (v ≡ true → isNamed (getEntry sub s) ≡ true)
+      → (e : Entry) (ms : List Mark) (k : ℕ) → getEntry sub s ≡ ok e ms k → edge s k ≡ true → Inner n s e ms
       → Ahead n sub s v (node (kindOfEntry e (near sub s k)) ms) (k + usedBy (skipBlankBlock (drop k s)))
   unfolding kindOfEntry Kind.isText opens step stepBy stepIn final finalBy models among isNamed
   entry-ahead s v t message ms k h p c = free (blank-past s k p) (run-node (edge s) refl (named-steps v .0) (zero-add n) c)
@@ -84,11 +86,17 @@ module _ {n : ℕ} {sub : Inside} (law : InsideFormed n sub) (bounds : InsideBou
         run = run-node (edge s) refl refl (zero-add n) (record { to = 0; run = c 6 refl; ended = refl });
       }))
       (λ q. let m = commented l (small-of sub s h .0) (small-of sub s h .1) in
-      rw (q, kindOfEntry) (free (blank-past s k p) (run-node (edge s) (m .isNode) (m .child) (ap (λ i. i + n) (m .opensNone) ∙ zero-add n) (record { to = 0; run = c (2 + l) (m .lines); ended = m .ended }))))
+      rw (q, kindOfEntry)
+      (free (blank-past s k p)
+      (run-node (edge s) (m .isNode) (m .child) (ap (λ i. i + n) (m .opensNone) ∙ zero-add n)
+      (record { to = 0; run = c (2 + l) (m .lines); ended = m .ended }))))
 
-  first-ahead : {s : List ℕ} {ms : List Mark} {es : List Error} {k : ℕ} (v : Bool) → (v ≡ true → isNamed (getEntry sub s) ≡ true) → First sub s ms es k → Ahead n sub s v ms k
+  first-ahead : {s : List ℕ} {ms : List Mark} {es : List Error} {k : ℕ} (v : Bool)
+      → (v ≡ true → isNamed (getEntry sub s) ≡ true) → First sub s ms es k → Ahead n sub s v ms k
   unfolding isNamed Kind.isText edge step stepBy stepIn models among
-  first-ahead {s} v t (entry {e} {ms} {k} h) = let (p, c) = subst (Holds (λ e ms j. (edge s j ≡ true) × Inner n s e ms)) h (entry-formed law s) in entry-ahead s v t e ms k h p c
+  first-ahead {s} v t (entry {e} {ms} {k} h) = let (p, c) =
+      subst (Holds (λ e ms j. (edge s j ≡ true) × Inner n s e ms)) h (entry-formed law s) in
+      entry-ahead s v t e ms k h p c
   first-ahead true t (junk h) = clash (t refl) (ap isNamed h)
   first-ahead {s} false t (junk {k = k} h) =
       let p = junk-edge k s (bad-within (entry-bounds bounds) s h) in
@@ -100,9 +108,13 @@ module _ {n : ℕ} {sub : Inside} (law : InsideFormed n sub) (bounds : InsideBou
   none-run v (b ∷ bs) e t = absurd (omega arith)
 
   -- all entries of a rest
-  pub passed-run : {s : List ℕ} {ms : List Mark} {es : List Error} {k : ℕ} (v : Bool) → (v ≡ true → isNamed (getEntry sub s) ≡ true) → k ≡ length s → Passed sub s ms es k → Run (edge s) n top (waiting v) 0 ms
+  pub passed-run : {s : List ℕ} {ms : List Mark} {es : List Error} {k : ℕ} (v : Bool)
+      → (v ≡ true → isNamed (getEntry sub s) ≡ true) → k ≡ length s → Passed sub s ms es k
+      → Run (edge s) n top (waiting v) 0 ms
   passed-run {s} v t e none = none-run v s (sym e) t
   passed-run v t e (more {b} {bs} {k = k} {j} f p) =
       let a = first-ahead v t f in
       let z : j ≡ length (drop k (b ∷ bs)) = omega (arith, length-drop k (b ∷ bs)) in
-      run-append (edge (b ∷ bs)) (a .run) (run-moved (edge (drop k (b ∷ bs))) (edge (b ∷ bs)) k (λ i g. edge-add (b ∷ bs) k i (a .place) g) (passed-run (a .waits) (a .named) z p))
+      run-append (edge (b ∷ bs)) (a .run)
+      (run-moved (edge (drop k (b ∷ bs))) (edge (b ∷ bs)) k (λ i g. edge-add (b ∷ bs) k i (a .place) g)
+      (passed-run (a .waits) (a .named) z p))

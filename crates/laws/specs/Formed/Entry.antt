@@ -15,14 +15,18 @@ use Rattle.syntax.specs.Marks.{Mark}
 use Rattle.syntax.specs.Reader.{Out, ok, bad, deep}
 use Rattle.syntax.specs.Comment.{getComment}
 use Rattle.syntax.specs.Pattern.{Inside}
-use Rattle.syntax.specs.Core.{getAttribute, attributeBy, attributeTurn, getAttributes, Fields, fields, termFields, Entry, comment, message, term, asMessage, asTerm, asComment, getEntry, toNextEntry, lineStartsAt, junkEnd}
+use Rattle.syntax.specs.Core.{getAttribute, attributeBy, attributeTurn, getAttributes, Fields, fields, termFields}
+use Rattle.syntax.specs.Core.{Entry, comment, message, term, asMessage, asTerm, asComment, getEntry, toNextEntry}
+use Rattle.syntax.specs.Core.{lineStartsAt, junkEnd}
 use Rattle.syntax.specs.Shape.{stepIn, stepBy, finalBy, models, among, step, final, opens, Run, stay, Content}
 use Rattle.laws.specs.Bytes.{byCase, pick}
 use Rattle.laws.specs.Answers.{Holds}
 use Rattle.laws.specs.Balanced.{Levels, run-levels}
 use Rattle.laws.specs.Bounds.Entry.{junkEnd-within}
 use Rattle.laws.specs.Formed.Edge.{ascii, clear, edge, edge-add, edge-clear, ascii-of, edge-byte, edge-spaces}
-use Rattle.laws.specs.Formed.Reader.{Stand, at, ended, anywhere, by, closes, leads-nil, leads-after, leads-content, Made, made, stopped, tooDeep, Makes, node-makes, pure-makes, forget, bind, then, TurnMade, goes, ends, repeat-makes}
+use Rattle.laws.specs.Formed.Reader.{Stand, at, ended, anywhere, by, closes, leads-nil, leads-after}
+use Rattle.laws.specs.Formed.Reader.{leads-content, Made, made, stopped, tooDeep, Makes, node-makes, pure-makes}
+use Rattle.laws.specs.Formed.Reader.{forget, bind, then, TurnMade, goes, ends, repeat-makes}
 use Rattle.laws.specs.Formed.Helper.{or-ascii, letter-ascii, spaces-makes, block-makes, expectByte-makes, identifier-makes}
 use Rattle.laws.specs.Formed.Comment.{comment-makes}
 use Rattle.laws.specs.Formed.Pattern.{InsideFormed, pattern-makes}
@@ -36,9 +40,13 @@ stateAt q (suc i) = 2
 module _ {n : ℕ} {sub : Inside} (law : InsideFormed n sub) where
   attribute-makes : {k q r : ℕ} → step k q Kind.attribute ≡ some r → Makes n k (at q) (λ _. at r) (getAttribute sub)
   unfolding getAttribute Kind.isText opens step stepBy stepIn final finalBy models among
-  attribute-makes z = node-makes 10 refl z (zero-add n) (then (identifier-makes 9 refl refl) (then spaces-makes (then (expectByte-makes 61 refl) (value-makes law {q = 1} {r = 2} refl refl))))
+  attribute-makes z =
+      node-makes 10 refl z (zero-add n)
+      (then (identifier-makes 9 refl refl)
+      (then spaces-makes (then (expectByte-makes 61 refl) (value-makes law {q = 1} {r = 2} refl refl))))
 
-  module _ (k q : ℕ) (z : step k q Kind.attribute ≡ some 2) (y : step k 2 Kind.attribute ≡ some 2) (f : final k q ≡ true) (g : final k 2 ≡ true) where
+  module _ (k q : ℕ) (z : step k q Kind.attribute ≡ some 2) (y : step k 2 Kind.attribute ≡ some 2)
+      (f : final k q ≡ true) (g : final k 2 ≡ true) where
     attribute-step : (i : ℕ) → step k (stateAt q i) Kind.attribute ≡ some 2
     attribute-step zero = z
     attribute-step (suc i) = y
@@ -61,14 +69,22 @@ module _ {n : ℕ} {sub : Inside} (law : InsideFormed n sub) where
         turn : (i : ℕ) (s : List ℕ) → TurnMade n k (at (stateAt q i)) (λ i. at (stateAt q i)) (λ _. ended) s (attributeTurn sub i s)
         turn i s = unfold attributeTurn edge in
             (pick (TurnMade n k (at (stateAt q i)) (λ i. at (stateAt q i)) (λ _. ended) s) (startsWith 46 (drop (spaces s) s)) _ _
-            (λ h. attributeBy-made i (spaces s + 1) (edge-add s (spaces s) 1 (edge-spaces s (spaces s) (omega arith)) (edge-byte 46 refl (drop (spaces s) s) h)) (attribute-makes (attribute-step i) .on (drop (spaces s + 1) s)))
+            (λ h. attributeBy-made i (spaces s + 1)
+            (edge-add s (spaces s) 1 (edge-spaces s (spaces s) (omega arith))
+            (edge-byte 46 refl (drop (spaces s) s) h))
+            (attribute-makes (attribute-step i) .on (drop (spaces s + 1) s)))
             (λ h. ends (made refl (closes stay (attribute-end i)))))
 
   -- f says what the marks do, by whether there is a value
-  fields-makes : {k : ℕ} (f : Bool → Stand) → step k 0 Kind.identifier ≡ some 1 → step k 1 Kind.pattern ≡ some 2 → ((v : Bool) → Makes n k (at (elim v [ true ↦ 2 | false ↦ 1 ])) (λ _. f v) (getAttributes sub))
+  fields-makes : {k : ℕ} (f : Bool → Stand) → step k 0 Kind.identifier ≡ some 1 → step k 1 Kind.pattern ≡ some 2
+      → ((v : Bool) → Makes n k (at (elim v [ true ↦ 2 | false ↦ 1 ])) (λ _. f v) (getAttributes sub))
       → Makes n k (at 0) (λ x. f (x .value)) (fields sub)
   unfolding fields Kind.isText
-  fields-makes f z y m = bind (identifier-makes 9 refl z) (λ i. then spaces-makes (then (expectByte-makes 61 refl) (bind (pattern-makes law y) (λ v. then block-makes (bind (m v) (λ c. pure-makes _ (λ b. leads-nil (f v))))))))
+  fields-makes f z y m =
+      bind (identifier-makes 9 refl z)
+      (λ i. then spaces-makes
+      (then (expectByte-makes 61 refl)
+      (bind (pattern-makes law y) (λ v. then block-makes (bind (m v) (λ c. pure-makes _ (λ b. leads-nil (f v))))))))
 
   message-makes : Makes n 1 (at 0) (λ _. ended) (fields sub)
   unfolding step stepBy stepIn final finalBy models among
@@ -82,7 +98,9 @@ module _ {n : ℕ} {sub : Inside} (law : InsideFormed n sub) where
   unfolding termFields step stepBy stepIn final finalBy models among
   term-makes = then (expectByte-makes 45 refl) (fields-makes (λ v. elim v [ true ↦ ended | false ↦ anywhere ]) refl refl attributes)
     where
-      attributes : (v : Bool) → Makes n 2 (at (elim v [ true ↦ 2 | false ↦ 1 ])) (λ _. elim v [ true ↦ ended | false ↦ anywhere ]) (getAttributes sub)
+      attributes : (v : Bool)
+          → Makes n 2 (at (elim v [ true ↦ 2 | false ↦ 1 ])) (λ _. elim v [ true ↦ ended | false ↦ anywhere ])
+          (getAttributes sub)
       attributes true = attributes-makes _ 2 refl refl refl refl
       attributes false = forget (attributes-makes 1 1 refl refl refl refl)
 
@@ -98,17 +116,20 @@ module _ {n : ℕ} {sub : Inside} (law : InsideFormed n sub) where
 
   asMessage-formed : (s : List ℕ) (o : Out Fields) → Made n 1 (at 0) (λ _. ended) s o → Formed s (asMessage o)
   unfolding asMessage
-  asMessage-formed s (ok x ms j) (made e l) = pick (Formed s) (x .value || not (eqb (x .attributes) 0)) _ _ (λ q. (e, leads-content l)) (λ q. tt)
+  asMessage-formed s (ok x ms j) (made e l) =
+      pick (Formed s) (x .value || not (eqb (x .attributes) 0)) _ _ (λ q. (e, leads-content l)) (λ q. tt)
   asMessage-formed s (bad f j) m = tt
   asMessage-formed s (deep j) m = tt
 
-  asTerm-formed : (s : List ℕ) (o : Out Fields) → Made n 2 (at 0) (λ x. elim (x .value) [ true ↦ ended | false ↦ anywhere ]) s o → Formed s (asTerm o)
+  asTerm-formed : (s : List ℕ) (o : Out Fields)
+      → Made n 2 (at 0) (λ x. elim (x .value) [ true ↦ ended | false ↦ anywhere ]) s o → Formed s (asTerm o)
   unfolding asTerm
   asTerm-formed s (ok x ms j) (made e l) = byCase (x .value) (λ q. rw (q, asTerm) (e, leads-content (rw q at l))) (λ q. rw (q, asTerm) tt)
   asTerm-formed s (bad f j) m = tt
   asTerm-formed s (deep j) m = tt
 
-  asComment-formed : (s : List ℕ) (o : Out ℕ) → ((k : ℕ) → step k 0 Kind.commentLine ≡ some 0 → Made n k (at 0) (λ _. at 0) s o) → Formed s (asComment o)
+  asComment-formed : (s : List ℕ) (o : Out ℕ)
+      → ((k : ℕ) → step k 0 Kind.commentLine ≡ some 0 → Made n k (at 0) (λ _. at 0) s o) → Formed s (asComment o)
   unfolding asComment step stepBy stepIn models among
   asComment-formed s (ok l ms j) m = (place (m 3 refl), λ k z. run (m k z))
     where
@@ -123,7 +144,8 @@ module _ {n : ℕ} {sub : Inside} (law : InsideFormed n sub) where
   pub entry-formed : (s : List ℕ) → Formed s (getEntry sub s)
   unfolding getEntry
   entry-formed s = pick (Formed s) (startsWith 35 s) _ _ (λ q. asComment-formed s (getComment s) (λ k z. comment-makes z .on s))
-      (λ q. pick (Formed s) (startsWith 45 s) _ _ (λ q. asTerm-formed s (termFields sub s) (term-makes law .on s)) (λ q. asMessage-formed s (fields sub s) (message-makes law .on s)))
+      (λ q. pick (Formed s) (startsWith 45 s) _ _ (λ q. asTerm-formed s (termFields sub s) (term-makes law .on s))
+      (λ q. asMessage-formed s (fields sub s) (message-makes law .on s)))
 
   -- every node that an entry's marks open closes
   pub entry-levels : (s : List ℕ) {e : Entry} {ms : List Mark} {k : ℕ} → getEntry sub s ≡ ok e ms k → Levels 0 ms
@@ -138,14 +160,21 @@ module _ {n : ℕ} {sub : Inside} (law : InsideFormed n sub) where
 -- ---- junk
 
 fresh-ascii : (b : ℕ) → isFresh b ≡ true → ascii b ≡ true
-fresh-ascii b q = or-ascii (isLetter b) (eqb b 45 || eqb b 35) (ascii b) (letter-ascii b) (or-ascii (eqb b 45) (eqb b 35) (ascii b) (ascii-of 45 refl b) (ascii-of 35 refl b)) q
+fresh-ascii b q =
+    or-ascii (isLetter b) (eqb b 45 || eqb b 35) (ascii b) (letter-ascii b)
+    (or-ascii (eqb b 45) (eqb b 35) (ascii b) (ascii-of 45 refl b) (ascii-of 35 refl b)) q
 
 next-clear : (fresh : Bool) (s : List ℕ) → clear (drop (toNextEntry fresh s) s) ≡ true
 unfolding toNextEntry clear
 next-clear fresh [] = refl
-next-clear fresh (b ∷ bs) = byCase (fresh && isFresh b) (λ q. rw (q, toNextEntry) (fresh-ascii b (and-eq-true-iff fresh (isFresh b) .0 q .1))) (λ q. rw (q, toNextEntry) (next-clear (eqb b 10) bs))
+next-clear fresh (b ∷ bs) =
+    byCase (fresh && isFresh b) (λ q. rw (q, toNextEntry) (fresh-ascii b (and-eq-true-iff fresh (isFresh b) .0 q .1)))
+    (λ q. rw (q, toNextEntry) (next-clear (eqb b 10) bs))
 
 -- junk ends at an entry or at the end, wherever reading stopped
 pub junk-edge : (k : ℕ) (s : List ℕ) → k ≤ length s → edge s (junkEnd k s) ≡ true
 unfolding junkEnd
-junk-edge k s l = edge-clear s (junkEnd k s) (junkEnd-within k s l .1) (subst (λ r. clear r ≡ true) (drop-drop (toNextEntry (lineStartsAt k s) (drop k s)) k s) (next-clear (lineStartsAt k s) (drop k s)))
+junk-edge k s l =
+    edge-clear s (junkEnd k s) (junkEnd-within k s l .1)
+    (subst (λ r. clear r ≡ true) (drop-drop (toNextEntry (lineStartsAt k s) (drop k s)) k s)
+    (next-clear (lineStartsAt k s) (drop k s)))

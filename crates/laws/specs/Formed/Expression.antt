@@ -13,20 +13,27 @@ use Rattle.syntax.specs.Bytes.{startsWith, starts, second, isDigit}
 use Rattle.syntax.specs.Marks.{Mark, plain, node}
 use Rattle.syntax.specs.Reader.{Out, ok, bad, deep, _>>=_, pure, wrap, inNode, Turn}
 use Rattle.syntax.specs.Pattern.{Inside, getPattern}
-use Rattle.syntax.specs.Expression.{Inline, string, number, variable, function, inner, message, term, inlineKind, keyText, getVariantKey, needsValue, variant, variantKind, endVariants, variantWith, afterStar, turnAfter, variantTurn, getVariants, selector, alone, needsLineEnd, selectFrom, afterInline, inSelect, inlineOrSelect, getExpression, braced, level}
+use Rattle.syntax.specs.Expression.{Inline, string, number, variable, function, inner, message, term, inlineKind}
+use Rattle.syntax.specs.Expression.{keyText, getVariantKey, needsValue, variant, variantKind, endVariants, variantWith}
+use Rattle.syntax.specs.Expression.{afterStar, turnAfter, variantTurn, getVariants, selector, alone, needsLineEnd}
+use Rattle.syntax.specs.Expression.{selectFrom, afterInline, inSelect, inlineOrSelect, getExpression, braced, level}
 use Rattle.syntax.specs.Expression as Expression
 use Rattle.syntax.specs.Shape.{stepIn, stepBy, finalBy, models, among, step, final, opens, stay}
 use Rattle.laws.specs.Bytes.{pick}
 use Rattle.laws.specs.Shape.Run.{AllKnown, run-known}
 use Rattle.laws.specs.Formed.Edge.{edge, edge-add, edge-byte}
-use Rattle.laws.specs.Formed.Reader.{Stand, at, ended, anywhere, by, closes, leads-nil, leads-after, leads-end, leads-node, Made, made, stopped, tooDeep, after-made, Makes, node-makes, pure-makes, fail-makes, forget, bind, then, TurnMade, goes, ends, turnOf-made, repeat-makes}
+use Rattle.laws.specs.Formed.Reader.{Stand, at, ended, anywhere, by, closes, leads-nil, leads-after, leads-end}
+use Rattle.laws.specs.Formed.Reader.{leads-node, Made, made, stopped, tooDeep, after-made, Makes, node-makes}
+use Rattle.laws.specs.Formed.Reader.{pure-makes, fail-makes, forget, bind, then, TurnMade, goes, ends}
+use Rattle.laws.specs.Formed.Reader.{turnOf-made, repeat-makes}
 use Rattle.laws.specs.Formed.Helper.{spaces-makes, eol-makes, blank-makes, expectByte-makes, numberLiteral-makes, identifier-makes}
 use Rattle.laws.specs.Formed.Pattern.{InsideFormed, pattern-makes}
 use Rattle.laws.specs.Formed.Inline.{inline-steps, inline-makes}
 use Rattle.laws.specs.Formed.Argument.{parenthesised-makes}
 
 module _ {n k : ℕ} where
-  needsValue-makes : (q r : ℕ) → final k r ≡ true → (v : Bool) → Makes n k (at (elim v [ true ↦ r | false ↦ q ])) (λ _. ended) (needsValue v)
+  needsValue-makes : (q r : ℕ) → final k r ≡ true → (v : Bool)
+      → Makes n k (at (elim v [ true ↦ r | false ↦ q ])) (λ _. ended) (needsValue v)
   unfolding needsValue
   needsValue-makes q r f true = pure-makes tt (λ b. closes stay f)
   needsValue-makes q r f false = fail-makes _
@@ -36,7 +43,12 @@ module _ {n k : ℕ} where
   key-makes z y = then blank-makes (then key (then blank-makes (expectByte-makes 93 refl)))
     where
       key : Makes n k (at 0) (λ _. at 1) keyText
-      key = record { on = λ s. pick (Made n k (at 0) (λ _. at 1) s) (starts (λ b. isDigit b || eqb b 45) s) _ _ (λ q. numberLiteral-makes 17 refl z .on s) (λ q. identifier-makes 18 refl y .on s) }
+      key =
+          record {
+            on =
+                λ s. pick (Made n k (at 0) (λ _. at 1) s) (starts (λ b. isDigit b || eqb b 45) s) _ _
+                (λ q. numberLiteral-makes 17 refl z .on s) (λ q. identifier-makes 18 refl y .on s);
+          }
 
   endVariants-makes : {g : Stand} (v : Bool) → Makes n k g (λ _. g) (endVariants v)
   unfolding endVariants
@@ -71,16 +83,19 @@ module _ {n k : ℕ} where
   alone-makes m (term false) = m
   alone-makes m inner = m
 
-  turnAfter-made : {S A : Type 0} {g : Stand} {f : S → Stand} {e : A → Stand} {s : List ℕ} {t : Turn S A} → edge s 1 ≡ true → TurnMade n k g f e (drop 1 s) t → TurnMade n k g f e s (turnAfter 1 t)
+  turnAfter-made : {S A : Type 0} {g : Stand} {f : S → Stand} {e : A → Stand} {s : List ℕ} {t : Turn S A}
+      → edge s 1 ≡ true → TurnMade n k g f e (drop 1 s) t → TurnMade n k g f e s (turnAfter 1 t)
   unfolding turnAfter
   turnAfter-made {g = g} {s = s} d (goes {j = j} h l) = goes (edge-add s 1 j d h) (leads-after s 1 d (leads-nil g) l)
   turnAfter-made {g = g} d (ends m) = ends (after-made 1 d (leads-nil g) m)
 
 module _ {n : ℕ} {sub : Inside} (law : InsideFormed n sub) where
-  pub value-makes : {k q r : ℕ} → step k q Kind.pattern ≡ some r → final k r ≡ true → Makes n k (at q) (λ _. ended) (getPattern sub >>= needsValue)
+  pub value-makes : {k q r : ℕ} → step k q Kind.pattern ≡ some r → final k r ≡ true
+      → Makes n k (at q) (λ _. ended) (getPattern sub >>= needsValue)
   value-makes {q = q} {r} z f = bind (pattern-makes law z) (needsValue-makes q r f)
 
-  variant-makes : {k : ℕ} → step k 0 Kind.numberKey ≡ some 1 → step k 0 Kind.identifierKey ≡ some 1 → step k 1 Kind.pattern ≡ some 2 → final k 2 ≡ true → Makes n k (at 0) (λ _. ended) (variant sub)
+  variant-makes : {k : ℕ} → step k 0 Kind.numberKey ≡ some 1 → step k 0 Kind.identifierKey ≡ some 1
+      → step k 1 Kind.pattern ≡ some 2 → final k 2 ≡ true → Makes n k (at 0) (λ _. ended) (variant sub)
   unfolding variant
   variant-makes z y x f = then (expectByte-makes 91 refl) (then (key-makes z y) (value-makes x f))
 
@@ -96,29 +111,41 @@ module _ {n : ℕ} {sub : Inside} (law : InsideFormed n sub) where
   star-made : (d h : Bool) (s : List ℕ) → Varies s (afterStar sub d h s)
   unfolding afterStar variantWith
   star-made d h s = pick (Varies s) (d && h) _ _ (λ q. ends (fail-makes _ .on s))
-      (λ q. pick (Varies s) (startsWith 91 s) _ _ (λ q. turnOf-made (then (inVariant d) (then blank-makes (pure-makes (d || h) (λ b. by stay))) .on s)) (λ q. ends (endVariants-makes (d || h) .on s)))
+      (λ q. pick (Varies s) (startsWith 91 s) _ _
+      (λ q. turnOf-made (then (inVariant d) (then blank-makes (pure-makes (d || h) (λ b. by stay))) .on s))
+      (λ q. ends (endVariants-makes (d || h) .on s)))
 
   variants-makes : Makes n 14 (at 1) (λ _. at 1) (getVariants sub)
   unfolding getVariants variantTurn
-  variants-makes = repeat-makes {f = λ _. at 1} (λ h s. pick (Varies s) (startsWith 42 s) _ _ (λ q. turnAfter-made (edge-byte 42 refl s q) (star-made true h (drop 1 s))) (λ q. star-made false h s)) false
+  variants-makes =
+      repeat-makes {f = λ _. at 1}
+      (λ h s. pick (Varies s) (startsWith 42 s) _ _
+      (λ q. turnAfter-made (edge-byte 42 refl s q) (star-made true h (drop 1 s))) (λ q. star-made false h s)) false
 
   -- a select's variants, where f says what its marks do
-  select-makes : {k : ℕ} {g : Stand} (f : Bool → Stand) → Makes n k g (λ _. f true) (getVariants sub) → (a : Inline) → Makes n k g f (selectFrom sub a)
+  select-makes : {k : ℕ} {g : Stand} (f : Bool → Stand) → Makes n k g (λ _. f true) (getVariants sub) → (a : Inline)
+      → Makes n k g f (selectFrom sub a)
   unfolding selectFrom
   select-makes f m a =
       then (selector-makes a) (then (expectByte-makes 45 refl) (then (expectByte-makes 62 refl) (then spaces-makes (bind eol-makes
       (λ v. then (lineEnd-makes v) (then blank-makes (then m (pure-makes true (λ b. leads-nil (f true))))))))))
 
-  inlineOrSelect-makes : {k : ℕ} (f : Bool → Stand) → ((a : Inline) → step k 0 (inlineKind a) ≡ some 1) → Makes n k (at 1) (λ _. f true) (getVariants sub)
+  inlineOrSelect-makes : {k : ℕ} (f : Bool → Stand) → ((a : Inline) → step k 0 (inlineKind a) ≡ some 1)
+      → Makes n k (at 1) (λ _. f true) (getVariants sub)
       → Makes n k (at 1) f (pure false) → Makes n k (at 0) f (inlineOrSelect sub)
   unfolding inlineOrSelect afterInline
   inlineOrSelect-makes {k} f z m p = bind (inline-makes law z false) (λ a. then blank-makes (record {
-    on = λ s. pick (Made n k (at 1) f s) (startsWith 45 s && second (λ b. eqb b 62) s) _ _ (λ q. select-makes f m a .on s) (λ q. alone-makes p a .on s);
+    on =
+        λ s. pick (Made n k (at 1) f s) (startsWith 45 s && second (λ b. eqb b 62) s) _ _
+        (λ q. select-makes f m a .on s) (λ q. alone-makes p a .on s);
   }))
 
-  inSelect-made : {s : List ℕ} (o : Out Bool) → Made n 14 (at 0) (λ _. at 1) s o → Made n 13 (at 0) (λ v. elim v [ true ↦ anywhere | false ↦ ended ]) s o → Made n 13 (at 0) (λ _. ended) s (inSelect o)
+  inSelect-made : {s : List ℕ} (o : Out Bool) → Made n 14 (at 0) (λ _. at 1) s o
+      → Made n 13 (at 0) (λ v. elim v [ true ↦ anywhere | false ↦ ended ]) s o
+      → Made n 13 (at 0) (λ _. ended) s (inSelect o)
   unfolding inSelect Kind.isText opens step stepBy stepIn final finalBy models among
-  inSelect-made (ok true ms j) (made e l) m = made e (leads-end {t = 1} refl (leads-node 14 refl refl (zero-add n) (leads-end {t = 1} refl l)))
+  inSelect-made (ok true ms j) (made e l) m =
+      made e (leads-end {t = 1} refl (leads-node 14 refl refl (zero-add n) (leads-end {t = 1} refl l)))
   inSelect-made (ok false ms j) m (made e l) = made e l
   inSelect-made (bad f j) m m′ = stopped
   inSelect-made (deep j) m m′ = tooDeep
@@ -126,8 +153,12 @@ module _ {n : ℕ} {sub : Inside} (law : InsideFormed n sub) where
   expression-makes : Makes n 13 (at 0) (λ _. ended) (getExpression sub)
   unfolding getExpression final finalBy models among
   expression-makes = record {
-    on = λ s. inSelect-made (inlineOrSelect sub s) (inlineOrSelect-makes (λ _. at 1) (λ a. inline-steps a .1) variants-makes (pure-makes false (λ b. by stay)) .on s)
-        (inlineOrSelect-makes (λ v. elim v [ true ↦ anywhere | false ↦ ended ]) (λ a. inline-steps a .0) (forget variants-makes) (pure-makes false (λ b. closes stay refl)) .on s);
+    on =
+        λ s. inSelect-made (inlineOrSelect sub s)
+        (inlineOrSelect-makes (λ _. at 1) (λ a. inline-steps a .1) variants-makes
+        (pure-makes false (λ b. by stay)) .on s)
+        (inlineOrSelect-makes (λ v. elim v [ true ↦ anywhere | false ↦ ended ]) (λ a. inline-steps a .0)
+        (forget variants-makes) (pure-makes false (λ b. closes stay refl)) .on s);
   }
 
   braced-makes : Makes n 13 (at 0) (λ _. ended) (braced sub)
@@ -143,9 +174,12 @@ level-formed (suc n) = record {
 }
 
 -- what stands in a placeable's braces has marks of known kinds
-pub braced-known : {n : ℕ} {sub : Inside} → InsideFormed n sub → (s : List ℕ) {u : Unit {0}} {ms : List Mark} {k : ℕ} → sub .braced s ≡ ok u ms k → AllKnown ms
+pub braced-known : {n : ℕ} {sub : Inside} → InsideFormed n sub → (s : List ℕ) {u : Unit {0}} {ms : List Mark} {k : ℕ}
+    → sub .braced s ≡ ok u ms k → AllKnown ms
 unfolding inNode wrap node step stepBy stepIn models among
-braced-known {n} {sub} law s {u} {ms} {k} e = front ms (plain 113 ∷ []) (run (subst (λ o. Made n 11 (at 0) (λ _. at 0) s (wrap 13 o)) e (law .braced 11 0 0 refl .on s)) .1)
+braced-known {n} {sub} law s {u} {ms} {k} e =
+    front ms (plain 113 ∷ [])
+    (run (subst (λ o. Made n 11 (at 0) (λ _. at 0) s (wrap 13 o)) e (law .braced 11 0 0 refl .on s)) .1)
   where
     run : Made n 11 (at 0) (λ _. at 0) s (ok u (node 13 ms) k) → AllKnown (node 13 ms)
     run (made d (by w)) = run-known w

@@ -12,7 +12,8 @@ use Rattle.syntax.specs.declared.errors.ErrorKind.the-variants.{ExpectedToken, 
 use Rattle.syntax.specs.Kind as Kind
 use Rattle.syntax.specs.Bytes.{startsWith, starts, within, isLetter, isDigit, isNamePart, spaces, eol, run}
 use Rattle.syntax.specs.Reader.{Out, ok, bad, deep}
-use Rattle.syntax.specs.Helper.{skipBlankInline, skipEol, blankTurn, skipBlank, blockTurn, skipBlankBlock, takeByteIf, expectByte, skipDigits, fraction, number, asText, getNumberLiteral, getIdentifier}
+use Rattle.syntax.specs.Helper.{skipBlankInline, skipEol, blankTurn, skipBlank, blockTurn, skipBlankBlock, takeByteIf}
+use Rattle.syntax.specs.Helper.{expectByte, skipDigits, fraction, number, asText, getNumberLiteral, getIdentifier}
 use Rattle.syntax.specs.Pattern.{usedBy}
 use Rattle.syntax.specs.Shape.{step}
 use Rattle.laws.specs.Bytes.{byCase, pick}
@@ -20,7 +21,9 @@ use Rattle.laws.specs.Answers.{Sure}
 use Rattle.laws.specs.Stable.Helper.{block-sure}
 use Rattle.laws.specs.Shape.Run.{otherwise, run-text}
 use Rattle.laws.specs.Formed.Edge.{ascii, edge, edge-add, edge-run, ascii-of, edge-byte, edge-spaces, edge-eol}
-use Rattle.laws.specs.Formed.Reader.{Stand, at, anywhere, by, leads-nil, Made, made, stopped, tooDeep, Makes, skips, pure-makes, fail-makes, bind, then, TurnMade, goes, ends, repeat-makes}
+use Rattle.laws.specs.Formed.Reader.{Stand, at, anywhere, by, leads-nil, Made, made, stopped, tooDeep, Makes}
+use Rattle.laws.specs.Formed.Reader.{skips, pure-makes, fail-makes, bind, then, TurnMade, goes, ends}
+use Rattle.laws.specs.Formed.Reader.{repeat-makes}
 
 -- tests that only ASCII bytes pass
 within-ascii : (low high : ℕ) → high ≤ 127 → (b : ℕ) → within low high b ≡ true → ascii b ≡ true
@@ -35,12 +38,15 @@ digit-ascii b q = within-ascii 48 57 (omega arith) b q
 
 pub letter-ascii : (b : ℕ) → isLetter b ≡ true → ascii b ≡ true
 unfolding isLetter
-letter-ascii b q = or-ascii (within 65 90 b) (within 97 122 b) (ascii b) (within-ascii 65 90 (omega arith) b) (within-ascii 97 122 (omega arith) b) q
+letter-ascii b q =
+    or-ascii (within 65 90 b) (within 97 122 b) (ascii b) (within-ascii 65 90 (omega arith) b)
+    (within-ascii 97 122 (omega arith) b) q
 
 name-ascii : (b : ℕ) → isNamePart b ≡ true → ascii b ≡ true
 unfolding isNamePart
 name-ascii b q = or-ascii (isLetter b) (isDigit b || (eqb b 45 || eqb b 95)) (ascii b) (letter-ascii b)
-    (or-ascii (isDigit b) (eqb b 45 || eqb b 95) (ascii b) (digit-ascii b) (or-ascii (eqb b 45) (eqb b 95) (ascii b) (ascii-of 45 refl b) (ascii-of 95 refl b))) q
+    (or-ascii (isDigit b) (eqb b 45 || eqb b 95) (ascii b) (digit-ascii b)
+    (or-ascii (eqb b 45) (eqb b 95) (ascii b) (ascii-of 45 refl b) (ascii-of 95 refl b))) q
 
 pub edge-name : (s : List ℕ) → edge s (run isNamePart s) ≡ true
 edge-name s = edge-run isNamePart name-ascii s (run isNamePart s) (omega arith)
@@ -63,7 +69,8 @@ module _ {n k : ℕ} {g : Stand} where
       turn : (u : Unit {0}) (s : List ℕ) → TurnMade n k g (λ _. g) (λ _. g) s (blankTurn u s)
       turn u s = unfold blankTurn edge in
           (pick (TurnMade n k g (λ _. g) (λ _. g) s) (startsWith 32 s) _ _ (λ q. goes (edge-byte 32 refl s q) (leads-nil g))
-          (λ q. pick (TurnMade n k g (λ _. g) (λ _. g) s) (ltb 0 (eol s)) _ _ (λ l. goes (edge-eol s (eol s) (omega arith)) (leads-nil g)) (λ l. ends (skips refl))))
+          (λ q. pick (TurnMade n k g (λ _. g) (λ _. g) s) (ltb 0 (eol s)) _ _
+          (λ l. goes (edge-eol s (eol s) (omega arith)) (leads-nil g)) (λ l. ends (skips refl))))
 
   pub block-makes : Makes n k g (λ _. g) skipBlankBlock
   unfolding skipBlankBlock
@@ -72,20 +79,35 @@ module _ {n k : ℕ} {g : Stand} where
       turn : (i : ℕ) (s : List ℕ) → TurnMade n k g (λ _. g) (λ _. g) s (blockTurn i s)
       turn i s = unfold blockTurn edge in
           (pick (TurnMade n k g (λ _. g) (λ _. g) s) (ltb 0 (eol (drop (spaces s) s))) _ _
-          (λ l. goes (edge-add s (spaces s) (eol (drop (spaces s) s)) (edge-spaces s (spaces s) (omega arith)) (edge-eol (drop (spaces s) s) (eol (drop (spaces s) s)) (omega arith))) (leads-nil g)) (λ l. ends (skips refl)))
+          (λ l. goes
+          (edge-add s (spaces s) (eol (drop (spaces s) s)) (edge-spaces s (spaces s) (omega arith))
+          (edge-eol (drop (spaces s) s) (eol (drop (spaces s) s)) (omega arith)))
+          (leads-nil g))
+          (λ l. ends (skips refl)))
 
   pub takeByteIf-makes : (b : ℕ) → ascii b ≡ true → Makes n k g (λ _. g) (takeByteIf b)
   unfolding takeByteIf edge
-  takeByteIf-makes b a = record { on = λ s. pick (Made n k g (λ _. g) s) (startsWith b s) _ _ (λ q. skips (edge-byte b a s q)) (λ q. skips refl) }
+  takeByteIf-makes b a =
+      record {
+        on =
+            λ s. pick (Made n k g (λ _. g) s) (startsWith b s) _ _ (λ q. skips (edge-byte b a s q)) (λ q. skips refl);
+      }
 
   pub expectByte-makes : (b : ℕ) → ascii b ≡ true → Makes n k g (λ _. g) (expectByte b)
   unfolding expectByte
-  expectByte-makes b a = record { on = λ s. pick (Made n k g (λ _. g) s) (startsWith b s) _ _ (λ q. skips (edge-byte b a s q)) (λ q. fail-makes (ExpectedToken b) .on s) }
+  expectByte-makes b a =
+      record {
+        on =
+            λ s. pick (Made n k g (λ _. g) s) (startsWith b s) _ _ (λ q. skips (edge-byte b a s q))
+            (λ q. fail-makes (ExpectedToken b) .on s);
+      }
 
   digits-makes : Makes n k g (λ _. g) skipDigits
   unfolding skipDigits
   digits-makes = record {
-    on = λ s. pick (Made n k g (λ _. g) s) (eqb (run isDigit s) 0) _ _ (λ q. fail-makes (ExpectedCharRange 3) .on s) (λ q. skips (edge-run isDigit digit-ascii s (run isDigit s) (omega arith)));
+    on =
+        λ s. pick (Made n k g (λ _. g) s) (eqb (run isDigit s) 0) _ _ (λ q. fail-makes (ExpectedCharRange 3) .on s)
+        (λ q. skips (edge-run isDigit digit-ascii s (run isDigit s) (omega arith)));
   }
 
   fraction-makes : (v : Bool) → Makes n k g (λ _. g) (fraction v)

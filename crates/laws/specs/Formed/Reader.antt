@@ -1,4 +1,5 @@
--- What a reader's marks do to the node that they stand in, of the kind k with n openings left: where its automaton stands after them, by the value
+-- What a reader's marks do to the node that they stand in, of the kind k with n openings left: where its automaton
+-- stands after them, by the value
 -- that was read. The places of the marks are edges, and so is where the reading ends.
 use Prim.Native.Nat.{ℕ, zero, suc, _+_}
 use mathlib.Core.Path.{_≡_, refl}
@@ -10,7 +11,8 @@ use Rattle.syntax.specs.Kind as Kind
 use Rattle.syntax.specs.Marks.{Mark, moveUp, node}
 use Rattle.syntax.specs.declared.errors.ErrorKind.{ErrorKind}
 use Rattle.syntax.specs.declared.errors.ParserError.{ParserError}
-use Rattle.syntax.specs.Reader.{Out, ok, bad, deep, Reader, after, next, _>>=_, _>>_, pure, fail, wrap, inNode, Turn, again, done, turnOf, loop, repeat}
+use Rattle.syntax.specs.Reader.{Out, ok, bad, deep, Reader, after, next, _>>=_, _>>_, pure, fail, wrap, inNode, Turn}
+use Rattle.syntax.specs.Reader.{again, done, turnOf, loop, repeat}
 use Rattle.syntax.specs.Shape.{start, step, final, opens, Run, stay, Content}
 use Rattle.laws.specs.Shape.Run.{run-append, run-moved, run-node}
 use Rattle.laws.specs.Formed.Edge.{edge, edge-add}
@@ -34,7 +36,8 @@ leads-nil ended = over
 leads-nil anywhere = unsaid
 
 module _ {boundary : ℕ → Bool} {n k : ℕ} where
-  leads-append : {g h i : Stand} {ms ns : List Mark} → Leads boundary n k g h ms → Leads boundary n k h i ns → Leads boundary n k g i (ms ++ ns)
+  leads-append : {g h i : Stand} {ms ns : List Mark} → Leads boundary n k g h ms → Leads boundary n k h i ns
+      → Leads boundary n k g i (ms ++ ns)
   leads-append (by w) (by v) = by (run-append boundary w v)
   leads-append (by w) (closes v f) = closes (run-append boundary w v) f
   leads-append (by w) unsaid = unsaid
@@ -50,18 +53,22 @@ module _ {boundary : ℕ → Bool} {n k : ℕ} where
   pub leads-content : {q : ℕ} {ms : List Mark} → Leads boundary n k (at q) ended ms → Content boundary n k q ms
   leads-content (closes {t = t} w f) = record { to = t; run = w; ended = f }
 
-leads-up : {boundary boundary′ : ℕ → Bool} {n k : ℕ} {g h : Stand} {ms : List Mark} (j : ℕ) → ((a : ℕ) → boundary a ≡ true → boundary′ (j + a) ≡ true) → Leads boundary n k g h ms → Leads boundary′ n k g h (moveUp j ms)
+leads-up : {boundary boundary′ : ℕ → Bool} {n k : ℕ} {g h : Stand} {ms : List Mark} (j : ℕ)
+    → ((a : ℕ) → boundary a ≡ true → boundary′ (j + a) ≡ true) → Leads boundary n k g h ms
+    → Leads boundary′ n k g h (moveUp j ms)
 unfolding moveUp
 leads-up {boundary} {boundary′} j c (by w) = by (run-moved boundary boundary′ j c w)
 leads-up {boundary} {boundary′} j c (closes w f) = closes (run-moved boundary boundary′ j c w) f
 leads-up j c over = over
 leads-up j c unsaid = unsaid
 
-pub leads-after : (s : List ℕ) {n k : ℕ} (j : ℕ) {g h i : Stand} {ms ns : List Mark} → edge s j ≡ true → Leads (edge s) n k g h ms → Leads (edge (drop j s)) n k h i ns → Leads (edge s) n k g i (ms ++ moveUp j ns)
+pub leads-after : (s : List ℕ) {n k : ℕ} (j : ℕ) {g h i : Stand} {ms ns : List Mark} → edge s j ≡ true
+    → Leads (edge s) n k g h ms → Leads (edge (drop j s)) n k h i ns → Leads (edge s) n k g i (ms ++ moveUp j ns)
 leads-after s j e l m = leads-append l (leads-up j (λ a f. edge-add s j a e f) m)
 
 -- a node, and a T node
-pub leads-node : {boundary : ℕ → Bool} {n inside k q r : ℕ} {ms : List Mark} (kind : ℕ) → Kind.isText kind ≡ false → step k q kind ≡ some r → opens kind + inside ≡ n
+pub leads-node : {boundary : ℕ → Bool} {n inside k q r : ℕ} {ms : List Mark} (kind : ℕ) → Kind.isText kind ≡ false
+    → step k q kind ≡ some r → opens kind + inside ≡ n
     → Leads boundary inside kind (at start) ended ms → Leads boundary n k (at q) (at r) (node kind ms)
 leads-node {boundary} kind t s o l = by (run-node boundary t s o (leads-content l))
 
@@ -80,13 +87,15 @@ pub skips : {A : Type 0} {n k : ℕ} {g : Stand} {s : List ℕ} {a : A} {j : ℕ
 skips {g = g} e = made e (leads-nil g)
 
 module _ {A : Type 0} {n k : ℕ} where
-  pub after-made : {g h : Stand} {f : A → Stand} {s : List ℕ} {ms : List Mark} {o : Out A} (j : ℕ) → edge s j ≡ true → Leads (edge s) n k g h ms → Made n k h f (drop j s) o → Made n k g f s (after ms j o)
+  pub after-made : {g h : Stand} {f : A → Stand} {s : List ℕ} {ms : List Mark} {o : Out A} (j : ℕ) → edge s j ≡ true
+      → Leads (edge s) n k g h ms → Made n k h f (drop j s) o → Made n k g f s (after ms j o)
   unfolding after
   after-made {s = s} j e l (made {j = i} d m) = made (edge-add s j i e d) (leads-after s j e l m)
   after-made j e l stopped = stopped
   after-made j e l tooDeep = tooDeep
 
-  pub wrap-made : {inside q r : ℕ} {s : List ℕ} {o : Out A} (kind : ℕ) → Kind.isText kind ≡ false → step k q kind ≡ some r → opens kind + inside ≡ n
+  pub wrap-made : {inside q r : ℕ} {s : List ℕ} {o : Out A} (kind : ℕ) → Kind.isText kind ≡ false
+      → step k q kind ≡ some r → opens kind + inside ≡ n
       → Made inside kind (at start) (λ _. ended) s o → Made n k (at q) (λ _. at r) s (wrap kind o)
   unfolding wrap
   wrap-made kind t z o (made e l) = made e (leads-node kind t z o l)
@@ -125,17 +134,20 @@ module _ {A : Type 0} {n k : ℕ} where
   forget m = record { on = λ s. forget-made (m .on s) }
 
 module _ {A B : Type 0} {n k : ℕ} where
-  pub next-made : {g : Stand} {f : A → Stand} {e : B → Stand} {s : List ℕ} {q : A → Reader B} {o : Out A} → Made n k g f s o → ((a : A) → Makes n k (f a) e (q a)) → Made n k g e s (next s q o)
+  pub next-made : {g : Stand} {f : A → Stand} {e : B → Stand} {s : List ℕ} {q : A → Reader B} {o : Out A}
+      → Made n k g f s o → ((a : A) → Makes n k (f a) e (q a)) → Made n k g e s (next s q o)
   unfolding next
   next-made {s = s} (made {a} {j = j} d l) m = after-made j d l (m a .on (drop j s))
   next-made stopped m = stopped
   next-made tooDeep m = tooDeep
 
-  pub bind : {g : Stand} {f : A → Stand} {e : B → Stand} {p : Reader A} {q : A → Reader B} → Makes n k g f p → ((a : A) → Makes n k (f a) e (q a)) → Makes n k g e (p >>= q)
+  pub bind : {g : Stand} {f : A → Stand} {e : B → Stand} {p : Reader A} {q : A → Reader B} → Makes n k g f p
+      → ((a : A) → Makes n k (f a) e (q a)) → Makes n k g e (p >>= q)
   unfolding _>>=_
   bind m l = record { on = λ s. next-made (m .on s) l }
 
-  pub then-by : {g : Stand} {f : A → Stand} {e : B → Stand} {p : Reader A} {q : Reader B} → Makes n k g f p → ((a : A) → Makes n k (f a) e q) → Makes n k g e (p >> q)
+  pub then-by : {g : Stand} {f : A → Stand} {e : B → Stand} {p : Reader A} {q : Reader B} → Makes n k g f p
+      → ((a : A) → Makes n k (f a) e q) → Makes n k g e (p >> q)
   unfolding _>>_
   then-by m l = record { on = λ s. next-made (m .on s) l }
 

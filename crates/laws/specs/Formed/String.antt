@@ -43,13 +43,16 @@ escape-clears : (s r : List ℕ) → Turned s (escapeTurn s r)
 unfolding escapeTurn fail
 escape-clears s [] = tt
 escape-clears s (b ∷ bs) = pick (Turned s) (eqb b 92 || (eqb b 123 || eqb b 34)) _ _ (λ q. goes-on s 2)
-    (λ q. pick (Turned s) (eqb b 117) _ _ (λ q. turnOf-on s (after [] 2 (skipUnicodeEscapeSequence 4 bs))) (λ q. pick (Turned s) (eqb b 85) _ _ (λ q. turnOf-on s (after [] 2 (skipUnicodeEscapeSequence 6 bs))) (λ q. tt)))
+    (λ q. pick (Turned s) (eqb b 117) _ _ (λ q. turnOf-on s (after [] 2 (skipUnicodeEscapeSequence 4 bs)))
+    (λ q. pick (Turned s) (eqb b 85) _ _ (λ q. turnOf-on s (after [] 2 (skipUnicodeEscapeSequence 6 bs)))
+    (λ q. tt)))
 
 turn-clears : (u : Unit {0}) (s : List ℕ) → TurnHolds stringTurn Clears u s (stringTurn u s)
 unfolding stringTurn clear fail
 turn-clears u [] = refl
 turn-clears u (b ∷ bs) = pick (Turned (b ∷ bs)) (eqb b 92) _ _ (λ q. escape-clears (b ∷ bs) bs)
-    (λ q. pick (Turned (b ∷ bs)) (eqb b 34) _ _ (λ q. ascii-of 34 refl b q) (λ q. pick (Turned (b ∷ bs)) (eqb b 10) _ _ (λ q. tt) (λ q. goes-on (b ∷ bs) 1)))
+    (λ q. pick (Turned (b ∷ bs)) (eqb b 34) _ _ (λ q. ascii-of 34 refl b q)
+    (λ q. pick (Turned (b ∷ bs)) (eqb b 10) _ _ (λ q. tt) (λ q. goes-on (b ∷ bs) 1)))
 
 loop-edge : (s : List ℕ) → Holds (λ u ms k. edge s k ≡ true) (repeat stringTurn tt s)
 unfolding repeat
@@ -77,7 +80,9 @@ closed s (deep k) e = tt
 string-quoted : (s : List ℕ) → Holds (Quoted s) (stringLiteral s)
 unfolding stringLiteral _>>_ next expectByte fail
 string-quoted s = pick {B = Out (Unit {0})} (λ o. Holds (Quoted s) (next s (λ _. rest) o)) (startsWith 34 s) _ _
-    (λ q. holds-after (Closed r) (Quoted s) [] 1 (λ a ns j h. quoted j h (edge-byte 34 refl s q)) (rest r) (closed r (repeat stringTurn tt r) (loop-edge r))) (λ q. tt)
+    (λ q. holds-after (Closed r) (Quoted s) [] 1 (λ a ns j h. quoted j h (edge-byte 34 refl s q)) (rest r)
+    (closed r (repeat stringTurn tt r) (loop-edge r)))
+    (λ q. tt)
   where
     r : List ℕ
     r = drop 1 s
@@ -86,7 +91,8 @@ string-quoted s = pick {B = Out (Unit {0})} (λ o. Holds (Quoted s) (next s (λ 
     rest = repeat stringTurn tt >> expectByte 34
 
     quoted : (j : ℕ) → Closed r tt [] j → edge s 1 ≡ true → Quoted s tt [] (1 + j)
-    quoted j h e = let z : 1 + (j - 1) ≡ 1 + j - 1 = omega arith in (e, subst (λ i. edge s i ≡ true) z (edge-add s 1 (j - 1) e (h .0)), edge-add s 1 j e (h .1), omega arith)
+    quoted j h e = let z : 1 + (j - 1) ≡ 1 + j - 1 = omega arith in
+        (e, subst (λ i. edge s i ≡ true) z (edge-add s 1 (j - 1) e (h .0)), edge-add s 1 j e (h .1), omega arith)
 
 pub string-made : {n k q r : ℕ} (s : List ℕ) → step k q Kind.string ≡ some r → Made n k (at q) (λ _. at r) s (asString (stringLiteral s))
 string-made {n} {k} {q} {r} s z = go (stringLiteral s) (string-quoted s)

@@ -13,7 +13,8 @@ use Rattle.syntax.specs.Helper.{skipBlankBlock}
 use Rattle.syntax.specs.Pattern.{Inside, usedBy}
 use Rattle.syntax.specs.Core.{Entry, getEntry, Error, read, refused, following, isNamed, count, kindOfEntry, entries, parse}
 use Rattle.laws.specs.Entries.{nil-entry}
-use Rattle.laws.specs.File.{near, First, entry, junk, entries-first, Begins, first, far, begins, entries-far, ReadKept, sameReading, lostReading, following-kept, read-kept, leading}
+use Rattle.laws.specs.File.{near, First, entry, junk, entries-first, Begins, first, far, begins, entries-far}
+use Rattle.laws.specs.File.{ReadKept, sameReading, lostReading, following-kept, read-kept, leading}
 use Rattle.laws.specs.Limit.{Kept, same, lost, ok-kept, bad-kept}
 use Rattle.laws.specs.Limit.Readers.{InsideKeeps, entry-keeps, level-keeps}
 
@@ -31,7 +32,12 @@ module _ {sub sub′ : Inside} (law : InsideKeeps sub sub′) where
 
       go : (o o′ : Out Entry) → getEntry sub r ≡ o → getEntry sub′ r ≡ o′ → Kept o o′
           → First sub′ (b ∷ bs) (node (kindOfEntry e (near sub (b ∷ bs) k)) ms) [] (k + u) ⊎ ((j : ℕ) × (getEntry sub r ≡ deep j))
-      go o o′ p q same = inl (subst (λ v. First sub′ (b ∷ bs) (node (kindOfEntry e (ltb (count (skipBlankBlock (drop k (b ∷ bs)))) 2 && isNamed v)) ms) [] (k + u)) (q ∙ sym p) (entry (ok-kept (entry-keeps law) (b ∷ bs) h)))
+      go o o′ p q same =
+          inl
+          (subst
+          (λ v. First sub′ (b ∷ bs)
+          (node (kindOfEntry e (ltb (count (skipBlankBlock (drop k (b ∷ bs)))) 2 && isNamed v)) ms) [] (k + u))
+          (q ∙ sym p) (entry (ok-kept (entry-keeps law) (b ∷ bs) h)))
       go o o′ p q (lost j d) = inr (j, p ∙ d)
   first-kept {b} {bs} (junk h) = inl (junk (bad-kept (entry-keeps law) (b ∷ bs) h))
 
@@ -48,7 +54,8 @@ module _ {sub sub′ : Inside} (law : InsideKeeps sub sub′) where
   entries-kept (suc m) [] = sameReading
   entries-kept (suc m) (b ∷ bs) = go (begins sub b bs) (λ r. entries-kept m r)
     where
-      go : Begins sub b bs → ((r : List ℕ) → ReadKept (entries m sub r) (entries m sub′ r)) → ReadKept (entries (suc m) sub (b ∷ bs)) (entries (suc m) sub′ (b ∷ bs))
+      go : Begins sub b bs → ((r : List ℕ) → ReadKept (entries m sub r) (entries m sub′ r))
+          → ReadKept (entries (suc m) sub (b ∷ bs)) (entries (suc m) sub′ (b ∷ bs))
       go (first {ms} {es} {k} f) ih = by (first-kept f)
         where
           by : First sub′ (b ∷ bs) ms es k ⊎ ((j : ℕ) × (getEntry sub (drop k (b ∷ bs)) ≡ deep j))
@@ -59,4 +66,6 @@ module _ {sub sub′ : Inside} (law : InsideKeeps sub sub′) where
 
 pub parse-kept : (n m : ℕ) (s : List ℕ) {ms : List Mark} {es : List Error} → n ≤ m → parse n s ≡ read ms es → parse m s ≡ read ms es
 unfolding parse
-parse-kept n m s l e = read-kept (following-kept [] [] (leading s) (entries-kept (level-keeps n m l) (suc (length s)) (drop (leading s) s))) e
+parse-kept n m s l e =
+    read-kept
+    (following-kept [] [] (leading s) (entries-kept (level-keeps n m l) (suc (length s)) (drop (leading s) s))) e

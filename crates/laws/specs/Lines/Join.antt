@@ -35,7 +35,9 @@ lineTurn-not-bad : (st l : ℕ) (r : List ℕ) → 0 < st → 0 < l → TurnNotB
 unfolding lineTurn lineRead
 lineTurn-not-bad st l [] p q = tt
 lineTurn-not-bad st l (b ∷ bs) p q = byCase (ltb 0 (eol (b ∷ bs))) (λ e. rw (e, TurnNotBad, lineTurn) q)
-    (λ e. rw (e, TurnNotBad, lineTurn) (byCase (eqb b 32) (λ f. rw f q) (λ f. rw f (byCase (eqb st 0) (λ g. absurd (omega (arith, eqb-true st 0 g))) (λ g. rw g tt)))))
+    (λ e. rw (e, TurnNotBad, lineTurn)
+    (byCase (eqb b 32) (λ f. rw f q)
+    (λ f. rw f (byCase (eqb st 0) (λ g. absurd (omega (arith, eqb-true st 0 g))) (λ g. rw g tt)))))
 
 turn-not-bad : (st : ℕ) (s : List ℕ) → 0 < st → TurnNotBad (commentTurn st s)
 unfolding commentTurn
@@ -74,9 +76,11 @@ levelled n st s = loop-holds commentTurn Levelled turns n st s
   where
     same : (st l : ℕ) → 0 < st → (eqb l 0 || (not (eqb st 0) && not (eqb l st))) ≡ false → l ≡ st
     same st l p e = byCase (eqb l st) (λ q. eqb-true l st q)
-        (λ q. byCase (eqb st 0) (λ r. absurd (omega (arith, eqb-true st 0 r))) (λ r. byCase (eqb l 0) (λ t. clash (rw t refl) e) (λ t. clash (rw t (rw r (rw q refl))) e)))
+        (λ q. byCase (eqb st 0) (λ r. absurd (omega (arith, eqb-true st 0 r)))
+        (λ r. byCase (eqb l 0) (λ t. clash (rw t refl) e) (λ t. clash (rw t (rw r (rw q refl))) e)))
 
-    ready : (st : ℕ) (s : List ℕ) → isOver st s ≡ false → (a : ℕ) → a ≡ levelOf s → (0 < st → a ≡ st) × (st ≡ 0 → 0 < levelOf s → a ≡ levelOf s)
+    ready : (st : ℕ) (s : List ℕ) → isOver st s ≡ false → (a : ℕ) → a ≡ levelOf s → (0 < st → a ≡ st)
+        × (st ≡ 0 → 0 < levelOf s → a ≡ levelOf s)
     ready st s e a f = (λ p. f ∙ same st (levelOf s) p e, λ z q. f)
 
     level-pos : (st : ℕ) (s : List ℕ) → isOver st s ≡ false → 0 < levelOf s
@@ -88,7 +92,9 @@ levelled n st s = loop-holds commentTurn Levelled turns n st s
 
     lines : (st : ℕ) (s r : List ℕ) → isOver st s ≡ false → TurnHolds commentTurn Levelled st s (lineTurn st (levelOf s) r)
     lines st s [] e = ready st s e (levelOf s) refl
-    lines st s (b ∷ bs) e = byCase (ltb 0 (eol (b ∷ bs))) (λ q. rw (q, TurnHolds, lineTurn) (λ a ns j g. ready st s e a (g .0 (level-pos st s e))))
+    lines st s (b ∷ bs) e =
+        byCase (ltb 0 (eol (b ∷ bs)))
+        (λ q. rw (q, TurnHolds, lineTurn) (λ a ns j g. ready st s e a (g .0 (level-pos st s e))))
         (λ q. rw (q, TurnHolds, lineTurn) (byCase (eqb b 32) (λ r. rw r (λ a ns j g. ready st s e a (g .0 (level-pos st s e))))
         (λ r. rw r (byCase (eqb st 0) (λ t. rw t tt) (λ t. rw t (λ p. refl, λ z p. absurd (eqb-false st 0 t z)))))))
 
@@ -98,7 +104,9 @@ levelled n st s = loop-holds commentTurn Levelled turns n st s
         (λ q. rw (q, TurnHolds, commentTurn) (lines st s (drop (levelOf s) s) q))
       where
         over : (st : ℕ) (s : List ℕ) → isOver st s ≡ true → st ≡ 0 → 0 < levelOf s → ⊥
-        over st s q z p = byCase (eqb (levelOf s) 0) (λ r. omega (arith, eqb-true (levelOf s) 0 r)) (λ r. clash q (rw r (rw (eq-eqb st 0 z) refl)))
+        over st s q z p =
+            byCase (eqb (levelOf s) 0) (λ r. omega (arith, eqb-true (levelOf s) 0 r))
+            (λ r. clash q (rw r (rw (eq-eqb st 0 z) refl)))
 
 -- the rest y of a comment of the level l: y's own comment, if it is of that level, and nothing otherwise
 abbrev pub Own : ℕ → List ℕ → Type 0
@@ -109,7 +117,9 @@ Other l y = ((ms : List Mark) (k : ℕ) → getComment y ≡ ok l ms k → ⊥) 
 
 -- a line of the level l reads as a first line, or is none where a first line would be wrong
 abbrev SameLine : ℕ → List ℕ → Type 0
-SameLine l r = (lineTurn l l r ≡ lineTurn 0 l r) ⊎ ((lineTurn l l r ≡ done (ok l [] 0)) × ((f : ParserError) × (k : ℕ) × (lineTurn 0 l r ≡ done (bad f k))))
+SameLine l r =
+    (lineTurn l l r ≡ lineTurn 0 l r) ⊎
+    ((lineTurn l l r ≡ done (ok l [] 0)) × ((f : ParserError) × (k : ℕ) × (lineTurn 0 l r ≡ done (bad f k))))
 
 lineTurn-same : (l : ℕ) (r : List ℕ) → 0 < l → SameLine l r
 unfolding lineTurn after fail
@@ -130,8 +140,16 @@ module _ (l c : ℕ) (cs : List ℕ) (pos : 0 < l) (hash : eqb c 35 ≡ true) (n
   other-level : eqb (levelOf (c ∷ cs)) l ≡ false → Other l (c ∷ cs)
   unfolding commentTurn getComment repeat
   other-level q = (
-    λ ms k e. eqb-false (levelOf (c ∷ cs)) l q (sym (subst (Holds (Levelled 0 (c ∷ cs))) e (levelled (suc (length (c ∷ cs))) 0 (c ∷ cs)) .1 refl (levelOf-some (c ∷ cs) (unfold startsWith in hash)))),
-    at-once (rw (ne-eqb (levelOf (c ∷ cs)) 0 (λ e. omega (arith, levelOf-some (c ∷ cs) (unfold startsWith in hash))), commentTurn) (rw (ne-eqb l 0 (λ e. omega arith)) (rw q refl))),
+    λ ms k e. eqb-false (levelOf (c ∷ cs)) l q
+        (sym
+        (subst (Holds (Levelled 0 (c ∷ cs))) e (levelled (suc (length (c ∷ cs))) 0 (c ∷ cs)) .1 refl
+        (levelOf-some (c ∷ cs) (unfold startsWith in hash)))),
+    at-once
+        (rw (
+          ne-eqb (levelOf (c ∷ cs)) 0 (λ e. omega (arith, levelOf-some (c ∷ cs) (unfold startsWith in hash))),
+          commentTurn,
+        )
+        (rw (ne-eqb l 0 (λ e. omega arith)) (rw q refl))),
   )
 
   module _ (same : levelOf (c ∷ cs) ≡ l) where
@@ -141,7 +159,8 @@ module _ (l c : ℕ) (cs : List ℕ) (pos : 0 < l) (hash : eqb c 35 ≡ true) (n
       where
         of : ℕ → ℕ → List ℕ → Turn ℕ ℕ
         of st n r = elim (eqb n 0 || (not (eqb st 0) && not (eqb n st))) [ true ↦ done (ok st [] 0) | false ↦ lineTurn st n r ]
-    turn-of st (inr z) = ap (λ n. of st n (drop n (c ∷ cs))) same ∙ rw (ne-eqb l 0 (λ e. omega arith)) (rw (eq-eqb l st (sym z)) (rw (ne-eqb st 0 (λ e. omega arith)) refl))
+    turn-of st (inr z) = ap (λ n. of st n (drop n (c ∷ cs))) same
+        ∙ rw (ne-eqb l 0 (λ e. omega arith)) (rw (eq-eqb l st (sym z)) (rw (ne-eqb st 0 (λ e. omega arith)) refl))
       where
         of : ℕ → ℕ → List ℕ → Turn ℕ ℕ
         of st n r = elim (eqb n 0 || (not (eqb st 0) && not (eqb n st))) [ true ↦ done (ok st [] 0) | false ↦ lineTurn st n r ]
@@ -158,7 +177,10 @@ module _ (l c : ℕ) (cs : List ℕ) (pos : 0 < l) (hash : eqb c 35 ≡ true) (n
 
         go : (o : Out ℕ) → getComment (c ∷ cs) ≡ o → Own l (c ∷ cs)
         go (ok a ms k) e =
-            let z : a ≡ l = subst (Holds (Levelled 0 (c ∷ cs))) e (levelled (suc (length (c ∷ cs))) 0 (c ∷ cs)) .1 refl (levelOf-some (c ∷ cs) (unfold startsWith in hash)) ∙ same in
+            let z : a ≡ l =
+            subst (Holds (Levelled 0 (c ∷ cs))) e (levelled (suc (length (c ∷ cs))) 0 (c ∷ cs)) .1 refl
+            (levelOf-some (c ∷ cs) (unfold startsWith in hash))
+            ∙ same in
             (ms, k, e ∙ ap (λ n. ok n ms k) z, λ m h. more m h ∙ e ∙ ap (λ n. ok n ms k) z)
           where
             more : (m : ℕ) → length (c ∷ cs) < m → loop m commentTurn l (c ∷ cs) ≡ getComment (c ∷ cs)

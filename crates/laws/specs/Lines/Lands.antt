@@ -14,9 +14,12 @@ use Rattle.syntax.specs.Bytes.{startsWith, spaces, eol, run}
 use Rattle.syntax.specs.Marks.{Mark}
 use Rattle.syntax.specs.Reader.{Out, ok, bad, deep, Reader, _>>=_, _>>_, pure, fail, wrap, inNode, next, after, Turn, repeat}
 use Rattle.syntax.specs.Helper.{skipBlankBlock, blockTurn}
-use Rattle.syntax.specs.Pattern.{Inside, initialLineStart, Slice, isTextByte, endsInCr, lineSlice, sliceBy, getTextSlice, State, isLineStart, roleAfter, withPlaceable, withText, goesOn, lineTurn, textTurn, patternTurn, finish, stateAt, usedBy, firstState, getPattern}
+use Rattle.syntax.specs.Pattern.{Inside, initialLineStart, Slice, isTextByte, endsInCr, lineSlice, sliceBy}
+use Rattle.syntax.specs.Pattern.{getTextSlice, State, isLineStart, roleAfter, withPlaceable, withText, goesOn, lineTurn}
+use Rattle.syntax.specs.Pattern.{textTurn, patternTurn, finish, stateAt, usedBy, firstState, getPattern}
 use Rattle.syntax.specs.Expression.{needsValue}
-use Rattle.syntax.specs.Core.{getAttribute, attributeBy, attributeTurn, getAttributes, Fields, fields, termFields, asMessage, asTerm, getEntry, lineStartsAt}
+use Rattle.syntax.specs.Core.{getAttribute, attributeBy, attributeTurn, getAttributes, Fields, fields, termFields}
+use Rattle.syntax.specs.Core.{asMessage, asTerm, getEntry, lineStartsAt}
 use Rattle.laws.specs.Bytes.{Whole, byCase, clash, pick, run-le}
 use Rattle.laws.specs.Answers.{Takes, Holds, TurnHolds, loop-holds, Sure}
 use Rattle.laws.specs.Stable.Helper.{block-sure}
@@ -53,7 +56,8 @@ module _ {A B : Type 0} where
   unfolding _>>=_ next after
   bind-lands p {q} f = record { on = λ s. go s (p s) }
     where
-      inner : (s : List ℕ) (ms : List Mark) (k : ℕ) (o : Out B) → Holds (λ b ns j. Lands (drop k s) j) o → Holds (λ b ns j. Lands s j) (after ms k o)
+      inner : (s : List ℕ) (ms : List Mark) (k : ℕ) (o : Out B) → Holds (λ b ns j. Lands (drop k s) j) o
+          → Holds (λ b ns j. Lands s j) (after ms k o)
       inner s ms k (ok b ns j) h = lands-after k j s h
       inner s ms k (bad e j) h = tt
       inner s ms k (deep j) h = tt
@@ -71,7 +75,8 @@ module _ {A B : Type 0} where
   unfolding _>>=_ next after
   lands-bind {p} {q} h f = record { on = λ s. go s (p s) (h .on s) }
     where
-      inner : (s : List ℕ) (ms : List Mark) (k : ℕ) (o : Out B) → Lands s k → Holds (λ b ns j. Stays (drop k s) j) o → Holds (λ b ns j. Lands s j) (after ms k o)
+      inner : (s : List ℕ) (ms : List Mark) (k : ℕ) (o : Out B) → Lands s k → Holds (λ b ns j. Stays (drop k s) j) o
+          → Holds (λ b ns j. Lands s j) (after ms k o)
       inner s ms k (ok b ns j) l h = lands-stay k j s l h
       inner s ms k (bad e j) l h = tt
       inner s ms k (deep j) l h = tt
@@ -85,7 +90,8 @@ module _ {A B : Type 0} where
   unfolding _>>=_ next after
   stays-bind {p} {q} h f = record { on = λ s. go s (p s) (h .on s) }
     where
-      inner : (s : List ℕ) (ms : List Mark) (k : ℕ) (o : Out B) → Stays s k → Holds (λ b ns j. Stays (drop k s) j) o → Holds (λ b ns j. Stays s j) (after ms k o)
+      inner : (s : List ℕ) (ms : List Mark) (k : ℕ) (o : Out B) → Stays s k → Holds (λ b ns j. Stays (drop k s) j) o
+          → Holds (λ b ns j. Stays s j) (after ms k o)
       inner s ms k (ok b ns j) l h = stays-stay k j s l h
       inner s ms k (bad e j) l h = tt
       inner s ms k (deep j) l h = tt
@@ -110,14 +116,19 @@ whole-end b [] w = eq-eqb b 10 w
 whole-end b (c ∷ cs) w = whole-end c cs w
 
 pub whole-lands : (b : ℕ) (bs : List ℕ) (k : ℕ) → Whole (b ∷ bs) → k ≤ suc (length bs) → Lands (b ∷ bs) k → lineStartsAt k (b ∷ bs) ≡ true
-whole-lands b bs k w l h = byCase (ltb k (suc (length bs))) (λ q. h (ltb-true k (suc (length bs)) q) .1) (λ q. let e : k ≡ suc (length bs) = omega (arith, ltb-false k (suc (length bs)) q) in rw e (whole-end b bs w))
+whole-lands b bs k w l h =
+    byCase (ltb k (suc (length bs))) (λ q. h (ltb-true k (suc (length bs)) q) .1)
+    (λ q. let e : k ≡ suc (length bs) = omega (arith, ltb-false k (suc (length bs)) q) in rw e (whole-end b bs w))
 
 -- ---- blank lines
 
 block-turn-lands : (n : ℕ) (s : List ℕ) → TurnHolds blockTurn (λ st r a ms k. lineStartsAt k r ≡ true) n s (blockTurn n s)
 unfolding blockTurn lineStartsAt
 block-turn-lands n s = byCase (ltb 0 (eol (drop (spaces s) s)))
-    (λ q. rw (q, TurnHolds, blockTurn) (λ a ns j g. starts-add (spaces s + eol (drop (spaces s) s)) j s (starts-later (spaces s) (eol (drop (spaces s) s)) s (ltb-true 0 (eol (drop (spaces s) s)) q) (eol-starts (drop (spaces s) s) (ltb-true 0 (eol (drop (spaces s) s)) q))) g))
+    (λ q. rw (q, TurnHolds, blockTurn)
+    (λ a ns j g. starts-add (spaces s + eol (drop (spaces s) s)) j s
+    (starts-later (spaces s) (eol (drop (spaces s) s)) s (ltb-true 0 (eol (drop (spaces s) s)) q)
+    (eol-starts (drop (spaces s) s) (ltb-true 0 (eol (drop (spaces s) s)) q))) g))
     (λ q. rw (q, TurnHolds, blockTurn) refl)
 
 pub block-lands : (s : List ℕ) → Holds (λ a ms k. lineStartsAt k s ≡ true) (skipBlankBlock s)
@@ -146,7 +157,9 @@ block-stays = record { on = λ s. go s (skipBlankBlock s) (block-lands s) }
 run-end : (t : ℕ → Bool) (s : List ℕ) (d : ℕ) (ds : List ℕ) → drop (run t s) s ≡ d ∷ ds → t d ≡ false
 unfolding run
 run-end t [] d ds e = let z : _≡_ {A = ℕ} 0 1 = cc in absurd (omega arith)
-run-end t (b ∷ bs) d ds e = byCase (t b) (λ q. run-end t bs d ds (rw (q, run) at e)) (λ q. let h : b ∷ bs ≡ d ∷ ds = rw (q, run) at e in let z : b ≡ d = cc in ap t (sym z) ∙ q)
+run-end t (b ∷ bs) d ds e =
+    byCase (t b) (λ q. run-end t bs d ds (rw (q, run) at e))
+    (λ q. let h : b ∷ bs ≡ d ∷ ds = rw (q, run) at e in let z : b ≡ d = cc in ap t (sym z) ∙ q)
 
 -- a text that ends a line has its newline, or leaves it
 abbrev EndsLine : List ℕ → ℕ → Slice → List Mark → ℕ → Type 0
@@ -156,18 +169,24 @@ newline-of : (d : ℕ) → isTextByte d ≡ false → eqb d 125 ≡ false → eq
 unfolding isTextByte
 newline-of d e p q = byCase (eqb d 10) (λ r. r) (λ r. clash {v = isTextByte d} (rw (r, isTextByte) (rw q (rw p refl))) e)
 
-lineSlice-ends : (s : List ℕ) (i : ℕ) (t : List ℕ) (d : ℕ) (ds : List ℕ) → drop (i + length t) s ≡ d ∷ ds → eqb d 10 ≡ true → Holds (EndsLine s i) (lineSlice t)
+lineSlice-ends : (s : List ℕ) (i : ℕ) (t : List ℕ) (d : ℕ) (ds : List ℕ) → drop (i + length t) s ≡ d ∷ ds
+    → eqb d 10 ≡ true → Holds (EndsLine s i) (lineSlice t)
 unfolding lineSlice startsWith lineStartsAt
 lineSlice-ends s i t d ds e q = byCase (endsInCr t)
     (λ r. rw (r, lineSlice) (λ h. inl (rw e q)))
-    (λ r. rw (r, lineSlice) (λ h. inr (subst (λ z. lineStartsAt z s ≡ true) (add-assoc i (length t) 1) (starts-later (i + length t) 1 s (omega arith) (rw e q)))))
+    (λ r. rw (r, lineSlice)
+    (λ h. inr
+    (subst (λ z. lineStartsAt z s ≡ true) (add-assoc i (length t) 1)
+    (starts-later (i + length t) 1 s (omega arith) (rw e q)))))
 
 sliceBy-ends : (s : List ℕ) (i : ℕ) (t r : List ℕ) → drop (i + length t) s ≡ r → ((d : ℕ) (ds : List ℕ) → r ≡ d ∷ ds → isTextByte d ≡ false)
     → Holds (EndsLine s i) (sliceBy t r)
 unfolding sliceBy isLineStart roleAfter
 sliceBy-ends s i t [] e f = λ h. clash h refl
 sliceBy-ends s i t (d ∷ ds) e f = byCase (eqb d 125) (λ q. rw (q, sliceBy) tt)
-    (λ q. rw (q, sliceBy) (byCase (eqb d 123) (λ r. rw r (λ h. clash h refl)) (λ r. rw r (lineSlice-ends s i t d ds e (newline-of d (f d ds refl) q r)))))
+    (λ q. rw (q, sliceBy)
+    (byCase (eqb d 123) (λ r. rw r (λ h. clash h refl))
+    (λ r. rw r (lineSlice-ends s i t d ds e (newline-of d (f d ds refl) q r)))))
 
 -- the text at the start of a rest of s, i bytes on
 text-ends : (s : List ℕ) (i : ℕ) (r : List ℕ) → drop i s ≡ r → Holds (EndsLine s i) (getTextSlice r)
@@ -190,11 +209,13 @@ module _ (sub : Inside) where
   abbrev Turned : State → List ℕ → Turn State State → Type 0
   Turned st s w = TurnHolds (patternTurn sub) Landed st s w
 
-  withText-lands : (st : State) (s : List ℕ) (i : ℕ) (o : Out Slice) → TurnBounded 0 1 0 s (withText st i o) → Holds (EndsLine s i) o → Turned st s (withText st i o)
+  withText-lands : (st : State) (s : List ℕ) (i : ℕ) (o : Out Slice) → TurnBounded 0 1 0 s (withText st i o)
+      → Holds (EndsLine s i) o → Turned st s (withText st i o)
   unfolding withText after
   withText-lands st s i (ok t ms k) (goes u) e = λ st′ ns j h l. inl (by j (h (omega (arith, length-drop (i + k) s))))
     where
-      by : (j : ℕ) → LandedBy (isLineStart (roleAfter (t .ending))) (drop (i + k) s) j → (0 < i + k + j) × (lineStartsAt (i + k + j) s ≡ true)
+      by : (j : ℕ) → LandedBy (isLineStart (roleAfter (t .ending))) (drop (i + k) s) j → (0 < i + k + j)
+          × (lineStartsAt (i + k + j) s ≡ true)
       by j (inl (p, q)) = (omega arith, starts-later (i + k) j s p q)
       by j (inr (z, a, b)) = (omega (arith, u .room), rw z (rw (add-zero (i + k)) (from (e a))))
         where
@@ -214,13 +235,16 @@ module _ (sub : Inside) where
   withPlaceable-lands st s (bad f k) p = tt
   withPlaceable-lands st s (deep k) p = tt
 
-  line-lands : (st : State) (b : ℕ) (bs : List ℕ) (i : ℕ) (r : List ℕ) → isLineStart (st .role) ≡ true → spaces (b ∷ bs) ≡ i → drop i (b ∷ bs) ≡ r
+  line-lands : (st : State) (b : ℕ) (bs : List ℕ) (i : ℕ) (r : List ℕ) → isLineStart (st .role) ≡ true
+      → spaces (b ∷ bs) ≡ i → drop i (b ∷ bs) ≡ r
       → TurnBounded 0 1 0 (b ∷ bs) (lineTurn st i r) → Turned st (b ∷ bs) (lineTurn st i r)
   unfolding lineTurn goesOn spaces run startsWith
   line-lands st b bs i [] l e d t = λ h. absurd (omega (arith, ap length d, length-drop i (b ∷ bs)))
   line-lands st b bs i (c ∷ cs) l e d t =
       byCase (goesOn i c)
-      (λ g. rw (g, lineTurn) (withText-lands st (b ∷ bs) i (getTextSlice (c ∷ cs)) (rw (g, lineTurn) at t) (text-ends (b ∷ bs) i (c ∷ cs) d)))
+      (λ g. rw (g, lineTurn)
+      (withText-lands st (b ∷ bs) i (getTextSlice (c ∷ cs)) (rw (g, lineTurn) at t)
+      (text-ends (b ∷ bs) i (c ∷ cs) d)))
       (λ g. rw (g, lineTurn) (λ h. inr (refl, l, not-newline g)))
     where
       not-newline : goesOn i c ≡ false → startsWith 10 (b ∷ bs) ≡ false
@@ -245,20 +269,28 @@ module _ (sub : Inside) where
     turn-lands : (st : State) (s : List ℕ) → Turned st s (patternTurn sub st s)
     unfolding patternTurn textTurn
     turn-lands st [] = λ h. absurd (not-suc-le-zero h)
-    turn-lands st (b ∷ bs) = byCase (eqb b 123) (λ q. rw (q, patternTurn) (withPlaceable-lands st (b ∷ bs) (sub .braced (b ∷ bs)) (takes b bs)))
+    turn-lands st (b ∷ bs) =
+        byCase (eqb b 123)
+        (λ q. rw (q, patternTurn) (withPlaceable-lands st (b ∷ bs) (sub .braced (b ∷ bs)) (takes b bs)))
         (λ q. let t = text-bounded {n = 0} st b bs q in
         rw (q, patternTurn) (byCase (isLineStart (st .role))
         (λ l. rw (l, textTurn) (line-lands st b bs (spaces (b ∷ bs)) (drop (spaces (b ∷ bs)) (b ∷ bs)) l refl refl (rw (l, textTurn) at t)))
-        (λ l. rw (l, textTurn) (withText-lands st (b ∷ bs) 0 (getTextSlice (b ∷ bs)) (rw (l, textTurn) at t) (text-ends (b ∷ bs) 0 (b ∷ bs) refl)))))
+        (λ l. rw (l, textTurn)
+        (withText-lands st (b ∷ bs) 0 (getTextSlice (b ∷ bs)) (rw (l, textTurn) at t)
+        (text-ends (b ∷ bs) 0 (b ∷ bs) refl)))))
 
     -- where the first text or placeable stands
-    first-lands : (s : List ℕ) → (firstState s .role ≡ initialLineStart) ⊎ ((0 < firstState s .used) × (lineStartsAt (firstState s .used) s ≡ true))
+    first-lands : (s : List ℕ)
+        → (firstState s .role ≡ initialLineStart) ⊎
+        ((0 < firstState s .used) × (lineStartsAt (firstState s .used) s ≡ true))
     unfolding firstState stateAt
     first-lands s = byCase (ltb 0 (eol (drop (spaces s) s)))
         (λ q. inr (rw (q, firstState) (
           omega (arith, ltb-true 0 (eol (drop (spaces s) s)) q),
           (let k = spaces s in let e = eol (drop (spaces s) s) in
-              starts-add (k + e) (usedBy (skipBlankBlock (drop (k + e) s))) s (starts-later k e s (ltb-true 0 e q) (eol-starts (drop k s) (ltb-true 0 e q))) (block-starts (drop (k + e) s))),
+              starts-add (k + e) (usedBy (skipBlankBlock (drop (k + e) s))) s
+              (starts-later k e s (ltb-true 0 e q) (eol-starts (drop k s) (ltb-true 0 e q)))
+              (block-starts (drop (k + e) s))),
         )))
         (λ q. inl (rw (q, firstState) refl))
 
@@ -266,7 +298,9 @@ module _ (sub : Inside) where
     unfolding getPattern repeat
     pattern-lands = record {
       on = λ s. let st = firstState s in let r = drop (st .used) s in
-          finished s (after [] (st .used) (repeat (patternTurn sub) st r)) (started s (repeat (patternTurn sub) st r) (loop-holds (patternTurn sub) Landed turn-lands (suc (length r)) st r));
+          finished s (after [] (st .used) (repeat (patternTurn sub) st r))
+          (started s (repeat (patternTurn sub) st r)
+          (loop-holds (patternTurn sub) Landed turn-lands (suc (length r)) st r));
     }
       where
         finished : (s : List ℕ) (o : Out State) → Holds (λ a ms k. Lands s k) o → Holds (λ a ms k. Lands s k) (finish s o)
@@ -296,7 +330,11 @@ module _ (sub : Inside) where
 
     attribute-lands : LandsOn (getAttribute sub)
     unfolding getAttribute inNode
-    attribute-lands = record { on = λ s. wrapped s _ (then-lands _ (then-lands _ (then-lands _ (lands-bind pattern-lands value-stays))) .on s) }
+    attribute-lands =
+        record {
+          on =
+              λ s. wrapped s _ (then-lands _ (then-lands _ (then-lands _ (lands-bind pattern-lands value-stays))) .on s);
+        }
       where
         wrapped : (s : List ℕ) (o : Out (Unit {0})) → Holds (λ a ms k. Lands s k) o → Holds (λ a ms k. Lands s k) (wrap 10 o)
         wrapped s (ok a ms k) h = unfold wrap in h
@@ -315,18 +353,30 @@ module _ (sub : Inside) where
 
         turns : (n : ℕ) (s : List ℕ) → TurnHolds (attributeTurn sub) (λ n r a ms k. Stays r k) n s (attributeTurn sub n s)
         turns n s = unfold attributeTurn lineStartsAt in
-            (pick (TurnHolds (attributeTurn sub) (λ n r a ms k. Stays r k) n s) (startsWith 46 (drop (spaces s) s)) _ _ (λ q. by n s (spaces s + 1) (getAttribute sub (drop (spaces s + 1) s)) (attribute-lands .on (drop (spaces s + 1) s))) (λ q l. refl))
+            (pick (TurnHolds (attributeTurn sub) (λ n r a ms k. Stays r k) n s) (startsWith 46 (drop (spaces s) s)) _ _
+            (λ q. by n s (spaces s + 1) (getAttribute sub (drop (spaces s + 1) s))
+            (attribute-lands .on (drop (spaces s + 1) s)))
+            (λ q l. refl))
 
     fields-land : LandsOn (fields sub)
     unfolding fields
-    fields-land = bind-lands _ (λ n. then-lands _ (then-lands _ (lands-bind pattern-lands (λ v. stays-then block-stays (stays-bind attributes-stay (λ c. pure-stays _))))))
+    fields-land =
+        bind-lands _
+        (λ n. then-lands _
+        (then-lands _
+        (lands-bind pattern-lands (λ v. stays-then block-stays (stays-bind attributes-stay (λ c. pure-stays _))))))
 
     pub entry-lands : (s : List ℕ) → startsWith 35 s ≡ false → Holds (λ e ms k. Lands s k) (getEntry sub s)
     unfolding getEntry termFields
-    entry-lands s q = rw (q, getEntry) (pick (Holds (λ e ms k. Lands s k)) (startsWith 45 s) _ _ (λ r. ofTerm (termFields sub s) (then-lands _ fields-land .on s)) (λ r. ofMessage (fields sub s) (fields-land .on s)))
+    entry-lands s q =
+        rw (q, getEntry)
+        (pick (Holds (λ e ms k. Lands s k)) (startsWith 45 s) _ _
+        (λ r. ofTerm (termFields sub s) (then-lands _ fields-land .on s))
+        (λ r. ofMessage (fields sub s) (fields-land .on s)))
       where
         ofMessage : (o : Out Fields) → Holds (λ a ms k. Lands s k) o → Holds (λ e ms k. Lands s k) (asMessage o)
-        ofMessage (ok f ms k) h = unfold asMessage in (pick (Holds (λ e ms k. Lands s k)) (f .value || not (eqb (f .attributes) 0)) _ _ (λ q. h) (λ q. tt))
+        ofMessage (ok f ms k) h = unfold asMessage in
+            (pick (Holds (λ e ms k. Lands s k)) (f .value || not (eqb (f .attributes) 0)) _ _ (λ q. h) (λ q. tt))
         ofMessage (bad f k) h = unfold asMessage in tt
         ofMessage (deep k) h = unfold asMessage in tt
 

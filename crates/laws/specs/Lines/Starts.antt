@@ -29,12 +29,15 @@ use Rattle.laws.specs.File.{First, entry, junk}
 
 -- ---- junk
 
-next-starts : (fresh : Bool) (s : List ℕ) → let k = toNextEntry fresh s in k < length s → (0 < k → lineStartsAt k s ≡ true) × (k ≡ 0 → fresh ≡ true)
+next-starts : (fresh : Bool) (s : List ℕ) → let k = toNextEntry fresh s in k < length s
+    → (0 < k → lineStartsAt k s ≡ true) × (k ≡ 0 → fresh ≡ true)
 unfolding toNextEntry lineStartsAt
 next-starts fresh [] l = absurd (not-suc-le-zero l)
 next-starts fresh (b ∷ bs) l = byCase (fresh && (isLetter b || (eqb b 45 || eqb b 35)))
     (λ q. rw (q, toNextEntry) (λ h. absurd (not-suc-le-zero h), λ e. byCase fresh (λ z. z) (λ z. clash q (rw z refl))))
-    (λ q. rw (q, toNextEntry) (let g = next-starts (eqb b 10) bs (le-of-suc-le-suc (rw (q, toNextEntry) at l)) in (λ h. by (toNextEntry (eqb b 10) bs) g, λ e. absurd (omega arith))))
+    (λ q. rw (q, toNextEntry)
+    (let g = next-starts (eqb b 10) bs (le-of-suc-le-suc (rw (q, toNextEntry) at l)) in
+    (λ h. by (toNextEntry (eqb b 10) bs) g, λ e. absurd (omega arith))))
   where
     by : (t : ℕ) → (0 < t → lineStartsAt t bs ≡ true) × (t ≡ 0 → eqb b 10 ≡ true) → lineStartsAt (suc t) (b ∷ bs) ≡ true
     by zero g = g .1 refl
@@ -42,7 +45,9 @@ next-starts fresh (b ∷ bs) l = byCase (fresh && (isLetter b || (eqb b 45 || eq
 
 junk-stays : (k : ℕ) (s : List ℕ) → Stays s (junkEnd k s)
 unfolding junkEnd
-junk-stays k s l = by (toNextEntry (lineStartsAt k s) (drop k s)) (next-starts (lineStartsAt k s) (drop k s) (omega (arith, length-drop k s)))
+junk-stays k s l =
+    by (toNextEntry (lineStartsAt k s) (drop k s))
+    (next-starts (lineStartsAt k s) (drop k s) (omega (arith, length-drop k s)))
   where
     by : (t : ℕ) → (0 < t → lineStartsAt t (drop k s) ≡ true) × (t ≡ 0 → lineStartsAt k s ≡ true) → lineStartsAt (k + t) s ≡ true
     by zero g = rw (add-zero k) (g .1 refl)
@@ -71,7 +76,8 @@ unfolding eol startsWith
 feed-at [] h = absurd (not-suc-le-zero h)
 feed-at (b ∷ bs) h = byCase (eqb b 10) (λ q. rw (q, eol) q) (λ q. cr bs q (rw (q, eol) at h))
   where
-    cr : (cs : List ℕ) → eqb b 10 ≡ false → 0 < (elim (eqb b 13 && startsWith 10 cs) [ true ↦ 2 | false ↦ 0 ]) → startsWith 10 (drop (eol (b ∷ cs) - 1) (b ∷ cs)) ≡ true
+    cr : (cs : List ℕ) → eqb b 10 ≡ false → 0 < (elim (eqb b 13 && startsWith 10 cs) [ true ↦ 2 | false ↦ 0 ])
+        → startsWith 10 (drop (eol (b ∷ cs) - 1) (b ∷ cs)) ≡ true
     cr [] q g = byCase (eqb b 13) (λ r. absurd (not-suc-le-zero (rw r at g))) (λ r. absurd (not-suc-le-zero (rw r at g)))
     cr (c ∷ cs) q g = byCase (eqb b 13)
         (λ r. byCase (eqb c 10) (λ t. rw (q, eol) (rw r (rw t t))) (λ t. absurd (not-suc-le-zero (rw t at (rw r at g)))))
@@ -81,7 +87,9 @@ feed-at (b ∷ bs) h = byCase (eqb b 10) (λ q. rw (q, eol) q) (λ q. cr bs q (r
 line-ends : (s : List ℕ) → (0 < length (drop (lineLength s) s)) → 0 < eol (drop (lineLength s) s)
 unfolding lineLength
 line-ends [] h = absurd (not-suc-le-zero h)
-line-ends (b ∷ bs) h = byCase (ltb 0 (eol (b ∷ bs))) (λ q. rw (q, lineLength) (ltb-true 0 (eol (b ∷ bs)) q)) (λ q. rw (q, lineLength) (line-ends bs (rw (q, lineLength) at h)))
+line-ends (b ∷ bs) h =
+    byCase (ltb 0 (eol (b ∷ bs))) (λ q. rw (q, lineLength) (ltb-true 0 (eol (b ∷ bs)) q))
+    (λ q. rw (q, lineLength) (line-ends bs (rw (q, lineLength) at h)))
 
 -- what a comment line leaves of its line end
 abbrev Ended : List ℕ → ℕ → Type 0
@@ -96,7 +104,9 @@ line-ended r h = go (drop (eol r) r) refl
 
     go : (z : List ℕ) → drop (eol r) r ≡ z → Ended r (used z)
     go [] e = λ l. absurd (omega (arith, ap length e, length-drop (eol r) r))
-    go (b ∷ bs) e = pick (Ended r) (eqb b 35) (eol r) (eol r - 1) (λ q l. inr (h (omega arith), eol-starts r (h (omega arith)))) (λ q l. inl (feed-at r (h (omega arith))))
+    go (b ∷ bs) e =
+        pick (Ended r) (eqb b 35) (eol r) (eol r - 1) (λ q l. inr (h (omega arith), eol-starts r (h (omega arith))))
+        (λ q l. inl (feed-at r (h (omega arith))))
 
 ended-leaves : (k u : ℕ) (s r : List ℕ) → drop k s ≡ r → Ended r u → Leaves s (k + u)
 ended-leaves k u s r e h l = by (h (omega (arith, ap length e, length-drop k s)))
@@ -113,10 +123,15 @@ unfolding lineTurn lineRead fail after lineStartsAt
 line-leaves st s l [] e = λ h. absurd (omega (arith, ap length e, length-drop l s))
 line-leaves st s l (b ∷ bs) e =
     pick (Turned st s) (ltb 0 (eol (b ∷ bs))) _ _
-    (λ q a ns j g. leaves-after (l + 0 + lineEndUsed (b ∷ bs)) j s (ended-leaves (l + 0) (lineEndUsed (b ∷ bs)) s (b ∷ bs) (ap (λ z. drop z s) (add-zero l) ∙ e) (line-ended (b ∷ bs) (λ _. ltb-true 0 (eol (b ∷ bs)) q))) g)
+    (λ q a ns j g. leaves-after (l + 0 + lineEndUsed (b ∷ bs)) j s
+    (ended-leaves (l + 0) (lineEndUsed (b ∷ bs)) s (b ∷ bs) (ap (λ z. drop z s) (add-zero l) ∙ e)
+    (line-ended (b ∷ bs) (λ _. ltb-true 0 (eol (b ∷ bs)) q))) g)
     (λ q. pick (Turned st s) (eqb b 32) _ _
     (λ q a ns j g. let m = lineLength bs in let r = drop m bs in
-    leaves-after (l + 1 + m + lineEndUsed r) j s (ended-leaves (l + 1 + m) (lineEndUsed r) s r (sym (drop-drop m (l + 1) s) ∙ ap (drop m) (sym (drop-drop 1 l s) ∙ ap (drop 1) e)) (line-ended r (line-ends bs))) g)
+    leaves-after (l + 1 + m + lineEndUsed r) j s
+    (ended-leaves (l + 1 + m) (lineEndUsed r) s r
+    (sym (drop-drop m (l + 1) s) ∙ ap (drop m) (sym (drop-drop 1 l s) ∙ ap (drop 1) e))
+    (line-ended r (line-ends bs))) g)
     (λ q. pick (Turned st s) (eqb st 0) _ _ (λ q. tt) (λ q h. inr refl)))
 
 comment-leaves : (s : List ℕ) → Holds (λ l ms k. Leaves s k) (getComment s)
@@ -142,7 +157,10 @@ block-some (b ∷ bs) h = rw (eqb-true b 10 h) (rw (block-ten bs) (past (loop (s
 
 module _ {n : ℕ} {sub : Inside} (law : InsideBounds n sub) where
   entry-leaves : (s : List ℕ) → Holds (λ e ms k. Leaves s k) (getEntry sub s)
-  entry-leaves s = byCase (startsWith 35 s) (λ q. unfold getEntry in (rw (q, getEntry) (commented (getComment s) (comment-leaves s)))) (λ q. named (getEntry sub s) (entry-lands sub law s q))
+  entry-leaves s =
+      byCase (startsWith 35 s)
+      (λ q. unfold getEntry in (rw (q, getEntry) (commented (getComment s) (comment-leaves s))))
+      (λ q. named (getEntry sub s) (entry-lands sub law s q))
     where
       commented : (o : Out ℕ) → Holds (λ l ms k. Leaves s k) o → Holds (λ e ms k. Leaves s k) (asComment o)
       commented (ok l ms k) h = unfold asComment in h
@@ -166,4 +184,6 @@ module _ {n : ℕ} {sub : Inside} (law : InsideBounds n sub) where
       by : LineEnd s k → lineStartsAt (k + u) s ≡ true
       by (inl a) = starts-later k u s (block-some (drop k s) a) (block-starts (drop k s))
       by (inr a) = starts-add k u s a (block-starts (drop k s))
-  first-stays {b} {bs} (junk {k = k} h) = let j = junkEnd k (b ∷ bs) in stays-stay j (usedBy (skipBlankBlock (drop j (b ∷ bs)))) (b ∷ bs) (junk-stays k (b ∷ bs)) (λ _. block-starts (drop j (b ∷ bs)))
+  first-stays {b} {bs} (junk {k = k} h) = let j = junkEnd k (b ∷ bs) in
+      stays-stay j (usedBy (skipBlankBlock (drop j (b ∷ bs)))) (b ∷ bs) (junk-stays k (b ∷ bs))
+      (λ _. block-starts (drop j (b ∷ bs)))

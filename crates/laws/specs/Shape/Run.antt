@@ -11,7 +11,8 @@ use borrow.Author.Tests.{eqb-true, leb-true}
 use Rattle.syntax.specs.Kind as Kind
 use Rattle.syntax.specs.Marks.{Mark, plain, placed, node, textNode, moveUp}
 use Rattle.laws.specs.Bytes.{byCase, clash}
-use Rattle.syntax.specs.Shape.{start, Move, move, Model, model, models, among, stepIn, stepBy, finalBy, step, final, opens, Run, stay, text, nest, Content, WellFormed}
+use Rattle.syntax.specs.Shape.{start, Move, move, Model, model, models, among, stepIn, stepBy, finalBy, step, final}
+use Rattle.syntax.specs.Shape.{opens, Run, stay, text, nest, Content, WellFormed}
 
 -- an answer that is none and some; the other part of an `or`
 pub lost {ℓ} : {G : Type ℓ} {A : Type 0} {a : A} → none ≡ some a → G
@@ -64,14 +65,16 @@ unfolding stepBy
 by-rule p [] k q j r h s = lost s
 by-rule p (model i ms qs ∷ rest) k q j r h s =
     let b = and-eq-true-iff (everyIn (p i) ms) (everyMove p rest) .0 h in
-    byCase (eqb k i) (λ e. rw (eqb-true k i e) (in-rule (p i) ms q j r (b .0) (rw (e, stepBy) at s))) (λ e. by-rule p rest k q j r (b .1) (rw (e, stepBy) at s))
+    byCase (eqb k i) (λ e. rw (eqb-true k i e) (in-rule (p i) ms q j r (b .0) (rw (e, stepBy) at s)))
+    (λ e. by-rule p rest k q j r (b .1) (rw (e, stepBy) at s))
 
 final-by-rule : (p : ℕ → ℕ → Bool) (ms : List Model) (k q : ℕ) → everyEnd p ms ≡ true → finalBy ms k q ≡ true → p k q ≡ true
 unfolding finalBy
 final-by-rule p [] k q h s = clash s refl
 final-by-rule p (model i ms qs ∷ rest) k q h s =
     let b = and-eq-true-iff (everyChild (p i) qs) (everyEnd p rest) .0 h in
-    byCase (eqb k i) (λ e. rw (eqb-true k i e) (child-rule (p i) qs q (b .0) (rw (e, finalBy) at s))) (λ e. final-by-rule p rest k q (b .1) (rw (e, finalBy) at s))
+    byCase (eqb k i) (λ e. rw (eqb-true k i e) (child-rule (p i) qs q (b .0) (rw (e, finalBy) at s)))
+    (λ e. final-by-rule p rest k q (b .1) (rw (e, finalBy) at s))
 
 -- what a computed test shows of each move, of each end
 pub rule : (p : ℕ → ℕ → ℕ → ℕ → Bool) → everyMove p models ≡ true → (k q j r : ℕ) → step k q j ≡ some r → p k q j r ≡ true
@@ -83,21 +86,25 @@ unfolding final
 end-rule p h k q s = final-by-rule p models k q h s
 
 module _ (boundary : ℕ → Bool) where
-  pub run-append : {left k q r t : ℕ} {ms ns : List Mark} → Run boundary left k q r ms → Run boundary left k r t ns → Run boundary left k q t (ms ++ ns)
+  pub run-append : {left k q r t : ℕ} {ms ns : List Mark} → Run boundary left k q r ms → Run boundary left k r t ns
+      → Run boundary left k q t (ms ++ ns)
   unfolding textNode
   run-append stay w = w
   run-append (text j a e i s x y l rest) w = text j a e i s x y l (run-append rest w)
   run-append (nest i s o inner f rest) w = rw append-assoc (nest i s o inner f (run-append rest w))
 
-  pub content-append : {left k q r : ℕ} {ms ns : List Mark} → Run boundary left k q r ms → Content boundary left k r ns → Content boundary left k q (ms ++ ns)
+  pub content-append : {left k q r : ℕ} {ms ns : List Mark} → Run boundary left k q r ms → Content boundary left k r ns
+      → Content boundary left k q (ms ++ ns)
   content-append w c = record { to = c .to; run = run-append w (c .run); ended = c .ended }
 
   -- a T child, another child
-  pub run-text : {left k q r : ℕ} (j a e : ℕ) → Kind.isText j ≡ true → step k q j ≡ some r → boundary a ≡ true → boundary e ≡ true → a ≤ e → Run boundary left k q r (textNode j a e)
+  pub run-text : {left k q r : ℕ} (j a e : ℕ) → Kind.isText j ≡ true → step k q j ≡ some r → boundary a ≡ true
+      → boundary e ≡ true → a ≤ e → Run boundary left k q r (textNode j a e)
   unfolding textNode
   run-text j a e i s x y l = text j a e i s x y l stay
 
-  pub run-node : {left inside k q r j : ℕ} {inner : List Mark} → Kind.isText j ≡ false → step k q j ≡ some r → opens j + inside ≡ left → Content boundary inside j start inner → Run boundary left k q r (node j inner)
+  pub run-node : {left inside k q r j : ℕ} {inner : List Mark} → Kind.isText j ≡ false → step k q j ≡ some r
+      → opens j + inside ≡ left → Content boundary inside j start inner → Run boundary left k q r (node j inner)
   run-node i s o c = rw append-nil at (nest i s o (c .run) (c .ended) stay)
 
   pub run-wider : {left k q t : ℕ} {ms : List Mark} (more : ℕ) → left ≤ more → Run boundary left k q t ms → Run boundary more k q t ms
@@ -114,7 +121,8 @@ module _ (boundary boundary′ : ℕ → Bool) (n : ℕ) (carries : (a : ℕ) �
   run-moved (text j a e i s x y l rest) = text j (n + a) (n + e) i s (carries a x) (carries e y) (omega arith) (run-moved rest)
   run-moved (nest i s o inner f rest) = simp map-append (nest i s o (run-moved inner) f (run-moved rest))
 
-pub formed-moved : (boundary boundary′ : ℕ → Bool) (n : ℕ) → ((a : ℕ) → boundary a ≡ true → boundary′ (n + a) ≡ true) → {limit : ℕ} {ms : List Mark} → WellFormed boundary limit ms → WellFormed boundary′ limit (moveUp n ms)
+pub formed-moved : (boundary boundary′ : ℕ → Bool) (n : ℕ) → ((a : ℕ) → boundary a ≡ true → boundary′ (n + a) ≡ true)
+    → {limit : ℕ} {ms : List Mark} → WellFormed boundary limit ms → WellFormed boundary′ limit (moveUp n ms)
 formed-moved boundary boundary′ n carries c = record { to = c .to; run = run-moved boundary boundary′ n carries (c .run); ended = c .ended }
 
 -- a mark that opens or closes a node of one of the kinds, with a place if it is a T kind and only then
@@ -135,7 +143,9 @@ known-append (m ∷ ms) ns k l = (k .0, known-append ms ns (k .1) l)
 pub known-child : (k q j r : ℕ) → step k q j ≡ some r → (Kind.message ≤ j) × (j ≤ Kind.namedArgument)
 unfolding models
 known-child k q j r s =
-    let b = and-eq-true-iff (leb Kind.message j) (leb j Kind.namedArgument) .0 (rule (λ k q j r. leb Kind.message j && leb j Kind.namedArgument) refl k q j r s) in
+    let b =
+    and-eq-true-iff (leb Kind.message j) (leb j Kind.namedArgument) .0
+    (rule (λ k q j r. leb Kind.message j && leb j Kind.namedArgument) refl k q j r s) in
     (leb-true _ _ (b .0), leb-true _ _ (b .1))
 
 pub run-known : {boundary : ℕ → Bool} {left k q t : ℕ} {ms : List Mark} → Run boundary left k q t ms → AllKnown ms
@@ -145,5 +155,9 @@ run-known (text {k = k} {q = q} {r = r} j a e i s x y l rest) =
     let b = known-child k q j r s in
     (textOpened j a (b .0) (b .1) i, (textClosed j e (b .0) (b .1) i, run-known rest))
 run-known (nest {k = k} {q = q} {r = r} {j = j} {inner = ns} {ms = ms} i s o inner f rest) =
-    let b = known-child k q j r s in
-    (opened j (b .0) (b .1) i, known-append (ns ++ (plain (Kind.closing j) ∷ [])) ms (known-append ns (plain (Kind.closing j) ∷ []) (run-known inner) (closed j (b .0) (b .1) i, tt)) (run-known rest))
+    let b = known-child k q j r s in (
+      opened j (b .0) (b .1) i,
+      known-append (ns ++ (plain (Kind.closing j) ∷ [])) ms
+          (known-append ns (plain (Kind.closing j) ∷ []) (run-known inner) (closed j (b .0) (b .1) i, tt))
+          (run-known rest),
+    )

@@ -15,11 +15,16 @@ use Rattle.syntax.specs.Marks.{Mark, textNode}
 use Rattle.syntax.specs.Reader.{Out, ok, bad, deep, Reader, fail, _>>_, next, after, wrap}
 use Rattle.syntax.specs.Helper.{skipBlank}
 use Rattle.syntax.specs.Pattern.{Inside}
-use Rattle.syntax.specs.Expression.{Inline, string, number, variable, function, inner, message, term, getInlineExpression, isAmong, isNone, separator, positional, namedValue, namedArgument, afterReference, pastBlank, argumentBy, argumentTurn}
+use Rattle.syntax.specs.Expression.{Inline, string, number, variable, function, inner, message, term}
+use Rattle.syntax.specs.Expression.{getInlineExpression, isAmong, isNone, separator, positional, namedValue}
+use Rattle.syntax.specs.Expression.{namedArgument, afterReference, pastBlank, argumentBy, argumentTurn}
 use Rattle.laws.specs.Bytes.{Whole, whole-drop, Stop, byCase, drop-app, pick, pick₂}
 use Rattle.laws.specs.Answers.{Holds, Sure, holds-map}
 use Rattle.laws.specs.Bounds.Expression.{pastBlank-least}
-use Rattle.laws.specs.Stable.{loose, Upto, Within, Carries, Reads, from-any, then, pure-reads, TurnWithin, TurnCarries, Turns, Any, Free, turnOf-carries, turnOf-within, next-within, next-keeps, wrap-relabels, cont-within, cont-keeps, carries-trans, after-least, least-next, least-wrap, beyond}
+use Rattle.laws.specs.Stable.{loose, Upto, Within, Carries, Reads, from-any, then, pure-reads, TurnWithin}
+use Rattle.laws.specs.Stable.{TurnCarries, Turns, Any, Free, turnOf-carries, turnOf-within, next-within}
+use Rattle.laws.specs.Stable.{next-keeps, wrap-relabels, cont-within, cont-keeps, carries-trans, after-least}
+use Rattle.laws.specs.Stable.{least-next, least-wrap, beyond}
 use Rattle.laws.specs.Stable.Helper.{expectByte-reads, takeByteIf-reads, blank-reads, blank-sure}
 use Rattle.laws.specs.Stable.Pattern.{InsideLaw}
 use Rattle.laws.specs.Values.{Fits, inline-fits}
@@ -27,7 +32,9 @@ use Rattle.laws.specs.Stable.Inline.{inline-reads}
 
 separator-reads : (names : List (List ℕ)) → Reads loose (separator names)
 unfolding separator
-separator-reads names = then (blank-reads loose tt) (then (takeByteIf-reads 44 (λ e. omega arith)) (then (blank-reads loose tt) (pure-reads loose names)))
+separator-reads names =
+    then (blank-reads loose tt)
+    (then (takeByteIf-reads 44 (λ e. omega arith)) (then (blank-reads loose tt) (pure-reads loose names)))
 
 module _ (sub : Inside) (law : InsideLaw sub) where
   value-reads : Reads loose (namedValue sub)
@@ -37,53 +44,80 @@ module _ (sub : Inside) (law : InsideLaw sub) where
   module _ (x y : List ℕ) (w : Whole x) (names : List (List ℕ)) where
     positional-within : Stop y → (ms : List Mark) (k : ℕ) → k ≤ length x → Within (length x) (positional names ms k (x ++ y))
     unfolding positional fail after
-    positional-within s ms k h = pick (Within (length x)) (isNone names) _ _ (λ q. cont-within (separator names) (separator-reads names) x y w ms k s h) (λ q. tt)
+    positional-within s ms k h =
+        pick (Within (length x)) (isNone names) _ _
+        (λ q. cont-within (separator names) (separator-reads names) x y w ms k s h) (λ q. tt)
 
-    positional-keeps : (ms : List Mark) (k : ℕ) → Carries (Upto loose y (length x)) (positional names ms k x) (positional names ms k (x ++ y))
+    positional-keeps : (ms : List Mark) (k : ℕ)
+        → Carries (Upto loose y (length x)) (positional names ms k x) (positional names ms k (x ++ y))
     unfolding positional fail after
-    positional-keeps ms k = pick₂ (Carries (Upto loose y (length x))) (isNone names) _ _ _ _ (λ q. cont-keeps (separator names) (separator-reads names) x y w ms k) (λ q. tt)
+    positional-keeps ms k =
+        pick₂ (Carries (Upto loose y (length x))) (isNone names) _ _ _ _
+        (λ q. cont-keeps (separator names) (separator-reads names) x y w ms k) (λ q. tt)
 
     positional-least : (ms : List Mark) (k : ℕ) (s : List ℕ) → Holds (λ b ns j. k ≤ j) (positional names ms k s)
     unfolding positional fail
-    positional-least ms k s = byCase (isNone names) (λ q. rw (q, positional) (after-least ms k (separator names (drop k s)))) (λ q. rw (q, positional) (after-least [] k (fail {A = List (List ℕ)} Errors.PositionalArgumentFollowsNamed (drop k s))))
+    positional-least ms k s =
+        byCase (isNone names) (λ q. rw (q, positional) (after-least ms k (separator names (drop k s))))
+        (λ q. rw (q, positional)
+        (after-least [] k (fail {A = List (List ℕ)} Errors.PositionalArgumentFollowsNamed (drop k s))))
 
     -- the reader of a named argument's value
     abbrev valued : ℕ → ℕ → Reader Inline
     valued n k r = wrap 26 (after (textNode 9 0 n) k (namedValue sub (drop k r)))
 
     abbrev NamedWith : ℕ → ℕ → List ℕ → List ℕ → Out (List (List ℕ))
-    NamedWith n k t s = elim (isAmong t names) [ true ↦ bad (record { start = k; end = k + 1; kind = Errors.DuplicatedNamedArgument 0 n }) k | false ↦ next s (λ _. separator (t ∷ names)) (valued n k s) ]
+    NamedWith n k t s =
+        elim
+        (isAmong t names) [
+          | true ↦ bad (record { start = k; end = k + 1; kind = Errors.DuplicatedNamedArgument 0 n }) k
+          | false ↦ next s (λ _. separator (t ∷ names)) (valued n k s)
+        ]
 
     named-within : Stop y → (n k : ℕ) → k ≤ length x → Within (length x) (namedArgument sub names n k (x ++ y))
     unfolding namedArgument _>>_
     named-within s n k h = pick (Within (length x)) (isAmong (take n (x ++ y)) names) _ _ (λ q. tt)
         (λ q. next-within x y (λ _. separator (take n (x ++ y) ∷ names)) (valued n k (x ++ y))
-        (wrap-relabels 26 .within (length x) (after (textNode 9 0 n) k (namedValue sub (drop k (x ++ y)))) (cont-within (namedValue sub) value-reads x y w (textNode 9 0 n) k s h))
+        (wrap-relabels 26 .within (length x) (after (textNode 9 0 n) k (namedValue sub (drop k (x ++ y))))
+        (cont-within (namedValue sub) value-reads x y w (textNode 9 0 n) k s h))
         (λ a j g. separator-reads (take n (x ++ y) ∷ names) .stops (drop j x) y (whole-drop j x w) s))
 
     namedWith-keeps : (n k : ℕ) (t : List ℕ) → Carries (Upto loose y (length x)) (NamedWith n k t x) (NamedWith n k t (x ++ y))
     namedWith-keeps n k t = pick₂ (Carries (Upto loose y (length x))) (isAmong t names) _ _ _ _ (λ q. tt)
         (λ q. next-keeps loose loose x y (λ _. separator (t ∷ names)) (valued n k x) (valued n k (x ++ y))
-        (wrap-relabels 26 .carries (Upto loose y (length x)) (after (textNode 9 0 n) k (namedValue sub (drop k x))) (after (textNode 9 0 n) k (namedValue sub (drop k (x ++ y)))) (cont-keeps (namedValue sub) value-reads x y w (textNode 9 0 n) k))
+        (wrap-relabels 26 .carries (Upto loose y (length x)) (after (textNode 9 0 n) k (namedValue sub (drop k x)))
+        (after (textNode 9 0 n) k (namedValue sub (drop k (x ++ y))))
+        (cont-keeps (namedValue sub) value-reads x y w (textNode 9 0 n) k))
         (λ a j. separator-reads (t ∷ names) .keeps (drop j x) y (whole-drop j x w))
         (λ a b ns i j e u. omega arith))
 
-    named-keeps : (n k : ℕ) → n ≤ length x → Carries (Upto loose y (length x)) (namedArgument sub names n k x) (namedArgument sub names n k (x ++ y))
+    named-keeps : (n k : ℕ) → n ≤ length x
+        → Carries (Upto loose y (length x)) (namedArgument sub names n k x) (namedArgument sub names n k (x ++ y))
     unfolding namedArgument _>>_
-    named-keeps n k h = subst (λ t. Carries (Upto loose y (length x)) (NamedWith n k (take n x) x) (NamedWith n k t (x ++ y))) (sym (take-append-le n x y h)) (namedWith-keeps n k (take n x))
+    named-keeps n k h =
+        subst (λ t. Carries (Upto loose y (length x)) (NamedWith n k (take n x) x) (NamedWith n k t (x ++ y)))
+        (sym (take-append-le n x y h)) (namedWith-keeps n k (take n x))
 
     named-least : (n k : ℕ) (s : List ℕ) → Holds (λ b ns j. k ≤ j) (namedArgument sub names n k s)
     unfolding namedArgument _>>_
     named-least n k s = byCase (isAmong (take n s) names) (λ q. rw (q, namedArgument) tt)
-        (λ q. rw (q, namedArgument) (least-next k s (λ _. separator (take n s ∷ names)) (valued n k s) (least-wrap k 26 (after (textNode 9 0 n) k (namedValue sub (drop k s))) (after-least (textNode 9 0 n) k (namedValue sub (drop k s))))))
+        (λ q. rw (q, namedArgument)
+        (least-next k s (λ _. separator (take n s ∷ names)) (valued n k s)
+        (least-wrap k 26 (after (textNode 9 0 n) k (namedValue sub (drop k s)))
+        (after-least (textNode 9 0 n) k (namedValue sub (drop k s))))))
 
     afterReference-least : (n : ℕ) (ms : List Mark) (k : ℕ) (s : List ℕ) → Holds (λ b ns j. k ≤ j) (afterReference sub names n ms k s)
     unfolding afterReference
-    afterReference-least n ms k s = byCase (startsWith 58 (drop k s)) (λ q. rw (q, afterReference) (named-least n k s)) (λ q. rw (q, afterReference) (positional-least ms k s))
+    afterReference-least n ms k s =
+        byCase (startsWith 58 (drop k s)) (λ q. rw (q, afterReference) (named-least n k s))
+        (λ q. rw (q, afterReference) (positional-least ms k s))
 
-    afterReference-within : Stop y → (n : ℕ) (ms : List Mark) (k : ℕ) → k ≤ length x → Within (length x) (afterReference sub names n ms k (x ++ y))
+    afterReference-within : Stop y → (n : ℕ) (ms : List Mark) (k : ℕ) → k ≤ length x
+        → Within (length x) (afterReference sub names n ms k (x ++ y))
     unfolding afterReference
-    afterReference-within s n ms k h = pick (Within (length x)) (startsWith 58 (drop k (x ++ y))) _ _ (λ q. named-within s n k h) (λ q. positional-within s ms k h)
+    afterReference-within s n ms k h =
+        pick (Within (length x)) (startsWith 58 (drop k (x ++ y))) _ _ (λ q. named-within s n k h)
+        (λ q. positional-within s ms k h)
 
     startsWith-same : (k : ℕ) → k < length x → startsWith 58 (drop k (x ++ y)) ≡ startsWith 58 (drop k x)
     unfolding startsWith
@@ -98,17 +132,24 @@ module _ (sub : Inside) (law : InsideLaw sub) where
     unfolding afterReference
     afterReference-keeps n ms k h =
         byCase (ltb k (length x))
-        (λ q. subst (λ v. Carries {A = List (List ℕ)} (Upto loose y (length x)) (elim (startsWith 58 (drop k x)) [ true ↦ namedArgument sub names n k x | false ↦ positional names ms k x ])
-        (elim v [ true ↦ namedArgument sub names n k (x ++ y) | false ↦ positional names ms k (x ++ y) ])) (sym (startsWith-same k (ltb-true k (length x) q)))
-        (pick₂ (Carries (Upto loose y (length x))) (startsWith 58 (drop k x)) _ _ _ _ (λ r. named-keeps n k (omega (arith, ltb-true k (length x) q))) (λ r. positional-keeps ms k)))
-        (λ q. beyond y (length x) k (afterReference sub names n ms k x) (afterReference sub names n ms k (x ++ y)) (ltb-false k (length x) q) (afterReference-least n ms k x))
+        (λ q. subst
+        (λ v. Carries {A = List (List ℕ)} (Upto loose y (length x))
+        (elim (startsWith 58 (drop k x)) [ true ↦ namedArgument sub names n k x | false ↦ positional names ms k x ])
+        (elim v [ true ↦ namedArgument sub names n k (x ++ y) | false ↦ positional names ms k (x ++ y) ]))
+        (sym (startsWith-same k (ltb-true k (length x) q)))
+        (pick₂ (Carries (Upto loose y (length x))) (startsWith 58 (drop k x)) _ _ _ _
+        (λ r. named-keeps n k (omega (arith, ltb-true k (length x) q))) (λ r. positional-keeps ms k)))
+        (λ q. beyond y (length x) k (afterReference sub names n ms k x) (afterReference sub names n ms k (x ++ y))
+        (ltb-false k (length x) q) (afterReference-least n ms k x))
 
   past-of : ℕ → Out (Unit {0}) → ℕ
   past-of k o = elim o [ ok u ms j ↦ k + j | bad f j ↦ k | deep j ↦ k ]
 
   pastBlank-within : (x y : List ℕ) → Whole x → Stop y → (k : ℕ) → k ≤ length x → pastBlank k (x ++ y) ≤ length x
   unfolding pastBlank past-of
-  pastBlank-within x y w s k h = rw (drop-app k x y h, pastBlank) (go (skipBlank (drop k x ++ y)) (blank-reads loose tt .stops (drop k x) y (whole-drop k x w) s))
+  pastBlank-within x y w s k h =
+      rw (drop-app k x y h, pastBlank)
+      (go (skipBlank (drop k x ++ y)) (blank-reads loose tt .stops (drop k x) y (whole-drop k x w) s))
     where
       go : (o : Out (Unit {0})) → Within (length (drop k x)) o → past-of k o ≤ length x
       go (ok a ms j) g = omega (arith, length-drop k x)
@@ -130,7 +171,8 @@ module _ (sub : Inside) (law : InsideLaw sub) where
   module _ (x y : List ℕ) (w : Whole x) (names : List (List ℕ)) where
     argumentBy-within : Stop y → (o : Out Inline) → Within (length x) o → Within (length x) (argumentBy sub names (x ++ y) o)
     unfolding argumentBy
-    argumentBy-within s (ok (message n false) ms k) h = afterReference-within x y w names s n ms (pastBlank k (x ++ y)) (pastBlank-within x y w s k h)
+    argumentBy-within s (ok (message n false) ms k) h =
+        afterReference-within x y w names s n ms (pastBlank k (x ++ y)) (pastBlank-within x y w s k h)
     argumentBy-within s (ok (message n true) ms k) h = positional-within x y w names s ms k h
     argumentBy-within s (ok string ms k) h = positional-within x y w names s ms k h
     argumentBy-within s (ok number ms k) h = positional-within x y w names s ms k h
@@ -145,19 +187,26 @@ module _ (sub : Inside) (law : InsideLaw sub) where
         → argumentBy sub names (x ++ y) (ok sh ms k) ≡ positional names ms k (x ++ y)
         → Carries (Upto loose y (length x)) (positional names ms k x) (argumentBy sub names (x ++ y) o′)
     by-positional sh ms k o′ c e =
-        carries-trans (Upto loose y (length x)) (positional names ms k x) (positional names ms k (x ++ y)) (argumentBy sub names (x ++ y) o′) (positional-keeps x y w names ms k)
-        (holds-map (λ b ns j. k ≤ j) (λ b ns j. Upto loose y (length x) j → argumentBy sub names (x ++ y) o′ ≡ positional names ms k (x ++ y))
-        (λ b ns j l u. ap (argumentBy sub names (x ++ y)) (c (omega arith)) ∙ e) (positional names ms k x) (positional-least x y w names ms k x))
+        carries-trans (Upto loose y (length x)) (positional names ms k x) (positional names ms k (x ++ y))
+        (argumentBy sub names (x ++ y) o′) (positional-keeps x y w names ms k)
+        (holds-map (λ b ns j. k ≤ j)
+        (λ b ns j. Upto loose y (length x) j → argumentBy sub names (x ++ y) o′ ≡ positional names ms k (x ++ y))
+        (λ b ns j l u. ap (argumentBy sub names (x ++ y)) (c (omega arith)) ∙ e) (positional names ms k x)
+        (positional-least x y w names ms k x))
 
     argumentBy-keeps : (o o′ : Out Inline) → Fits (run isNamePart x) o → Carries (Upto loose y (length x)) o o′
         → Carries (Upto loose y (length x)) (argumentBy sub names x o) (argumentBy sub names (x ++ y) o′)
     unfolding argumentBy
     argumentBy-keeps (ok (message n false) ms k) o′ f c =
         let j = pastBlank k x in
-        carries-trans (Upto loose y (length x)) (afterReference sub names n ms j x) (afterReference sub names n ms j (x ++ y)) (argumentBy sub names (x ++ y) o′)
+        carries-trans (Upto loose y (length x)) (afterReference sub names n ms j x)
+        (afterReference sub names n ms j (x ++ y)) (argumentBy sub names (x ++ y) o′)
         (afterReference-keeps x y w names n ms j (omega (arith, pastBlank-least k x)))
-        (holds-map (λ b ns i. j ≤ i) (λ b ns i. Upto loose y (length x) i → argumentBy sub names (x ++ y) o′ ≡ afterReference sub names n ms j (x ++ y))
-        (λ b ns i l u. ap (argumentBy sub names (x ++ y)) (c (omega (arith, pastBlank-least k x))) ∙ ap (λ h. afterReference sub names n ms h (x ++ y)) (pastBlank-same x y w k (omega arith)))
+        (holds-map (λ b ns i. j ≤ i)
+        (λ b ns i. Upto loose y (length x) i
+        → argumentBy sub names (x ++ y) o′ ≡ afterReference sub names n ms j (x ++ y))
+        (λ b ns i l u. ap (argumentBy sub names (x ++ y)) (c (omega (arith, pastBlank-least k x)))
+        ∙ ap (λ h. afterReference sub names n ms h (x ++ y)) (pastBlank-same x y w k (omega arith)))
         (afterReference sub names n ms j x) (afterReference-least x y w names n ms j x))
     argumentBy-keeps (ok (message n true) ms k) o′ f c = by-positional (message n true) ms k o′ c refl
     argumentBy-keeps (ok string ms k) o′ f c = by-positional string ms k o′ c refl
@@ -169,22 +218,31 @@ module _ (sub : Inside) (law : InsideLaw sub) where
     argumentBy-keeps (bad e k) o′ f c = tt
     argumentBy-keeps (deep k) o′ f c = tt
 
-  argument-stops : (names : List (List ℕ)) (x y : List ℕ) → Whole x → Unit {0} → Stop y → TurnWithin Free (length x) (argumentTurn sub names (x ++ y))
+  argument-stops : (names : List (List ℕ)) (x y : List ℕ) → Whole x → Unit {0} → Stop y
+      → TurnWithin Free (length x) (argumentTurn sub names (x ++ y))
   unfolding argumentTurn
   argument-stops names [] [] w i s = omega arith
   argument-stops names [] (c ∷ cs) w i s = pick (TurnWithin Free 0) (eqb c 41) _ _ (λ q. omega arith)
-      (λ q. turnOf-within (Unit {0}) 0 (argumentBy sub names (c ∷ cs) (getInlineExpression sub false (c ∷ cs))) (argumentBy-within [] (c ∷ cs) tt names s (getInlineExpression sub false (c ∷ cs)) (inline-reads sub law false .stops [] (c ∷ cs) tt s)))
+      (λ q. turnOf-within (Unit {0}) 0 (argumentBy sub names (c ∷ cs) (getInlineExpression sub false (c ∷ cs)))
+      (argumentBy-within [] (c ∷ cs) tt names s (getInlineExpression sub false (c ∷ cs))
+      (inline-reads sub law false .stops [] (c ∷ cs) tt s)))
   argument-stops names (b ∷ bs) y w i s = pick (TurnWithin Free (suc (length bs))) (eqb b 41) _ _ (λ q. omega arith)
-      (λ q. turnOf-within (Unit {0}) (suc (length bs)) (argumentBy sub names ((b ∷ bs) ++ y) (getInlineExpression sub false ((b ∷ bs) ++ y)))
-      (argumentBy-within (b ∷ bs) y w names s (getInlineExpression sub false ((b ∷ bs) ++ y)) (inline-reads sub law false .stops (b ∷ bs) y w s)))
+      (λ q. turnOf-within (Unit {0}) (suc (length bs))
+      (argumentBy sub names ((b ∷ bs) ++ y) (getInlineExpression sub false ((b ∷ bs) ++ y)))
+      (argumentBy-within (b ∷ bs) y w names s (getInlineExpression sub false ((b ∷ bs) ++ y))
+      (inline-reads sub law false .stops (b ∷ bs) y w s)))
 
   argument-keeps : (names : List (List ℕ)) (x y : List ℕ) → Whole x → Unit {0}
       → TurnCarries Free (Upto loose y (length x)) (argumentTurn sub names x) (argumentTurn sub names (x ++ y))
   unfolding argumentTurn
   argument-keeps names [] y w i = λ u. absurd (not-suc-le-zero u)
   argument-keeps names (b ∷ bs) y w i = pick₂ (TurnCarries Free (Upto loose y (suc (length bs)))) (eqb b 41) _ _ _ _ (λ q u. refl)
-      (λ q. turnOf-carries (Unit {0}) (Upto loose y (suc (length bs))) (argumentBy sub names (b ∷ bs) (getInlineExpression sub false (b ∷ bs))) (argumentBy sub names ((b ∷ bs) ++ y) (getInlineExpression sub false ((b ∷ bs) ++ y)))
-      (argumentBy-keeps (b ∷ bs) y w names (getInlineExpression sub false (b ∷ bs)) (getInlineExpression sub false ((b ∷ bs) ++ y)) (inline-fits sub false (b ∷ bs)) (inline-reads sub law false .keeps (b ∷ bs) y w)))
+      (λ q. turnOf-carries (Unit {0}) (Upto loose y (suc (length bs)))
+      (argumentBy sub names (b ∷ bs) (getInlineExpression sub false (b ∷ bs)))
+      (argumentBy sub names ((b ∷ bs) ++ y) (getInlineExpression sub false ((b ∷ bs) ++ y)))
+      (argumentBy-keeps (b ∷ bs) y w names (getInlineExpression sub false (b ∷ bs))
+      (getInlineExpression sub false ((b ∷ bs) ++ y)) (inline-fits sub false (b ∷ bs))
+      (inline-reads sub law false .keeps (b ∷ bs) y w)))
 
   pub argument-turns : Turns loose Any (argumentTurn sub)
   argument-turns = record { stops = argument-stops; keeps = argument-keeps }

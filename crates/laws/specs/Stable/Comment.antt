@@ -34,7 +34,8 @@ unfolding run
 hash-line zero s h = sym (zero-add (lineRun s))
 hash-line (suc k) [] h = absurd (not-suc-le-zero h)
 hash-line (suc k) (b ∷ bs) h = byCase (eqb b 35)
-    (λ q. lineRun-on b bs (rw (eqb-true b 35 q) refl) ∙ ap suc (hash-line k bs (le-of-suc-le-suc (rw (q, run) at h))) ∙ sym (suc-add k (lineRun (drop k bs))))
+    (λ q. lineRun-on b bs (rw (eqb-true b 35 q) refl) ∙ ap suc (hash-line k bs (le-of-suc-le-suc (rw (q, run) at h)))
+    ∙ sym (suc-add k (lineRun (drop k bs))))
     (λ q. absurd (not-suc-le-zero (rw (q, run) at h)))
 
 -- a line's text
@@ -73,7 +74,10 @@ text-of b (c ∷ cs) w = byCase (ltb 0 (eol (b ∷ c ∷ cs))) (λ q. text-at b 
       same = λ y. length-on b ((c ∷ cs) ++ y) (ap (ltb 0) (eol-whole b (c ∷ cs) y w .0) ∙ q) ∙ ap suc (t .same y) ∙ sym e;
       here = rw e (suc-le-suc (t .here));
       ends = rw e (t .ends);
-      line = rw e (lineRun-on b (c ∷ cs) (not-end b (c ∷ cs) q) ∙ ap suc (t .line) ∙ sym (suc-add (lineLength (c ∷ cs)) (lineRun (drop (lineLength (c ∷ cs)) (c ∷ cs)))));
+      line =
+          rw e
+          (lineRun-on b (c ∷ cs) (not-end b (c ∷ cs) q) ∙ ap suc (t .line)
+          ∙ sym (suc-add (lineLength (c ∷ cs)) (lineRun (drop (lineLength (c ∷ cs)) (c ∷ cs)))));
     })
 
 -- where a line that ends in a newline j bytes on lets the next start
@@ -85,7 +89,9 @@ used-at : (r : List ℕ) (f : ℕ) → 0 < eol r → f + lineEndUsed r ≡ endAt
 unfolding lineEndUsed
 used-at r f h = go (drop (eol r) r)
   where
-    go : (d : List ℕ) → f + (elim d [ [] ↦ eol r | b ∷ bs ↦ elim (eqb b 35) [ true ↦ eol r | false ↦ eol r - 1 ] ]) ≡ endAt d (f + (eol r - 1))
+    go : (d : List ℕ)
+        → f + (elim d [ [] ↦ eol r | b ∷ bs ↦ elim (eqb b 35) [ true ↦ eol r | false ↦ eol r - 1 ] ]) ≡ endAt d
+        (f + (eol r - 1))
     go [] = omega arith
     go (b ∷ bs) = byCase (eqb b 35) (λ q. rw (q, endAt) (omega arith)) (λ q. rw (q, endAt) refl)
 
@@ -97,21 +103,25 @@ pub data Line (level : ℕ) (x : List ℕ) : Type 0 where
       → ((y : List ℕ) → commentTurn level (x ++ y) ≡ again l ms (endAt (drop (suc (lineRun x)) x ++ y) (lineRun x))) → Line level x
 
 -- a line end, f bytes on
-end-at : (x y : List ℕ) (f c : ℕ) (cs : List ℕ) → drop f x ≡ c ∷ cs → Whole (c ∷ cs) → 0 < eol (c ∷ cs) → lineRun x ≡ f + lineRun (c ∷ cs) → f ≤ length x
+end-at : (x y : List ℕ) (f c : ℕ) (cs : List ℕ) → drop f x ≡ c ∷ cs → Whole (c ∷ cs) → 0 < eol (c ∷ cs)
+    → lineRun x ≡ f + lineRun (c ∷ cs) → f ≤ length x
     → f + lineEndUsed ((c ∷ cs) ++ y) ≡ endAt (drop (suc (lineRun x)) x ++ y) (lineRun x)
 end-at x y f c cs d v h r le =
     let e = eol-whole c cs y v in
     let z = eol-line (c ∷ cs) h in
     let j : suc (lineRun x) ≡ f + eol (c ∷ cs) = omega arith in
     let i : f + (eol (c ∷ cs) - 1) ≡ lineRun x = omega arith in
-    let g : drop (suc (lineRun x)) x ≡ drop (eol (c ∷ cs)) (c ∷ cs) = ap (λ k. drop k x) j ∙ sym (drop-drop (eol (c ∷ cs)) f x) ∙ ap (drop (eol (c ∷ cs))) d in
+    let g : drop (suc (lineRun x)) x ≡ drop (eol (c ∷ cs)) (c ∷ cs) = ap (λ k. drop k x) j
+    ∙ sym (drop-drop (eol (c ∷ cs)) f x) ∙ ap (drop (eol (c ∷ cs))) d in
     used-at ((c ∷ cs) ++ y) f (omega (arith, e .0))
     ∙ ap (λ k. endAt (drop k ((c ∷ cs) ++ y)) (f + (k - 1))) (e .0)
     ∙ ap (λ t. endAt t (f + (eol (c ∷ cs) - 1))) (drop-app (eol (c ∷ cs)) (c ∷ cs) y (e .1) ∙ ap (λ t. t ++ y) (sym g))
     ∙ ap (endAt (drop (suc (lineRun x)) x ++ y)) i
 
 abbrev commentOf : ℕ → ℕ → List ℕ → Turn ℕ ℕ
-commentOf level l r = elim (eqb l 0 || (not (eqb level 0) && not (eqb l level))) [ true ↦ done (ok level [] 0) | false ↦ lineTurn level l r ]
+commentOf level l r =
+    elim
+    (eqb l 0 || (not (eqb level 0) && not (eqb l level))) [ true ↦ done (ok level [] 0) | false ↦ lineTurn level l r ]
 
 comment-at : (level l : ℕ) (r s : List ℕ) → levelOf s ≡ l → drop l s ≡ r → commentTurn level s ≡ commentOf level l r
 unfolding commentTurn
@@ -142,7 +152,8 @@ level-run x c cs e q =
     omega (arith, run-drop (λ b. eqb b 35) (levelOf x) x (omega arith))
 
 module _ (level b : ℕ) (bs : List ℕ) (w : Whole (b ∷ bs)) (hash : eqb b 35 ≡ true) where
-  hashes : (run (λ c. eqb c 35) (b ∷ bs) ≡ suc (run (λ c. eqb c 35) bs)) × ((y : List ℕ) → levelOf ((b ∷ bs) ++ y) ≡ levelOf (b ∷ bs)) × (levelOf (b ∷ bs) < suc (length bs))
+  hashes : (run (λ c. eqb c 35) (b ∷ bs) ≡ suc (run (λ c. eqb c 35) bs))
+      × ((y : List ℕ) → levelOf ((b ∷ bs) ++ y) ≡ levelOf (b ∷ bs)) × (levelOf (b ∷ bs) < suc (length bs))
   unfolding run levelOf
   hashes = let r = run-whole (λ c. eqb c 35) refl b bs in
       (rw (hash, run), λ y. ap (min 3) (r y w .0), omega (arith, r [] w .1))
@@ -162,9 +173,12 @@ module _ (level b : ℕ) (bs : List ℕ) (w : Whole (b ∷ bs)) (hash : eqb b 35
 
     empty-line : ltb 0 (eol (c ∷ cs)) ≡ true → Line level (b ∷ bs)
     unfolding lineTurn lineRead
-    empty-line q = line (levelOf (b ∷ bs)) (textNode 8 (levelOf (b ∷ bs)) (levelOf (b ∷ bs) + 0)) positive (level-run (b ∷ bs) c cs e (eol-not-hash c cs (ltb-true 0 (eol (c ∷ cs)) q)))
+    empty-line q =
+        line (levelOf (b ∷ bs)) (textNode 8 (levelOf (b ∷ bs)) (levelOf (b ∷ bs) + 0)) positive
+        (level-run (b ∷ bs) c cs e (eol-not-hash c cs (ltb-true 0 (eol (c ∷ cs)) q)))
         (λ y. turn y ∙ rw (cut-eol y ∙ q, lineTurn) (ap (again (levelOf (b ∷ bs)) (textNode 8 (levelOf (b ∷ bs)) (levelOf (b ∷ bs) + 0)))
-        (end-at (b ∷ bs) y (levelOf (b ∷ bs) + 0) c cs (rw (add-zero (levelOf (b ∷ bs))) e) v (ltb-true 0 (eol (c ∷ cs)) q) (rw (add-zero (levelOf (b ∷ bs))) at-line) (omega (arith, hashes .2)))))
+        (end-at (b ∷ bs) y (levelOf (b ∷ bs) + 0) c cs (rw (add-zero (levelOf (b ∷ bs))) e) v
+        (ltb-true 0 (eol (c ∷ cs)) q) (rw (add-zero (levelOf (b ∷ bs))) at-line) (omega (arith, hashes .2)))))
 
   module _ (c d : ℕ) (ds : List ℕ) (e : drop (levelOf (b ∷ bs)) (b ∷ bs) ≡ c ∷ d ∷ ds) (v : Whole (c ∷ d ∷ ds))
       (turn : (y : List ℕ) → commentTurn level ((b ∷ bs) ++ y) ≡ lineTurn level (levelOf (b ∷ bs)) ((c ∷ d ∷ ds) ++ y)) where
@@ -176,7 +190,8 @@ module _ (level b : ℕ) (bs : List ℕ) (w : Whole (b ∷ bs)) (hash : eqb b 35
         let n = lineLength (d ∷ ds) in
         let T = text-of d ds v in
         let (f, fs, g) = some-of n (d ∷ ds) (some-eol n (d ∷ ds) (T .ends)) in
-        let dr : drop (l + 1 + n) (b ∷ bs) ≡ f ∷ fs = sym (drop-drop n (l + 1) (b ∷ bs)) ∙ ap (drop n) (sym (drop-drop 1 l (b ∷ bs)) ∙ ap (drop 1) e) ∙ g in
+        let dr : drop (l + 1 + n) (b ∷ bs) ≡ f ∷ fs = sym (drop-drop n (l + 1) (b ∷ bs))
+        ∙ ap (drop n) (sym (drop-drop 1 l (b ∷ bs)) ∙ ap (drop 1) e) ∙ g in
         let len : l + length (c ∷ d ∷ ds) ≡ suc (length bs) = omega (arith, ap length e, length-drop l (b ∷ bs), hashes .2) in
         line l (textNode 8 (l + 1) (l + 1 + n)) positive (level-run (b ∷ bs) c (d ∷ ds) e (rw (eqb-true c 32 t) refl))
         (λ y. turn y ∙ rw (cut-eol c (d ∷ ds) e v turn y ∙ q, lineTurn) (rw t
@@ -184,7 +199,9 @@ module _ (level b : ℕ) (bs : List ℕ) (w : Whole (b ∷ bs)) (hash : eqb b 35
         ∙ ap (lineRead l (l + 1) n) (drop-app n (d ∷ ds) y (T .here) ∙ ap (λ r. r ++ y) g)
         ∙ read-at l n f fs y
         (end-at (b ∷ bs) y (l + 1 + n) f fs dr (subst Whole g (whole-drop n (d ∷ ds) v)) (subst (λ r. 0 < eol r) g (T .ends))
-        (omega (arith, at-line c (d ∷ ds) e v turn, lineRun-on c (d ∷ ds) (not-end c (d ∷ ds) q), T .line, ap lineRun g)) (omega (arith, T .here))))))
+        (omega
+        (arith, at-line c (d ∷ ds) e v turn, lineRun-on c (d ∷ ds) (not-end c (d ∷ ds) q), T .line, ap lineRun g))
+        (omega (arith, T .here))))))
       where
         read-at : (l n f : ℕ) (fs y : List ℕ) → {j : ℕ} → l + 1 + n + lineEndUsed ((f ∷ fs) ++ y) ≡ j
             → lineRead l (l + 1) n ((f ∷ fs) ++ y) ≡ again l (textNode 8 (l + 1) (l + 1 + n)) j
@@ -196,7 +213,8 @@ module _ (level b : ℕ) (bs : List ℕ) (w : Whole (b ∷ bs)) (hash : eqb b 35
   line-by c cs e v turn = byCase (ltb 0 (eol (c ∷ cs))) (λ q. empty-line c cs e v turn q)
       (λ q. byCase (eqb c 32) (λ t. texts cs e v turn q t)
       (λ t. byCase (eqb level 0)
-      (λ z. wrong (record { start = levelOf (b ∷ bs) + 0; end = levelOf (b ∷ bs) + 1; kind = Errors.ExpectedToken 32 }) (levelOf (b ∷ bs) + 0)
+      (λ z. wrong (record { start = levelOf (b ∷ bs) + 0; end = levelOf (b ∷ bs) + 1; kind = Errors.ExpectedToken 32 })
+      (levelOf (b ∷ bs) + 0)
       (λ y. turn y ∙ rw (cut-eol c cs e v turn y ∙ q, lineTurn) (rw t (rw z (unfold after fail in refl)))))
       (λ z. over (λ y. turn y ∙ rw (cut-eol c cs e v turn y ∙ q, lineTurn) (rw t (rw z refl))))))
     where
@@ -212,8 +230,10 @@ module _ (level b : ℕ) (bs : List ℕ) (w : Whole (b ∷ bs)) (hash : eqb b 35
       let (c, cs, e) = some-of l (b ∷ bs) (hashes .2) in
       let v = subst Whole e (whole-drop l (b ∷ bs) w) in
       let at : (y : List ℕ) → commentTurn level ((b ∷ bs) ++ y) ≡ commentOf level l ((c ∷ cs) ++ y) =
-      λ y. comment-at level l ((c ∷ cs) ++ y) ((b ∷ bs) ++ y) (hashes .1 y) (drop-app l (b ∷ bs) y (omega (arith, hashes .2)) ∙ ap (λ r. r ++ y) e) in
-      byCase (eqb l 0 || (not (eqb level 0) && not (eqb l level))) (λ q. over (λ y. at y ∙ rw (q, commentOf) refl)) (λ q. line-by c cs e v (λ y. at y ∙ rw (q, commentOf) refl))
+      λ y. comment-at level l ((c ∷ cs) ++ y) ((b ∷ bs) ++ y) (hashes .1 y)
+      (drop-app l (b ∷ bs) y (omega (arith, hashes .2)) ∙ ap (λ r. r ++ y) e) in
+      byCase (eqb l 0 || (not (eqb level 0) && not (eqb l level))) (λ q. over (λ y. at y ∙ rw (q, commentOf) refl))
+      (λ q. line-by c cs e v (λ y. at y ∙ rw (q, commentOf) refl))
 
 -- one line, that ends in a newline
 abbrev pub OneLine : List ℕ → Type 0
@@ -234,12 +254,14 @@ pub data Cutting (st : ℕ) (x : List ℕ) (l : ℕ) (ms : List Mark) (k : ℕ) 
       → ((y : List ℕ) (n : ℕ) → length (x ++ y) < n → loop n commentTurn st (x ++ y) ≡ ok l ms k) → Cutting st x l ms k
   newline : (c : ℕ) (cs : List ℕ) → drop k x ≡ 10 ∷ c ∷ cs
       → ((y : List ℕ) (n : ℕ) → length (x ++ y) < n → loop n commentTurn st (x ++ y) ≡ ok l ms k) → Cutting st x l ms k
-  end : k ≡ length x → (i : ℕ) → lineStartsAt i x ≡ true → OneLine (drop i x) → startsWith 35 (drop i x) ≡ true → run (λ b. eqb b 35) (drop i x) ≡ l
+  end : k ≡ length x → (i : ℕ) → lineStartsAt i x ≡ true → OneLine (drop i x) → startsWith 35 (drop i x) ≡ true
+      → run (λ b. eqb b 35) (drop i x) ≡ l
       → ((y : List ℕ) (n : ℕ) → length (x ++ y) < n → Goes y l ms k (loop n commentTurn st (x ++ y))) → Cutting st x l ms k
 
 -- all that n turns read
 abbrev Cuttings : ℕ → Type 0
-Cuttings n = (st : ℕ) (x : List ℕ) → Whole x → startsWith 35 x ≡ true → (l : ℕ) (ms : List Mark) (k : ℕ) → loop n commentTurn st x ≡ ok l ms k → Cutting st x l ms k
+Cuttings n = (st : ℕ) (x : List ℕ) → Whole x → startsWith 35 x ≡ true → (l : ℕ) (ms : List Mark) (k : ℕ)
+    → loop n commentTurn st x ≡ ok l ms k → Cutting st x l ms k
 
 pub after-ok : {A : Type 0} (ms : List Mark) (k : ℕ) (o : Out A) (a : A) (ns : List Mark) (j : ℕ) → after ms k o ≡ ok a ns j
     → (ns′ : List Mark) × (j′ : ℕ) × (o ≡ ok a ns′ j′) × (ms ++ moveUp k ns′ ≡ ns) × (k + j′ ≡ j)
@@ -267,7 +289,8 @@ ok-ok : {A : Type 0} (o : Out A) (a b : A) (ms ns : List Mark) (k j : ℕ) → o
 ok-ok o a b ms ns k j p q = (cc, cc, cc)
 
 -- a loop that is done at once
-quiet : (n st : ℕ) (s : List ℕ) (l : ℕ) (ms : List Mark) (k : ℕ) → startsWith 35 s ≡ false → loop n commentTurn st s ≡ ok l ms k → (st ≡ l) × ([] ≡ ms) × (0 ≡ k)
+quiet : (n st : ℕ) (s : List ℕ) (l : ℕ) (ms : List Mark) (k : ℕ) → startsWith 35 s ≡ false
+    → loop n commentTurn st s ≡ ok l ms k → (st ≡ l) × ([] ≡ ms) × (0 ≡ k)
 unfolding loop
 quiet zero st s l ms k h e = let z : _≡_ {A = ℕ} 0 1 = cc in absurd (omega arith)
 quiet (suc n) st s l ms k h e = ok-ok (loop (suc n) commentTurn st s) st l [] ms 0 k (loop-done n st s (ok st [] 0) (no-comment st s h)) e
@@ -276,7 +299,8 @@ still : (n st : ℕ) (s : List ℕ) → 0 < n → startsWith 35 s ≡ false → 
 still zero st s p h = absurd (not-suc-le-zero p)
 still (suc n) st s p h = loop-done n st s (ok st [] 0) (no-comment st s h)
 
-goes-lift : (y : List ℕ) (l : ℕ) (ms ns : List Mark) (k j : ℕ) (o o′ : Out ℕ) → o ≡ after ms k o′ → 0 < j → Goes y l ns j o′ → Goes y l (ms ++ moveUp k ns) (k + j) o
+goes-lift : (y : List ℕ) (l : ℕ) (ms ns : List Mark) (k j : ℕ) (o o′ : Out ℕ) → o ≡ after ms k o′ → 0 < j
+    → Goes y l ns j o′ → Goes y l (ms ++ moveUp k ns) (k + j) o
 unfolding after
 goes-lift [] l ms ns k j o o′ e h g = e ∙ ap (after ms k) g
 goes-lift (c ∷ cs) l ms ns k j o o′ e h g = go (eqb c 35) g
@@ -288,12 +312,14 @@ goes-lift (c ∷ cs) l ms ns k j o o′ e h g = go (eqb c 35) g
 drop-rest : (k j : ℕ) (x r : List ℕ) → drop k x ≡ r → drop (k + j) x ≡ drop j r
 drop-rest k j x r e = sym (drop-drop j k x) ∙ ap (drop j) e
 
-module _ (st l₁ : ℕ) (ms₁ : List Mark) (x x₁ : List ℕ) (k₁ : ℕ) (d : drop k₁ x ≡ x₁) (le : k₁ ≤ length x) (pos : 0 < k₁) (ls : lineStartsAt k₁ x ≡ true)
+module _ (st l₁ : ℕ) (ms₁ : List Mark) (x x₁ : List ℕ) (k₁ : ℕ) (d : drop k₁ x ≡ x₁) (le : k₁ ≤ length x) (pos : 0 < k₁)
+    (ls : lineStartsAt k₁ x ≡ true)
     (turn : (y : List ℕ) → commentTurn st (x ++ y) ≡ again l₁ ms₁ k₁) where
   lifted : (y : List ℕ) (n : ℕ) → length (x ++ y) < suc n
       → (loop (suc n) commentTurn st (x ++ y) ≡ after ms₁ k₁ (loop n commentTurn l₁ (x₁ ++ y))) × (length (x₁ ++ y) < n)
   lifted y n h = (
-    loop-again n st (x ++ y) l₁ ms₁ k₁ (turn y) ∙ ap (λ r. after ms₁ k₁ (loop n commentTurn l₁ r)) (drop-app k₁ x y le ∙ ap (λ r. r ++ y) d),
+    loop-again n st (x ++ y) l₁ ms₁ k₁ (turn y)
+        ∙ ap (λ r. after ms₁ k₁ (loop n commentTurn l₁ r)) (drop-app k₁ x y le ∙ ap (λ r. r ++ y) d),
     omega (arith, length-append x y, length-append x₁ y, ap length d, length-drop k₁ x),
   )
 
@@ -303,10 +329,13 @@ module _ (st l₁ : ℕ) (ms₁ : List Mark) (x x₁ : List ℕ) (k₁ : ℕ) (d
   lift-ok l ms k f y zero h = absurd (not-suc-le-zero h)
   lift-ok l ms k f y (suc n) h = lifted y n h .0 ∙ ap (after ms₁ k₁) (f y n (lifted y n h .1))
 
-  lift-goes : (l : ℕ) (ms : List Mark) (k : ℕ) → 0 < k → ((y : List ℕ) (n : ℕ) → length (x₁ ++ y) < n → Goes y l ms k (loop n commentTurn l₁ (x₁ ++ y)))
+  lift-goes : (l : ℕ) (ms : List Mark) (k : ℕ) → 0 < k
+      → ((y : List ℕ) (n : ℕ) → length (x₁ ++ y) < n → Goes y l ms k (loop n commentTurn l₁ (x₁ ++ y)))
       → (y : List ℕ) (n : ℕ) → length (x ++ y) < n → Goes y l (ms₁ ++ moveUp k₁ ms) (k₁ + k) (loop n commentTurn st (x ++ y))
   lift-goes l ms k p f y zero h = absurd (not-suc-le-zero h)
-  lift-goes l ms k p f y (suc n) h = goes-lift y l ms₁ ms k₁ k (loop (suc n) commentTurn st (x ++ y)) (loop n commentTurn l₁ (x₁ ++ y)) (lifted y n h .0) p (f y n (lifted y n h .1))
+  lift-goes l ms k p f y (suc n) h =
+      goes-lift y l ms₁ ms k₁ k (loop (suc n) commentTurn st (x ++ y)) (loop n commentTurn l₁ (x₁ ++ y))
+      (lifted y n h .0) p (f y n (lifted y n h .1))
 
   lift : (l : ℕ) (ms : List Mark) (k : ℕ) → 0 < length x₁ → Cutting l₁ x₁ l ms k → Cutting st x l (ms₁ ++ moveUp k₁ ms) (k₁ + k)
   lift l ms k p (before c cs e h s f) = before c cs (drop-rest k₁ k x x₁ d ∙ e) h (starts-add k₁ k x ls (rw d s)) (lift-ok l ms k f)
@@ -314,7 +343,8 @@ module _ (st l₁ : ℕ) (ms₁ : List Mark) (x x₁ : List ℕ) (k₁ : ℕ) (d
   lift l ms k p (end e i s one hash r f) = end (omega (arith, ap length d, length-drop k₁ x)) (k₁ + i) (starts-add k₁ i x ls (rw d s))
       (rw (drop-rest k₁ i x x₁ d) one) (rw (drop-rest k₁ i x x₁ d) hash) (rw (drop-rest k₁ i x x₁ d) r) (lift-goes l ms k (omega arith) f)
 
-module _ (n st b : ℕ) (bs : List ℕ) (w : Whole (b ∷ bs)) (hash : eqb b 35 ≡ true) (l : ℕ) (ms : List Mark) (k : ℕ) (e : loop (suc n) commentTurn st (b ∷ bs) ≡ ok l ms k) where
+module _ (n st b : ℕ) (bs : List ℕ) (w : Whole (b ∷ bs)) (hash : eqb b 35 ≡ true) (l : ℕ) (ms : List Mark) (k : ℕ)
+    (e : loop (suc n) commentTurn st (b ∷ bs) ≡ ok l ms k) where
   over-cut : ((y : List ℕ) → commentTurn st ((b ∷ bs) ++ y) ≡ done (ok st [] 0)) → Cutting st (b ∷ bs) l ms k
   unfolding lineStartsAt
   over-cut t =
@@ -323,14 +353,17 @@ module _ (n st b : ℕ) (bs : List ℕ) (w : Whole (b ∷ bs)) (hash : eqb b 35 
       let z : 0 ≡ k = ok-ok (loop (suc n) commentTurn st (b ∷ bs)) st l [] ms 0 k (loop-done n st (b ∷ bs) (ok st [] 0) t₀) e .2 in
       before b bs (rw (← z) refl) hash (rw (← z) refl) (by q t)
     where
-      by : ok st [] 0 ≡ ok l ms k → ((y : List ℕ) → commentTurn st ((b ∷ bs) ++ y) ≡ done (ok st [] 0)) → (y : List ℕ) (m : ℕ) → length ((b ∷ bs) ++ y) < m
+      by : ok st [] 0 ≡ ok l ms k → ((y : List ℕ) → commentTurn st ((b ∷ bs) ++ y) ≡ done (ok st [] 0))
+          → (y : List ℕ) (m : ℕ) → length ((b ∷ bs) ++ y) < m
           → loop m commentTurn st ((b ∷ bs) ++ y) ≡ ok l ms k
       by q t y zero h = absurd (not-suc-le-zero h)
       by q t y (suc m) h = loop-done m st ((b ∷ bs) ++ y) (ok st [] 0) (t y) ∙ q
 
   -- the first line ends j bytes on
   module _ (l₁ : ℕ) (ms₁ : List Mark) (runs : run (λ c. eqb c 35) (b ∷ bs) ≡ l₁)
-      (t : (y : List ℕ) → commentTurn st ((b ∷ bs) ++ y) ≡ again l₁ ms₁ (endAt (drop (suc (lineRun (b ∷ bs))) (b ∷ bs) ++ y) (lineRun (b ∷ bs)))) where
+      (t : (y : List ℕ)
+      → commentTurn st ((b ∷ bs) ++ y) ≡ again l₁ ms₁
+      (endAt (drop (suc (lineRun (b ∷ bs))) (b ∷ bs) ++ y) (lineRun (b ∷ bs)))) where
     j : ℕ
     j = lineRun (b ∷ bs)
 
@@ -340,7 +373,10 @@ module _ (n st b : ℕ) (bs : List ℕ) (w : Whole (b ∷ bs)) (hash : eqb b 35 
 
     turn₀ : (r : List ℕ) → drop (suc j) (b ∷ bs) ≡ r → commentTurn st (b ∷ bs) ≡ again l₁ ms₁ (endAt r j)
     unfolding j
-    turn₀ r g = subst (λ z. commentTurn st z ≡ again l₁ ms₁ (endAt (drop (suc j) (b ∷ bs) ++ []) j)) (append-nil (b ∷ bs)) (t []) ∙ ap (λ z. again l₁ ms₁ (endAt z j)) (append-nil (drop (suc j) (b ∷ bs)) ∙ g)
+    turn₀ r g =
+        subst (λ z. commentTurn st z ≡ again l₁ ms₁ (endAt (drop (suc j) (b ∷ bs) ++ []) j)) (append-nil (b ∷ bs))
+        (t [])
+        ∙ ap (λ z. again l₁ ms₁ (endAt z j)) (append-nil (drop (suc j) (b ∷ bs)) ∙ g)
 
     -- it is followed by another
     more-cut : (ih : Cuttings n)
@@ -348,7 +384,8 @@ module _ (n st b : ℕ) (bs : List ℕ) (w : Whole (b ∷ bs)) (hash : eqb b 35 
     unfolding j startsWith
     more-cut ih d ds g q =
         let f : loop (suc n) commentTurn st (b ∷ bs) ≡ after ms₁ (suc j) (loop n commentTurn l₁ (d ∷ ds)) =
-        loop-again n st (b ∷ bs) l₁ ms₁ (suc j) (turn₀ (d ∷ ds) g ∙ rw (q, endAt) refl) ∙ ap (λ z. after ms₁ (suc j) (loop n commentTurn l₁ z)) g in
+        loop-again n st (b ∷ bs) l₁ ms₁ (suc j) (turn₀ (d ∷ ds) g ∙ rw (q, endAt) refl)
+        ∙ ap (λ z. after ms₁ (suc j) (loop n commentTurn l₁ z)) g in
         let (ns, i, o, m, s) = after-ok ms₁ (suc j) (loop n commentTurn l₁ (d ∷ ds)) l ms k (sym f ∙ e) in
         subst (λ z. Cutting st (b ∷ bs) l z k) m (subst (Cutting st (b ∷ bs) l (ms₁ ++ moveUp (suc j) ns)) s
         (lift st l₁ ms₁ (b ∷ bs) (d ∷ ds) (suc j) g j-short (omega arith) (starts-at (b ∷ bs) j-short)
@@ -369,14 +406,17 @@ module _ (n st b : ℕ) (bs : List ℕ) (w : Whole (b ∷ bs)) (hash : eqb b 35 
         omega-eq : (i k : ℕ) → j + i ≡ k → 0 ≡ i → k ≡ j
         omega-eq i k s u = omega arith
 
-        by : drop j (b ∷ bs) ≡ 10 ∷ d ∷ ds → (ns : List Mark) (i : ℕ) → loop n commentTurn l₁ (10 ∷ d ∷ ds) ≡ ok l ns i → ms₁ ++ moveUp j ns ≡ ms → j + i ≡ k
+        by : drop j (b ∷ bs) ≡ 10 ∷ d ∷ ds → (ns : List Mark) (i : ℕ) → loop n commentTurn l₁ (10 ∷ d ∷ ds) ≡ ok l ns i
+            → ms₁ ++ moveUp j ns ≡ ms → j + i ≡ k
             → l₁ ≡ l → [] ≡ ns → 0 ≡ i
             → (y : List ℕ) (m : ℕ) → length ((b ∷ bs) ++ y) < m → loop m commentTurn st ((b ∷ bs) ++ y) ≡ ok l ms k
         by at ns i o m s u₀ u₁ u₂ y zero h = absurd (not-suc-le-zero h)
         by at ns i o m s u₀ u₁ u₂ y (suc n′) h =
             loop-again n′ st ((b ∷ bs) ++ y) l₁ ms₁ j (t y ∙ ap (λ z. again l₁ ms₁ (endAt (z ++ y) j)) g ∙ rw (q, endAt) refl)
             ∙ ap (λ z. after ms₁ j (loop n′ commentTurn l₁ z)) (drop-app j (b ∷ bs) y (omega (arith, j-short)) ∙ ap (λ z. z ++ y) at)
-            ∙ ap (after ms₁ j) (still n′ l₁ ((10 ∷ d ∷ ds) ++ y) (omega (arith, length-append (b ∷ bs) y)) refl ∙ ap₂ (λ a c. ok l₁ a c) u₁ u₂)
+            ∙ ap (after ms₁ j)
+            (still n′ l₁ ((10 ∷ d ∷ ds) ++ y) (omega (arith, length-append (b ∷ bs) y)) refl
+            ∙ ap₂ (λ a c. ok l₁ a c) u₁ u₂)
             ∙ ap₂ (λ a c. ok l₁ a c) m s ∙ ap (λ z. ok z ms k) u₀
 
     -- it is the last
@@ -396,25 +436,34 @@ module _ (n st b : ℕ) (bs : List ℕ) (w : Whole (b ∷ bs)) (hash : eqb b 35 
             → Goes y l ms k (loop m commentTurn st ((b ∷ bs) ++ y))
         goes kj mm u whole y zero h = absurd (not-suc-le-zero h)
         goes kj mm u whole [] (suc n′) h =
-            ap (loop (suc n′) commentTurn st) (append-nil (b ∷ bs)) ∙ loop-again n′ st (b ∷ bs) l₁ ms₁ (suc j) (turn₀ [] g) ∙ ap (λ z. after ms₁ (suc j) (loop n′ commentTurn l₁ z)) g
+            ap (loop (suc n′) commentTurn st) (append-nil (b ∷ bs))
+            ∙ loop-again n′ st (b ∷ bs) l₁ ms₁ (suc j) (turn₀ [] g)
+            ∙ ap (λ z. after ms₁ (suc j) (loop n′ commentTurn l₁ z)) g
             ∙ ap (after ms₁ (suc j)) (still n′ l₁ [] (omega (arith, length-append (b ∷ bs) [])) refl)
             ∙ ap₂ (λ a c. ok l₁ a c) (append-nil ms₁ ∙ mm) (add-zero (suc j) ∙ sym kj) ∙ ap (λ z. ok z ms k) u
         goes kj mm u whole (c ∷ cs) (suc n′) h = by (eqb c 35) refl
           where
             here : (i : ℕ) → endAt (c ∷ cs) j ≡ i
                 → loop (suc n′) commentTurn st ((b ∷ bs) ++ (c ∷ cs)) ≡ after ms₁ i (loop n′ commentTurn l₁ (drop i ((b ∷ bs) ++ (c ∷ cs))))
-            here i z = loop-again n′ st ((b ∷ bs) ++ (c ∷ cs)) l₁ ms₁ i (t (c ∷ cs) ∙ ap (λ r. again l₁ ms₁ (endAt (r ++ (c ∷ cs)) j)) g ∙ ap (again l₁ ms₁) z)
+            here i z =
+                loop-again n′ st ((b ∷ bs) ++ (c ∷ cs)) l₁ ms₁ i
+                (t (c ∷ cs) ∙ ap (λ r. again l₁ ms₁ (endAt (r ++ (c ∷ cs)) j)) g ∙ ap (again l₁ ms₁) z)
 
             by : (v : Bool) → eqb c 35 ≡ v → GoesBy v (c ∷ cs) l ms k (loop (suc n′) commentTurn st ((b ∷ bs) ++ (c ∷ cs)))
             by true q = (
               n′,
               omega (arith, length-append (b ∷ bs) (c ∷ cs)),
-              here (suc j) (rw (q, endAt) refl) ∙ ap (λ z. after ms₁ (suc j) (loop n′ commentTurn l₁ z)) (drop-app (suc j) (b ∷ bs) (c ∷ cs) (omega arith) ∙ ap (λ z. z ++ (c ∷ cs)) g)
-                  ∙ ap₂ (λ a i. after a i (loop n′ commentTurn l₁ (c ∷ cs))) mm (sym kj) ∙ ap (λ z. after ms k (loop n′ commentTurn z (c ∷ cs))) u,
+              here (suc j) (rw (q, endAt) refl)
+                  ∙ ap (λ z. after ms₁ (suc j) (loop n′ commentTurn l₁ z))
+                  (drop-app (suc j) (b ∷ bs) (c ∷ cs) (omega arith) ∙ ap (λ z. z ++ (c ∷ cs)) g)
+                  ∙ ap₂ (λ a i. after a i (loop n′ commentTurn l₁ (c ∷ cs))) mm (sym kj)
+                  ∙ ap (λ z. after ms k (loop n′ commentTurn z (c ∷ cs))) u,
             )
             by false q =
                 here j (rw (q, endAt) refl)
-                ∙ ap (λ z. after ms₁ j (loop n′ commentTurn l₁ z)) (drop-app j (b ∷ bs) (c ∷ cs) (omega arith) ∙ ap (λ z. z ++ (c ∷ cs)) (lineRun-at (b ∷ bs) j-short ∙ ap (λ z. 10 ∷ z) g))
+                ∙ ap (λ z. after ms₁ j (loop n′ commentTurn l₁ z))
+                (drop-app j (b ∷ bs) (c ∷ cs) (omega arith)
+                ∙ ap (λ z. z ++ (c ∷ cs)) (lineRun-at (b ∷ bs) j-short ∙ ap (λ z. 10 ∷ z) g))
                 ∙ ap (after ms₁ j) (still n′ l₁ (10 ∷ c ∷ cs) (omega (arith, length-append (b ∷ bs) (c ∷ cs))) refl)
                 ∙ ap₂ (λ a i. ok l₁ a i) (append-nil ms₁ ∙ mm) (shorter kj) ∙ ap (λ z. ok z ms (k - 1)) u
               where
@@ -425,16 +474,22 @@ module _ (n st b : ℕ) (bs : List ℕ) (w : Whole (b ∷ bs)) (hash : eqb b 35 
       → Line st (b ∷ bs) → Cutting st (b ∷ bs) l ms k
   line-cut ih (over t) = over-cut t
   line-cut ih (wrong f i t) =
-      let o : loop (suc n) commentTurn st (b ∷ bs) ≡ bad f i = loop-done n st (b ∷ bs) (bad f i) (subst (λ z. commentTurn st z ≡ done (bad f i)) (append-nil (b ∷ bs)) (t [])) in
+      let o : loop (suc n) commentTurn st (b ∷ bs) ≡ bad f i =
+      loop-done n st (b ∷ bs) (bad f i)
+      (subst (λ z. commentTurn st z ≡ done (bad f i)) (append-nil (b ∷ bs)) (t [])) in
       let z : _≡_ {A = ℕ} 0 1 = cc in absurd (omega arith)
   line-cut ih (line l₁ ms₁ p r t) = go (drop (suc (lineRun (b ∷ bs))) (b ∷ bs)) refl
     where
       go : (z : List ℕ) → drop (suc (lineRun (b ∷ bs))) (b ∷ bs) ≡ z → Cutting st (b ∷ bs) l ms k
       go [] g = last-cut l₁ ms₁ r t (unfold j in g)
-      go (d ∷ ds) g = byCase (eqb d 35) (λ q. more-cut l₁ ms₁ r t ih d ds (unfold j in g) q) (λ q. other-cut l₁ ms₁ r t d ds (unfold j in g) q)
+      go (d ∷ ds) g =
+          byCase (eqb d 35) (λ q. more-cut l₁ ms₁ r t ih d ds (unfold j in g) q)
+          (λ q. other-cut l₁ ms₁ r t d ds (unfold j in g) q)
 
-pub cutting : (n st : ℕ) (x : List ℕ) → Whole x → startsWith 35 x ≡ true → (l : ℕ) (ms : List Mark) (k : ℕ) → loop n commentTurn st x ≡ ok l ms k → Cutting st x l ms k
+pub cutting : (n st : ℕ) (x : List ℕ) → Whole x → startsWith 35 x ≡ true → (l : ℕ) (ms : List Mark) (k : ℕ)
+    → loop n commentTurn st x ≡ ok l ms k → Cutting st x l ms k
 unfolding loop startsWith
 cutting zero st x w h l ms k e = let z : _≡_ {A = ℕ} 0 1 = cc in absurd (omega arith)
 cutting (suc n) st [] w h l ms k e = clash h refl
-cutting (suc n) st (b ∷ bs) w h l ms k e = line-cut n st b bs w h l ms k e (λ st′ x v g l′ ms′ k′ f. cutting n st′ x v g l′ ms′ k′ f) (line-of st b bs w h)
+cutting (suc n) st (b ∷ bs) w h l ms k e =
+    line-cut n st b bs w h l ms k e (λ st′ x v g l′ ms′ k′ f. cutting n st′ x v g l′ ms′ k′ f) (line-of st b bs w h)

@@ -14,11 +14,17 @@ use Rattle.syntax.specs.Bytes.{isLetter, spaces, eol, run}
 use Rattle.syntax.specs.Marks.{Mark, node, textNode}
 use Rattle.syntax.specs.Reader.{Out, ok, bad, deep, Turn, again, done, after, repeat, next}
 use Rattle.syntax.specs.Helper.{skipBlankBlock}
-use Rattle.syntax.specs.Pattern.{Inside, initialLineStart, lineStart, Slice, isTextByte, endsInCr, lineSlice, sliceBy, getTextSlice, Element, placeable, text, State, isLineStart, roleAfter, withPlaceable, withText, goesOn, lineTurn, textTurn, patternTurn, trimmed, dedented, textMarks, elementMarks, finish, stateAt, usedBy, firstState, getPattern}
-use Rattle.laws.specs.Bytes.{Whole, whole-drop, Fresh, Stop, stop-fresh, byCase, clash, drop-app, run-whole, eol-whole, spaces-whole, fresh-spaces, not-fresh, pick, pick₂}
+use Rattle.syntax.specs.Pattern.{Inside, initialLineStart, lineStart, Slice, isTextByte, endsInCr, lineSlice, sliceBy}
+use Rattle.syntax.specs.Pattern.{getTextSlice, Element, placeable, text, State, isLineStart, roleAfter, withPlaceable}
+use Rattle.syntax.specs.Pattern.{withText, goesOn, lineTurn, textTurn, patternTurn, trimmed, dedented, textMarks}
+use Rattle.syntax.specs.Pattern.{elementMarks, finish, stateAt, usedBy, firstState, getPattern}
+use Rattle.laws.specs.Bytes.{Whole, whole-drop, Fresh, Stop, stop-fresh, byCase, clash, drop-app, run-whole}
+use Rattle.laws.specs.Bytes.{eol-whole, spaces-whole, fresh-spaces, not-fresh, pick, pick₂}
 use Rattle.laws.specs.Answers.{Holds, Sure}
 use Rattle.laws.specs.Bounds.Pattern.{InsideBounds, Els, els-more, Grown, pattern-grown}
-use Rattle.laws.specs.Stable.{Mode, loose, any, Upto, upto-le, upto-down, upto-rest, Within, Carries, Closes, weaker, next-ok, after-within, TurnWithin, TurnCarries, Turns, repeat-stops, repeat-keeps, Short, Strict, Inner}
+use Rattle.laws.specs.Stable.{Mode, loose, any, Upto, upto-le, upto-down, upto-rest, Within, Carries, Closes}
+use Rattle.laws.specs.Stable.{weaker, next-ok, after-within, TurnWithin, TurnCarries, Turns, repeat-stops}
+use Rattle.laws.specs.Stable.{repeat-keeps, Short, Strict, Inner}
 use Rattle.laws.specs.Stable.Helper.{Soft, soft-fresh, past-spaces, block-reads, block-sure}
 
 -- the readers of what stands inside
@@ -44,8 +50,16 @@ isTextByte-end = refl
 pub past-text : (b : ℕ) (bs : List ℕ) → Whole (b ∷ bs) → (d : ℕ) × (ds : List ℕ) × (drop (run isTextByte (b ∷ bs)) (b ∷ bs) ≡ d ∷ ds)
 past-text b bs w = go (drop (run isTextByte (b ∷ bs)) (b ∷ bs)) refl
   where
-    go : (r : List ℕ) → drop (run isTextByte (b ∷ bs)) (b ∷ bs) ≡ r → (d : ℕ) × (ds : List ℕ) × (drop (run isTextByte (b ∷ bs)) (b ∷ bs) ≡ d ∷ ds)
-    go [] e = absurd (omega (arith, ap length e, length-drop (run isTextByte (b ∷ bs)) (b ∷ bs), run-whole isTextByte isTextByte-end b bs [] w .1))
+    go : (r : List ℕ) → drop (run isTextByte (b ∷ bs)) (b ∷ bs) ≡ r → (d : ℕ) × (ds : List ℕ)
+        × (drop (run isTextByte (b ∷ bs)) (b ∷ bs) ≡ d ∷ ds)
+    go [] e =
+        absurd
+        (omega (
+          arith,
+          ap length e,
+          length-drop (run isTextByte (b ∷ bs)) (b ∷ bs),
+          run-whole isTextByte isTextByte-end b bs [] w .1,
+        ))
     go (d ∷ ds) e = (d, ds, e)
 
 slice-at : (s t r : List ℕ) (n : ℕ) → run isTextByte s ≡ n → take n s ≡ t → drop n s ≡ r → getTextSlice s ≡ sliceBy t r
@@ -61,7 +75,8 @@ slice-same b bs y w =
     let n = run isTextByte (b ∷ bs) in
     let (d, ds, e) = past-text b bs w in
     let le : n ≤ length (b ∷ bs) = omega (arith, run-whole isTextByte isTextByte-end b bs y w .1) in
-    slice-at ((b ∷ bs) ++ y) (take n (b ∷ bs)) (d ∷ (ds ++ y)) n (run-whole isTextByte isTextByte-end b bs y w .0) (take-append-le n (b ∷ bs) y le) (drop-app n (b ∷ bs) y le ∙ ap (λ r. r ++ y) e)
+    slice-at ((b ∷ bs) ++ y) (take n (b ∷ bs)) (d ∷ (ds ++ y)) n (run-whole isTextByte isTextByte-end b bs y w .0)
+    (take-append-le n (b ∷ bs) y le) (drop-app n (b ∷ bs) y le ∙ ap (λ r. r ++ y) e)
     ∙ sliceBy-cons (take n (b ∷ bs)) d (ds ++ y) ds ∙ sym (slice-at (b ∷ bs) (take n (b ∷ bs)) (d ∷ ds) n refl refl e)
 
 -- a text ends with its line, or leaves some of it
@@ -70,18 +85,23 @@ Sliced n o = Holds (λ t ms k. (k ≤ n) × (isLineStart (roleAfter (t .ending))
 
 lineSlice-fits : (t : List ℕ) (n : ℕ) → length t < n → Sliced n (lineSlice t)
 unfolding lineSlice isLineStart roleAfter
-lineSlice-fits t n h = byCase (endsInCr t) (λ q. rw (q, lineSlice) (omega arith, λ e. clash refl e)) (λ q. rw (q, lineSlice) (omega arith, λ e. clash refl e))
+lineSlice-fits t n h =
+    byCase (endsInCr t) (λ q. rw (q, lineSlice) (omega arith, λ e. clash refl e))
+    (λ q. rw (q, lineSlice) (omega arith, λ e. clash refl e))
 
 sliceBy-fits : (t : List ℕ) (d : ℕ) (ds : List ℕ) (n : ℕ) → length t < n → Sliced n (sliceBy t (d ∷ ds))
 unfolding sliceBy
-sliceBy-fits t d ds n h = byCase (eqb d 125) (λ q. rw (q, sliceBy) tt) (λ q. rw (q, sliceBy) (byCase (eqb d 123) (λ r. rw r (omega arith, λ e. h)) (λ r. rw r (lineSlice-fits t n h))))
+sliceBy-fits t d ds n h =
+    byCase (eqb d 125) (λ q. rw (q, sliceBy) tt)
+    (λ q. rw (q, sliceBy) (byCase (eqb d 123) (λ r. rw r (omega arith, λ e. h)) (λ r. rw r (lineSlice-fits t n h))))
 
 slice-fits : (b : ℕ) (bs : List ℕ) → Whole (b ∷ bs) → Sliced (suc (length bs)) (getTextSlice (b ∷ bs))
 slice-fits b bs w =
     let n = run isTextByte (b ∷ bs) in
     let (d, ds, e) = past-text b bs w in
     rw (slice-at (b ∷ bs) (take n (b ∷ bs)) (d ∷ ds) n refl refl e)
-    (sliceBy-fits (take n (b ∷ bs)) d ds (suc (length bs)) (omega (arith, length-take n (b ∷ bs), run-whole isTextByte isTextByte-end b bs [] w .1)))
+    (sliceBy-fits (take n (b ∷ bs)) d ds (suc (length bs))
+    (omega (arith, length-take n (b ∷ bs), run-whole isTextByte isTextByte-end b bs [] w .1)))
 
 withText-fits : (st : State) (indent n : ℕ) (x : List ℕ) (o : Out Slice) → Sliced n o → n + indent ≡ length x
     → TurnWithin (ReadyAfter x) (length x) (withText st indent o)
@@ -90,7 +110,8 @@ withText-fits st indent n x (ok t ms k) h e = (omega (arith, h .0), λ q. rw len
 withText-fits st indent n x (bad f k) h e = tt
 withText-fits st indent n x (deep k) h e = tt
 
-lineTurn-at : (st : State) (k : ℕ) (r s : List ℕ) → isLineStart (st .role) ≡ true → spaces s ≡ k → drop k s ≡ r → textTurn st s ≡ lineTurn st k r
+lineTurn-at : (st : State) (k : ℕ) (r s : List ℕ) → isLineStart (st .role) ≡ true → spaces s ≡ k → drop k s ≡ r
+    → textTurn st s ≡ lineTurn st k r
 unfolding textTurn
 lineTurn-at st k r s l e d = rw (l, textTurn) (ap (λ j. lineTurn st j (drop j s)) e ∙ ap (lineTurn st k) d)
 
@@ -109,11 +130,13 @@ unfolding textTurn
 textTurn-same st b bs y w =
     let (c, cs, e, v, l) = past-spaces b bs w in
     byCase (isLineStart (st .role))
-    (λ q. lineTurn-at st (spaces (b ∷ bs)) ((c ∷ cs) ++ y) ((b ∷ bs) ++ y) q (spaces-whole b bs y w .0) (drop-app (spaces (b ∷ bs)) (b ∷ bs) y (omega (arith, spaces-whole b bs [] w .1)) ∙ ap (λ r. r ++ y) e)
+    (λ q. lineTurn-at st (spaces (b ∷ bs)) ((c ∷ cs) ++ y) ((b ∷ bs) ++ y) q (spaces-whole b bs y w .0)
+    (drop-app (spaces (b ∷ bs)) (b ∷ bs) y (omega (arith, spaces-whole b bs [] w .1)) ∙ ap (λ r. r ++ y) e)
     ∙ lineTurn-same st (spaces (b ∷ bs)) c cs y v ∙ sym (lineTurn-at st (spaces (b ∷ bs)) (c ∷ cs) (b ∷ bs) q refl e))
     (λ q. rw (q, textTurn) (ap (withText st 0) (slice-same b bs y w)))
 
-textTurn-fits : (st : State) (b : ℕ) (bs : List ℕ) → Whole (b ∷ bs) → TurnWithin (ReadyAfter (b ∷ bs)) (suc (length bs)) (textTurn st (b ∷ bs))
+textTurn-fits : (st : State) (b : ℕ) (bs : List ℕ) → Whole (b ∷ bs)
+    → TurnWithin (ReadyAfter (b ∷ bs)) (suc (length bs)) (textTurn st (b ∷ bs))
 unfolding textTurn
 textTurn-fits st b bs w =
     let (c, cs, e, v, l) = past-spaces b bs w in
@@ -122,7 +145,8 @@ textTurn-fits st b bs w =
     (λ q. rw (q, textTurn) (withText-fits st 0 (suc (length bs)) (b ∷ bs) (getTextSlice (b ∷ bs)) (slice-fits b bs w) (omega arith)))
 
 -- what is fresh does not go on with a pattern
-pub patternTurn-calm : (sub : Inside) (st : State) (y : List ℕ) → isLineStart (st .role) ≡ true → Fresh y → patternTurn sub st y ≡ done (ok st [] 0)
+pub patternTurn-calm : (sub : Inside) (st : State) (y : List ℕ) → isLineStart (st .role) ≡ true → Fresh y
+    → patternTurn sub st y ≡ done (ok st [] 0)
 unfolding patternTurn isLetter goesOn lineTurn
 patternTurn-calm sub st [] l f = refl
 patternTurn-calm sub st (c ∷ cs) l f =
@@ -135,7 +159,8 @@ pub not-ready : (st : State) → Ready st [] → isLineStart (st .role) ≡ true
 not-ready st r = byCase (isLineStart (st .role)) (λ q. q) (λ q. absurd (not-suc-le-zero (r q)))
 
 module _ (m : Mode) (soft : Soft m) (sub : Inside) (law : InsideLaw sub) where
-  withPlaceable-within : (st : State) (x : List ℕ) (o : Out (Unit {0})) → Short (length x) o → TurnWithin (ReadyAfter x) (length x) (withPlaceable st o)
+  withPlaceable-within : (st : State) (x : List ℕ) (o : Out (Unit {0})) → Short (length x) o
+      → TurnWithin (ReadyAfter x) (length x) (withPlaceable st o)
   unfolding withPlaceable
   withPlaceable-within st x (ok a ms k) h = (omega arith, λ q. rw length-drop (omega arith))
   withPlaceable-within st x (bad f k) h = tt
@@ -144,17 +169,20 @@ module _ (m : Mode) (soft : Soft m) (sub : Inside) (law : InsideLaw sub) where
   withPlaceable-carries : (st : State) (x y : List ℕ) (o o′ : Out (Unit {0})) → Short (length x) o → Carries (Upto any y (length x)) o o′
       → TurnCarries (ReadyAfter x) (Upto m y (length x)) (withPlaceable st o) (withPlaceable st o′)
   unfolding withPlaceable
-  withPlaceable-carries st x y (ok a ms k) o′ h c = λ u. (ap (withPlaceable st) (c (upto-le m y (length x) k u)), λ q. rw length-drop (omega arith))
+  withPlaceable-carries st x y (ok a ms k) o′ h c =
+      λ u. (ap (withPlaceable st) (c (upto-le m y (length x) k u)), λ q. rw length-drop (omega arith))
   withPlaceable-carries st x y (bad f k) o′ h c = tt
   withPlaceable-carries st x y (deep k) o′ h c = tt
 
-  same-turn : (x : List ℕ) (N : ℕ → Type 0) (w w′ : Turn State State) → w′ ≡ w → TurnWithin (ReadyAfter x) (length x) w → TurnCarries (ReadyAfter x) N w w′
+  same-turn : (x : List ℕ) (N : ℕ → Type 0) (w w′ : Turn State State) → w′ ≡ w → TurnWithin (ReadyAfter x) (length x) w
+      → TurnCarries (ReadyAfter x) N w w′
   same-turn x N (again st ms k) w′ e h = λ u. (e, h .1)
   same-turn x N (done (ok a ms k)) w′ e h = λ u. e
   same-turn x N (done (bad f k)) w′ e h = tt
   same-turn x N (done (deep k)) w′ e h = tt
 
-  pattern-stops : (st : State) (x y : List ℕ) → Whole x → Ready st x → Stop y → TurnWithin (ReadyAfter x) (length x) (patternTurn sub st (x ++ y))
+  pattern-stops : (st : State) (x y : List ℕ) → Whole x → Ready st x → Stop y
+      → TurnWithin (ReadyAfter x) (length x) (patternTurn sub st (x ++ y))
   unfolding patternTurn
   pattern-stops st [] y w r s = rw (patternTurn-calm sub st y (not-ready st r) (stop-fresh y s)) (omega arith)
   pattern-stops st (b ∷ bs) y w r s = pick (TurnWithin (ReadyAfter (b ∷ bs)) (suc (length bs))) (eqb b 123) _ _
@@ -166,8 +194,12 @@ module _ (m : Mode) (soft : Soft m) (sub : Inside) (law : InsideLaw sub) where
   unfolding patternTurn
   pattern-keeps st [] y w r = λ u. patternTurn-calm sub st y (not-ready st r) (soft-fresh m soft y 0 u)
   pattern-keeps st (b ∷ bs) y w r = pick₂ (TurnCarries (ReadyAfter (b ∷ bs)) (Upto m y (suc (length bs)))) (eqb b 123) _ _ _ _
-      (λ q. withPlaceable-carries st (b ∷ bs) y (sub .braced (b ∷ bs)) (sub .braced ((b ∷ bs) ++ y)) (subst (λ z. Short (suc (length bs)) (sub .braced z)) (append-nil (b ∷ bs)) (law .bracedStrict .short (b ∷ bs) [] w tt)) (law .braced .reads .keeps (b ∷ bs) y w))
-      (λ q. same-turn (b ∷ bs) (Upto m y (suc (length bs))) (textTurn st (b ∷ bs)) (textTurn st ((b ∷ bs) ++ y)) (textTurn-same st b bs y w) (textTurn-fits st b bs w))
+      (λ q. withPlaceable-carries st (b ∷ bs) y (sub .braced (b ∷ bs)) (sub .braced ((b ∷ bs) ++ y))
+      (subst (λ z. Short (suc (length bs)) (sub .braced z)) (append-nil (b ∷ bs))
+      (law .bracedStrict .short (b ∷ bs) [] w tt))
+      (law .braced .reads .keeps (b ∷ bs) y w))
+      (λ q. same-turn (b ∷ bs) (Upto m y (suc (length bs))) (textTurn st (b ∷ bs)) (textTurn st ((b ∷ bs) ++ y))
+      (textTurn-same st b bs y w) (textTurn-fits st b bs w))
 
   pub pattern-turns : Turns m Ready (patternTurn sub)
   pattern-turns = record { stops = pattern-stops; keeps = pattern-keeps }
@@ -176,7 +208,8 @@ module _ (m : Mode) (soft : Soft m) (sub : Inside) (law : InsideLaw sub) where
 pub span-same : (x y : List ℕ) (a e : ℕ) → e ≤ length x → take (e - a) (drop a (x ++ y)) ≡ take (e - a) (drop a x)
 span-same x y a e h =
     byCase (leb a (length x))
-    (λ q. rw (drop-app a x y (leb-true a (length x) q)) (take-append-le (e - a) (drop a x) y (rw length-drop (omega (arith, leb-true a (length x) q)))))
+    (λ q. rw (drop-app a x y (leb-true a (length x) q))
+    (take-append-le (e - a) (drop a x) y (rw length-drop (omega (arith, leb-true a (length x) q)))))
     (λ q. let z : e - a ≡ 0 = omega (arith, leb-false a (length x) q) in rw z refl)
 
 textMarks-same : (x y : List ℕ) (v : Bool) (a e : ℕ) → e ≤ length x → textMarks (x ++ y) v a e ≡ textMarks x v a e
@@ -184,7 +217,8 @@ unfolding textMarks
 textMarks-same x y true a e h = ap (λ t. textNode 12 a (a + trimmed t)) (span-same x y a e h)
 textMarks-same x y false a e h = refl
 
-elementMarks-same : (x y : List ℕ) (c : Option ℕ) (n : ℕ) (es : List Element) → Els (length x) es → elementMarks (x ++ y) c n es ≡ elementMarks x c n es
+elementMarks-same : (x y : List ℕ) (c : Option ℕ) (n : ℕ) (es : List Element) → Els (length x) es
+    → elementMarks (x ++ y) c n es ≡ elementMarks x c n es
 unfolding elementMarks
 elementMarks-same x y c zero es p = refl
 elementMarks-same x y c (suc n) [] p = refl
@@ -197,7 +231,8 @@ elementMarks-same x y c (suc n) (text a e i l ∷ es) p =
 abbrev firstOf : ℕ → ℕ → ℕ → State
 firstOf k e u = elim (ltb 0 e) [ true ↦ stateAt (k + e + u) lineStart | false ↦ stateAt k initialLineStart ]
 
-first-at : (s r : List ℕ) (k e : ℕ) → spaces s ≡ k → eol (drop k s) ≡ e → drop (k + e) s ≡ r → firstState s ≡ firstOf k e (usedBy (skipBlankBlock r))
+first-at : (s r : List ℕ) (k e : ℕ) → spaces s ≡ k → eol (drop k s) ≡ e → drop (k + e) s ≡ r
+    → firstState s ≡ firstOf k e (usedBy (skipBlankBlock r))
 unfolding firstState
 first-at s r k e p q d =
     ap (λ j. firstOf j (eol (drop j s)) (usedBy (skipBlankBlock (drop (j + eol (drop j s)) s)))) p
@@ -219,8 +254,11 @@ used-same N (deep k) o′ s c u = absurd s
 pub block-within : (x y : List ℕ) → Whole x → Stop y → usedBy (skipBlankBlock (x ++ y)) ≤ length x
 block-within x y w s = used-within (length x) (skipBlankBlock (x ++ y)) (block-sure (x ++ y)) (block-reads loose tt .stops x y w s)
 
-pub block-same : (m : Mode) → Soft m → (x y : List ℕ) → Whole x → Upto m y (length x) (usedBy (skipBlankBlock x)) → skipBlankBlock (x ++ y) ≡ skipBlankBlock x
-block-same m soft x y w u = used-same (Upto m y (length x)) (skipBlankBlock x) (skipBlankBlock (x ++ y)) (block-sure x) (block-reads m soft .keeps x y w) u
+pub block-same : (m : Mode) → Soft m → (x y : List ℕ) → Whole x → Upto m y (length x) (usedBy (skipBlankBlock x))
+    → skipBlankBlock (x ++ y) ≡ skipBlankBlock x
+block-same m soft x y w u =
+    used-same (Upto m y (length x)) (skipBlankBlock x) (skipBlankBlock (x ++ y)) (block-sure x)
+    (block-reads m soft .keeps x y w) u
 
 -- the line end after the spaces of a line
 record Start (b : ℕ) (bs : List ℕ) : Type 0 where
@@ -234,7 +272,10 @@ start-of b bs w =
     record {
       le = rw e (omega (arith, eol-whole c cs [] v .1));
       short = spaces-whole b bs [] w .1;
-      there = λ y. ap eol (drop-app (spaces (b ∷ bs)) (b ∷ bs) y (omega (arith, spaces-whole b bs [] w .1)) ∙ ap (λ r. r ++ y) e) ∙ eol-whole c cs y v .0 ∙ ap eol (sym e);
+      there =
+          λ y. ap eol
+          (drop-app (spaces (b ∷ bs)) (b ∷ bs) y (omega (arith, spaces-whole b bs [] w .1)) ∙ ap (λ r. r ++ y) e)
+          ∙ eol-whole c cs y v .0 ∙ ap eol (sym e);
     }
 
 module _ (b : ℕ) (bs : List ℕ) (w : Whole (b ∷ bs)) where
@@ -246,7 +287,9 @@ module _ (b : ℕ) (bs : List ℕ) (w : Whole (b ∷ bs)) where
 
   first-cut : (y : List ℕ) → firstState ((b ∷ bs) ++ y) ≡ firstOf sp en (usedBy (skipBlankBlock (drop (sp + en) (b ∷ bs) ++ y)))
   unfolding sp en
-  first-cut y = first-at ((b ∷ bs) ++ y) (drop (sp + en) (b ∷ bs) ++ y) sp en (spaces-whole b bs y w .0) (start-of b bs w .there y) (drop-app (sp + en) (b ∷ bs) y (start-of b bs w .le))
+  first-cut y =
+      first-at ((b ∷ bs) ++ y) (drop (sp + en) (b ∷ bs) ++ y) sp en (spaces-whole b bs y w .0)
+      (start-of b bs w .there y) (drop-app (sp + en) (b ∷ bs) y (start-of b bs w .le))
 
   first-whole : firstState (b ∷ bs) ≡ firstOf sp en (usedBy (skipBlankBlock (drop (sp + en) (b ∷ bs))))
   unfolding sp en
@@ -255,16 +298,25 @@ module _ (b : ℕ) (bs : List ℕ) (w : Whole (b ∷ bs)) where
   ready-of : (k e u n : ℕ) → k < n → k + e + u ≤ n → n ≡ suc (length bs)
       → (firstOf k e u .used ≤ suc (length bs)) × Ready (firstOf k e u) (drop (firstOf k e u .used) (b ∷ bs))
   unfolding stateAt isLineStart
-  ready-of k e u n h l q = byCase (ltb 0 e) (λ r. rw (r, firstOf) (omega arith, λ z. clash refl z)) (λ r. rw (r, firstOf) (omega arith, λ z. rw length-drop (omega arith)))
+  ready-of k e u n h l q =
+      byCase (ltb 0 e) (λ r. rw (r, firstOf) (omega arith, λ z. clash refl z))
+      (λ r. rw (r, firstOf) (omega arith, λ z. rw length-drop (omega arith)))
 
   pub first-ready : (y : List ℕ) → Stop y
-      → (firstState ((b ∷ bs) ++ y) .used ≤ suc (length bs)) × Ready (firstState ((b ∷ bs) ++ y)) (drop (firstState ((b ∷ bs) ++ y) .used) (b ∷ bs))
+      → (firstState ((b ∷ bs) ++ y) .used ≤ suc (length bs))
+      × Ready (firstState ((b ∷ bs) ++ y)) (drop (firstState ((b ∷ bs) ++ y) .used) (b ∷ bs))
   unfolding sp en
   first-ready y s = rw (first-cut y)
       (ready-of sp en (usedBy (skipBlankBlock (drop (sp + en) (b ∷ bs) ++ y))) (suc (length bs)) (start-of b bs w .short)
-      (omega (arith, block-within (drop (sp + en) (b ∷ bs)) y (whole-drop (sp + en) (b ∷ bs) w) s, length-drop (sp + en) (b ∷ bs), start-of b bs w .le)) refl)
+      (omega (
+        arith,
+        block-within (drop (sp + en) (b ∷ bs)) y (whole-drop (sp + en) (b ∷ bs) w) s,
+        length-drop (sp + en) (b ∷ bs),
+        start-of b bs w .le,
+      )) refl)
 
-  pub first-same : (m : Mode) → Soft m → (y : List ℕ) → Upto m y (suc (length bs)) (firstState (b ∷ bs) .used) → firstState ((b ∷ bs) ++ y) ≡ firstState (b ∷ bs)
+  pub first-same : (m : Mode) → Soft m → (y : List ℕ) → Upto m y (suc (length bs)) (firstState (b ∷ bs) .used)
+      → firstState ((b ∷ bs) ++ y) ≡ firstState (b ∷ bs)
   unfolding stateAt
   first-same m soft y u = first-cut y ∙ by ∙ sym first-whole
     where
@@ -273,9 +325,12 @@ module _ (b : ℕ) (bs : List ℕ) (w : Whole (b ∷ bs)) where
 
       by : firstOf sp en (usedBy (skipBlankBlock (r ++ y))) ≡ firstOf sp en (usedBy (skipBlankBlock r))
       by = byCase (ltb 0 en)
-          (λ q. let v : Upto m y (suc (length bs)) (firstOf sp en (usedBy (skipBlankBlock r)) .used) = subst (λ z. Upto m y (suc (length bs)) (z .used)) first-whole u in
+          (λ q. let v : Upto m y (suc (length bs)) (firstOf sp en (usedBy (skipBlankBlock r)) .used) =
+          subst (λ z. Upto m y (suc (length bs)) (z .used)) first-whole u in
           let t : Upto m y (suc (length bs)) (sp + en + usedBy (skipBlankBlock r)) = rw (q, firstOf) at v in
-          ap (λ o. firstOf sp en (usedBy o)) (block-same m soft r y (whole-drop (sp + en) (b ∷ bs) w) (upto-rest m y (b ∷ bs) (sp + en) (usedBy (skipBlankBlock r)) t)))
+          ap (λ o. firstOf sp en (usedBy o))
+          (block-same m soft r y (whole-drop (sp + en) (b ∷ bs) w)
+          (upto-rest m y (b ∷ bs) (sp + en) (usedBy (skipBlankBlock r)) t)))
           (λ q. rw (q, firstOf) refl)
 
 module _ (m : Mode) (soft : Soft m) (sub : Inside) (law : InsideLaw sub) where
@@ -298,7 +353,8 @@ module _ (m : Mode) (soft : Soft m) (sub : Inside) (law : InsideLaw sub) where
       pickOk (eqb (st .kept) 0) (node 11 (elementMarks x (st .common) (st .kept) (st .elements)))
       (λ u. ap (finish (x ++ y)) (c u) ∙ finish-same x y st ms k (h .0 .els) (omega (arith, h .1, upto-le m y (length x) k u)))
     where
-      pickOk : (v : Bool) (ns : List Mark) → (Upto m y (length x) k → finish (x ++ y) o′ ≡ (elim v [ true ↦ ok false [] k | false ↦ ok true ns k ]))
+      pickOk : (v : Bool) (ns : List Mark)
+          → (Upto m y (length x) k → finish (x ++ y) o′ ≡ (elim v [ true ↦ ok false [] k | false ↦ ok true ns k ]))
           → Carries {A = Bool} (Upto m y (length x)) (elim v [ true ↦ ok false [] k | false ↦ ok true ns k ]) (finish (x ++ y) o′)
       pickOk true ns f = f
       pickOk false ns f = f
@@ -311,19 +367,28 @@ module _ (m : Mode) (soft : Soft m) (sub : Inside) (law : InsideLaw sub) where
     stops = λ b bs y w s.
         let f = first-ready b bs w y s in
         let st = firstState ((b ∷ bs) ++ y) in
-        finish-within ((b ∷ bs) ++ y) (suc (length bs)) (after [] (st .used) (repeat (patternTurn sub) st (drop (st .used) ((b ∷ bs) ++ y))))
+        finish-within ((b ∷ bs) ++ y) (suc (length bs))
+        (after [] (st .used) (repeat (patternTurn sub) st (drop (st .used) ((b ∷ bs) ++ y))))
         (rw (drop-app (st .used) (b ∷ bs) y (f .0))
         (after-within (suc (length bs)) (st .used) [] (repeat (patternTurn sub) st (drop (st .used) (b ∷ bs) ++ y)) (f .0)
-        (rw length-drop at (repeat-stops (patternTurn sub) (pattern-turns m soft sub law) st (drop (st .used) (b ∷ bs)) y (whole-drop (st .used) (b ∷ bs) w) (f .1) s))));
+        (rw length-drop at (repeat-stops (patternTurn sub) (pattern-turns m soft sub law) st
+        (drop (st .used) (b ∷ bs)) y (whole-drop (st .used) (b ∷ bs) w) (f .1) s))));
     keeps = λ b bs y w.
         let st = firstState (b ∷ bs) in
         let k = st .used in
         let t = patternTurn sub in
-        let f = subst (λ z. (firstState z .used ≤ suc (length bs)) × Ready (firstState z) (drop (firstState z .used) (b ∷ bs))) (append-nil (b ∷ bs)) (first-ready b bs w [] tt) in
-        finish-carries (b ∷ bs) y (after [] k (repeat t st (drop k (b ∷ bs)))) (after [] (firstState ((b ∷ bs) ++ y) .used) (repeat t (firstState ((b ∷ bs) ++ y)) (drop (firstState ((b ∷ bs) ++ y) .used) ((b ∷ bs) ++ y))))
-        (next-ok (Upto m y (suc (length bs))) (b ∷ bs) y (λ z s. repeat t z s) st [] k (ok (firstState ((b ∷ bs) ++ y)) [] (firstState ((b ∷ bs) ++ y) .used)) (repeat t st (drop k (b ∷ bs)))
+        let f =
+        subst
+        (λ z. (firstState z .used ≤ suc (length bs)) × Ready (firstState z) (drop (firstState z .used) (b ∷ bs)))
+        (append-nil (b ∷ bs)) (first-ready b bs w [] tt) in
+        finish-carries (b ∷ bs) y (after [] k (repeat t st (drop k (b ∷ bs))))
+        (after [] (firstState ((b ∷ bs) ++ y) .used)
+        (repeat t (firstState ((b ∷ bs) ++ y)) (drop (firstState ((b ∷ bs) ++ y) .used) ((b ∷ bs) ++ y))))
+        (next-ok (Upto m y (suc (length bs))) (b ∷ bs) y (λ z s. repeat t z s) st [] k
+        (ok (firstState ((b ∷ bs) ++ y)) [] (firstState ((b ∷ bs) ++ y) .used)) (repeat t st (drop k (b ∷ bs)))
         (λ j u. f .0)
-        (weaker (Upto m y (length (drop k (b ∷ bs)))) (λ j. Upto m y (suc (length bs)) (k + j)) (λ j u. upto-rest m y (b ∷ bs) k j u) (repeat t st (drop k (b ∷ bs))) (repeat t st (drop k (b ∷ bs) ++ y))
+        (weaker (Upto m y (length (drop k (b ∷ bs)))) (λ j. Upto m y (suc (length bs)) (k + j))
+        (λ j u. upto-rest m y (b ∷ bs) k j u) (repeat t st (drop k (b ∷ bs))) (repeat t st (drop k (b ∷ bs) ++ y))
         (repeat-keeps t (pattern-turns m soft sub law) st (drop k (b ∷ bs)) y (whole-drop k (b ∷ bs) w) (f .1)))
         (λ c ns j e u. ap (λ z. ok z [] (z .used)) (first-same b bs w m soft y (upto-down m y (suc (length bs)) k j u))))
         (pattern-grown (law .bounds) (b ∷ bs));

@@ -1,4 +1,5 @@
--- A normal text is UTF-8 where its source is and the places of its marks are character boundaries: what is written is ASCII, or stands between two places.
+-- A normal text is UTF-8 where its source is and the places of its marks are character boundaries: what is written is
+-- ASCII, or stands between two places.
 use Prim.Native.Nat.{ℕ, zero, suc, _-_, _*_}
 use native.Mathlib.Omega.{arith}
 use mathlib.Core.Path.{_≡_, refl}
@@ -14,7 +15,11 @@ use Rattle.syntax.specs.Byte as Byte
 use Rattle.syntax.specs.Kind as Kind
 use Rattle.syntax.specs.Bytes.{ascii}
 use Rattle.syntax.specs.Marks.{Mark, plain, placed}
-use Rattle.syntax.specs.Serializer.{Node, nodes, Piece, lastOf, _⊕_, empty, literal, newline, indented, star, each, if, between, textOf, first, ofKind, name, blankLine, commentLine, comment, leadingDot, isMultiline, reference, pattern, element, inBraces, expression, select, variant, inline, arguments, separated, argument, namedArgument, attribute, attributes, isEmpty, message, freeComment, entry, wroteBy, resource, serialize}
+use Rattle.syntax.specs.Serializer.{Node, nodes, Piece, lastOf, _⊕_, empty, literal, newline, indented, star, each, if}
+use Rattle.syntax.specs.Serializer.{between, textOf, first, ofKind, name, blankLine, commentLine, comment, leadingDot}
+use Rattle.syntax.specs.Serializer.{isMultiline, reference, pattern, element, inBraces, expression, select, variant}
+use Rattle.syntax.specs.Serializer.{inline, arguments, separated, argument, namedArgument, attribute, attributes}
+use Rattle.syntax.specs.Serializer.{isEmpty, message, freeComment, entry, wroteBy, resource, serialize}
 use Rattle.syntax.specs.Shape.{WellFormed}
 use Rattle.laws.specs.Bytes.{clash}
 use Rattle.laws.specs.Balanced.Nodes.{OkMark, OkMarks, OkNode, OkNodes, ok-nodes, run-ok}
@@ -51,7 +56,11 @@ none = record { formed = λ v b. nil-formed }
 
 then : {p q : Piece} → Fine p → Fine q → Fine (p ⊕ q)
 unfolding _⊕_
-then {p} {q} f g = record { formed = λ v b. append-formed (p v b) (q v (lastOf b (p v b))) (f .formed v b) (g .formed v (lastOf b (p v b))) }
+then {p} {q} f g =
+    record {
+      formed =
+          λ v b. append-formed (p v b) (q v (lastOf b (p v b))) (f .formed v b) (g .formed v (lastOf b (p v b)));
+    }
 
 either : (v : Bool) {p q : Piece} → Fine p → Fine q → Fine (elim v [ true ↦ p | false ↦ q ])
 either true f g = f
@@ -139,7 +148,8 @@ module _ (source : List ℕ) (utf8 : Utf8.WellFormed source) where
   reference-fine : (ns : List Node) → OkNodes At ns → Fine (reference source ns)
   unfolding reference
   reference-fine [] o = none
-  reference-fine (i ∷ rest) o = then (name-fine i (o .0)) (each-fine rest (o .1) (λ a b. then (literal-fine (ascii ".") refl) (name-fine a b)))
+  reference-fine (i ∷ rest) o =
+      then (name-fine i (o .0)) (each-fine rest (o .1) (λ a b. then (literal-fine (ascii ".") refl) (name-fine a b)))
 
   -- what the pieces write with the fuel n
   record Fines (n : ℕ) : Type 0 where
@@ -156,8 +166,11 @@ module _ (source : List ℕ) (utf8 : Utf8.WellFormed source) where
     namedArgument : (xs : List Node) → OkNodes At xs → Fine (namedArgument source n xs)
 
   module _ (n : ℕ) (s : Fines n) where
-    first-pattern : (ms : List Mark) → OkMarks At ms → Fine (first source (λ p. pattern source n (p .inner)) (ofKind source (λ k. eqb k Kind.pattern) (nodes ms)))
-    first-pattern ms o = first-fine (ofKind source (λ k. eqb k Kind.pattern) (nodes ms)) (kind-ok (λ k. eqb k Kind.pattern) ms o) (λ p b. s .pattern (p .inner) (b .2))
+    first-pattern : (ms : List Mark) → OkMarks At ms
+        → Fine (first source (λ p. pattern source n (p .inner)) (ofKind source (λ k. eqb k Kind.pattern) (nodes ms)))
+    first-pattern ms o =
+        first-fine (ofKind source (λ k. eqb k Kind.pattern) (nodes ms)) (kind-ok (λ k. eqb k Kind.pattern) ms o)
+        (λ p b. s .pattern (p .inner) (b .2))
 
     first-expression : (ms : List Mark) → OkMarks At ms → Fine (first source (λ z. expression source n z) (nodes ms))
     first-expression ms o = first-fine (nodes ms) (inner-ok ms o) (λ z b. s .expression z b)
@@ -167,17 +180,23 @@ module _ (source : List ℕ) (utf8 : Utf8.WellFormed source) where
     unfolding pattern
     pattern-on ms o =
         let body : Fine (each (λ z. element source n z) (nodes ms)) = each-fine (nodes ms) (inner-ok ms o) (λ e b. s .element e b) in
-        either (not (leadingDot source (nodes ms)) && isMultiline source (nodes ms)) (then newline-fine (indented-fine body)) (then (literal-fine (ascii " ") refl) body)
+        either (not (leadingDot source (nodes ms)) && isMultiline source (nodes ms))
+        (then newline-fine (indented-fine body)) (then (literal-fine (ascii " ") refl) body)
 
     element-on : (e : Node) → OkNode At e → Fine (element source (suc n) e)
     unfolding element
-    element-on e o = either (eqb (e .kind) Kind.text) (name-fine e o) (first-fine (nodes (e .inner)) (inner-ok (e .inner) (o .2)) (λ x b. s .inBraces x b))
+    element-on e o =
+        either (eqb (e .kind) Kind.text) (name-fine e o)
+        (first-fine (nodes (e .inner)) (inner-ok (e .inner) (o .2)) (λ x b. s .inBraces x b))
 
     inBraces-on : (x : Node) → OkNode At x → Fine (inBraces source (suc n) x)
     unfolding inBraces
     inBraces-on x o =
-        either (eqb (x .kind) Kind.placeable) (then (literal-fine (ascii "{{ ") refl) (then (first-expression (x .inner) (o .2)) (literal-fine (ascii " }}") refl)))
-        (either (eqb (x .kind) Kind.select) (then (literal-fine (ascii "{ ") refl) (then (s .expression x o) (literal-fine (ascii "}") refl)))
+        either (eqb (x .kind) Kind.placeable)
+        (then (literal-fine (ascii "{{ ") refl)
+        (then (first-expression (x .inner) (o .2)) (literal-fine (ascii " }}") refl)))
+        (either (eqb (x .kind) Kind.select)
+        (then (literal-fine (ascii "{ ") refl) (then (s .expression x o) (literal-fine (ascii "}") refl)))
         (then (literal-fine (ascii "{ ") refl) (then (s .expression x o) (literal-fine (ascii " }") refl))))
 
     expression-on : (x : Node) → OkNode At x → Fine (expression source (suc n) x)
@@ -188,13 +207,17 @@ module _ (source : List ℕ) (utf8 : Utf8.WellFormed source) where
     unfolding select
     select-on [] o = none
     select-on (x ∷ vs) o =
-        then (s .inline x (o .0)) (then (literal-fine (ascii " ->") refl) (then newline-fine (indented-fine (each-fine vs (o .1) (λ v b. then (s .variant v b) newline-fine)))))
+        then (s .inline x (o .0))
+        (then (literal-fine (ascii " ->") refl)
+        (then newline-fine (indented-fine (each-fine vs (o .1) (λ v b. then (s .variant v b) newline-fine)))))
 
     variant-on : (v : Node) → OkNode At v → Fine (variant source (suc n) v)
     unfolding variant
     variant-on v o =
         then (if-fine (eqb (v .kind) Kind.defaultVariant) star-fine)
-        (then (literal-fine (ascii "[") refl) (then (first-fine (nodes (v .inner)) (inner-ok (v .inner) (o .2)) name-fine) (then (literal-fine (ascii "]") refl) (first-pattern (v .inner) (o .2)))))
+        (then (literal-fine (ascii "[") refl)
+        (then (first-fine (nodes (v .inner)) (inner-ok (v .inner) (o .2)) name-fine)
+        (then (literal-fine (ascii "]") refl) (first-pattern (v .inner) (o .2)))))
 
     inline-on : (x : Node) → OkNode At x → Fine (inline source (suc n) x)
     unfolding inline
@@ -202,11 +225,14 @@ module _ (source : List ℕ) (utf8 : Utf8.WellFormed source) where
         let ms = x .inner in
         either (eqb (x .kind) Kind.string) (then (literal-fine (ascii "\"") refl) (then (name-fine x o) (literal-fine (ascii "\"") refl)))
         (either (eqb (x .kind) Kind.number) (name-fine x o)
-        (either (eqb (x .kind) Kind.placeable) (then (literal-fine (ascii "{") refl) (then (first-expression ms (o .2)) (literal-fine (ascii "}") refl)))
+        (either (eqb (x .kind) Kind.placeable)
+        (then (literal-fine (ascii "{") refl) (then (first-expression ms (o .2)) (literal-fine (ascii "}") refl)))
         (then (if-fine (eqb (x .kind) Kind.variable) (literal-fine (ascii "$") refl))
         (then (if-fine (eqb (x .kind) Kind.termReference) (literal-fine (ascii "-") refl))
         (then (reference-fine (ofKind source (λ j. eqb j Kind.identifier) (nodes ms)) (kind-ok (λ j. eqb j Kind.identifier) ms (o .2)))
-        (each-fine (ofKind source (λ j. eqb j Kind.arguments) (nodes ms)) (kind-ok (λ j. eqb j Kind.arguments) ms (o .2)) (λ a b. s .arguments (nodes (a .inner)) (inner-ok (a .inner) (b .2)))))))))
+        (each-fine (ofKind source (λ j. eqb j Kind.arguments) (nodes ms))
+        (kind-ok (λ j. eqb j Kind.arguments) ms (o .2))
+        (λ a b. s .arguments (nodes (a .inner)) (inner-ok (a .inner) (b .2)))))))))
 
     arguments-on : (xs : List Node) → OkNodes At xs → Fine (arguments source (suc n) xs)
     unfolding arguments
@@ -215,16 +241,21 @@ module _ (source : List ℕ) (utf8 : Utf8.WellFormed source) where
     separated-on : (written : Bool) (xs : List Node) → OkNodes At xs → Fine (separated source (suc n) written xs)
     unfolding separated
     separated-on written [] o = none
-    separated-on written (a ∷ rest) o = then (if-fine written (literal-fine (ascii ", ") refl)) (then (s .argument a (o .0)) (s .separated true rest (o .1)))
+    separated-on written (a ∷ rest) o =
+        then (if-fine written (literal-fine (ascii ", ") refl))
+        (then (s .argument a (o .0)) (s .separated true rest (o .1)))
 
     argument-on : (a : Node) → OkNode At a → Fine (argument source (suc n) a)
     unfolding argument
-    argument-on a o = either (eqb (a .kind) Kind.namedArgument) (s .namedArgument (nodes (a .inner)) (inner-ok (a .inner) (o .2))) (s .inline a o)
+    argument-on a o =
+        either (eqb (a .kind) Kind.namedArgument) (s .namedArgument (nodes (a .inner)) (inner-ok (a .inner) (o .2)))
+        (s .inline a o)
 
     namedArgument-on : (xs : List Node) → OkNodes At xs → Fine (namedArgument source (suc n) xs)
     unfolding namedArgument
     namedArgument-on [] o = none
-    namedArgument-on (i ∷ xs) o = then (name-fine i (o .0)) (then (literal-fine (ascii ": ") refl) (first-fine xs (o .1) (λ z b. s .inline z b)))
+    namedArgument-on (i ∷ xs) o =
+        then (name-fine i (o .0)) (then (literal-fine (ascii ": ") refl) (first-fine xs (o .1) (λ z b. s .inline z b)))
 
     fines-on : Fines (suc n)
     fines-on = record {
@@ -263,7 +294,9 @@ module _ (source : List ℕ) (utf8 : Utf8.WellFormed source) where
   attribute-fine a o =
       let ms = a .inner in
       then newline-fine
-      (then (literal-fine (ascii ".") refl) (then (first-fine (nodes ms) (inner-ok ms (o .2)) name-fine) (then (literal-fine (ascii " =") refl) (first-pattern (length ms) (fines (length ms)) ms (o .2)))))
+      (then (literal-fine (ascii ".") refl)
+      (then (first-fine (nodes ms) (inner-ok ms (o .2)) name-fine)
+      (then (literal-fine (ascii " =") refl) (first-pattern (length ms) (fines (length ms)) ms (o .2)))))
 
   attributes-fine : (ns : List Node) → OkNodes At ns → Fine (attributes source ns)
   unfolding attributes
@@ -274,15 +307,24 @@ module _ (source : List ℕ) (utf8 : Utf8.WellFormed source) where
   message-fine ms o =
       then (first-fine (nodes ms) (inner-ok ms o) name-fine)
       (then (literal-fine (ascii " =") refl)
-      (then (each-fine (ofKind source (λ k. eqb k Kind.pattern) (nodes ms)) (kind-ok (λ k. eqb k Kind.pattern) ms o) (λ p b. fines (length ms) .pattern (p .inner) (b .2)))
-      (then (attributes-fine (ofKind source (λ k. eqb k Kind.attribute) (nodes ms)) (kind-ok (λ k. eqb k Kind.attribute) ms o)) newline-fine)))
+      (then
+      (each-fine (ofKind source (λ k. eqb k Kind.pattern) (nodes ms)) (kind-ok (λ k. eqb k Kind.pattern) ms o)
+      (λ p b. fines (length ms) .pattern (p .inner) (b .2)))
+      (then
+      (attributes-fine (ofKind source (λ k. eqb k Kind.attribute) (nodes ms))
+      (kind-ok (λ k. eqb k Kind.attribute) ms o)) newline-fine)))
 
   comment-fine : (prefix : List ℕ) (ms : List Mark) → isAscii prefix ≡ true → OkMarks At ms → Fine (comment source prefix ms)
   unfolding comment commentLine
   comment-fine prefix ms q o =
-      each-fine (nodes ms) (inner-ok ms o) (λ n b. then (literal-fine prefix q) (then (if-fine (not (blankLine source (textOf source n))) (then (literal-fine (ascii " ") refl) (text-fine n b))) newline-fine))
+      each-fine (nodes ms) (inner-ok ms o)
+      (λ n b. then (literal-fine prefix q)
+      (then
+      (if-fine (not (blankLine source (textOf source n)))
+      (then (literal-fine (ascii " ") refl) (text-fine n b))) newline-fine))
 
-  free-fine : (wrote : Bool) (prefix : List ℕ) (ms : List Mark) → isAscii prefix ≡ true → OkMarks At ms → Fine (freeComment source wrote prefix ms)
+  free-fine : (wrote : Bool) (prefix : List ℕ) (ms : List Mark) → isAscii prefix ≡ true → OkMarks At ms
+      → Fine (freeComment source wrote prefix ms)
   unfolding freeComment
   free-fine wrote prefix ms q o = then (if-fine wrote newline-fine) (then (comment-fine prefix ms q o) newline-fine)
 
@@ -300,7 +342,8 @@ module _ (source : List ℕ) (utf8 : Utf8.WellFormed source) where
   resource-fine : (junk wrote : Bool) (ns : List Node) → OkNodes At ns → Fine (resource source junk wrote ns)
   unfolding resource
   resource-fine junk wrote [] o = none
-  resource-fine junk wrote (e ∷ es) o = then (entry-fine junk wrote e (o .0)) (resource-fine junk (wroteBy source wrote (e .kind)) es (o .1))
+  resource-fine junk wrote (e ∷ es) o =
+      then (entry-fine junk wrote e (o .0)) (resource-fine junk (wroteBy source wrote (e .kind)) es (o .1))
 
   -- whatever the shape of the marks
   pub marks-utf8 : (junk : Bool) (ms : List Mark) → OkMarks At ms → Utf8.WellFormed (serialize source junk ms)
@@ -308,6 +351,7 @@ module _ (source : List ℕ) (utf8 : Utf8.WellFormed source) where
   marks-utf8 junk ms o = resource-fine junk false (nodes ms) (inner-ok ms o) .formed 0 0
 
 -- the normal text of a well-formed list, with any limit on what is open
-pub text-utf8 : (source : List ℕ) (junk : Bool) (limit : ℕ) (ms : List Mark) → Utf8.WellFormed source → WellFormed (isBoundary source) limit ms
+pub text-utf8 : (source : List ℕ) (junk : Bool) (limit : ℕ) (ms : List Mark) → Utf8.WellFormed source
+    → WellFormed (isBoundary source) limit ms
     → Utf8.WellFormed (serialize source junk ms)
 text-utf8 source junk limit ms utf8 f = marks-utf8 source utf8 junk ms (run-ok (λ a. isBoundary source a ≡ true) (λ a h. h) (f .run))

@@ -22,7 +22,10 @@ same-length-3 : tie.Need-same-length-3
 same-length-3 c = search needs
 
 returns : tie.Need-returns
-returns c = normal-written (c .before .before .before .before .before .before .before .before .before .before .before .read .ensures) (c .before .before .before .before .before .enum-told .given .1) (c .before .before .write .ensures)
+returns c =
+    normal-written
+    (c .before .before .before .before .before .before .before .before .before .before .before .read .ensures)
+    (c .before .before .before .before .before .enum-told .given .1) (c .before .before .write .ensures)
 
 same-length-4 : tie.Need-same-length-4
 same-length-4 c = search needs

@@ -21,10 +21,15 @@ enum-known-answer : tie.Need-enum-known-answer
 enum-known-answer c = search needs
 
 array-share-prefix-output : tie.Need-array-share-prefix-output
-array-share-prefix-output c = normal-fits (c .before .before .before .before .before .before .normalize .ensures) (c .before .answer .given .1)
+array-share-prefix-output c =
+    normal-fits (c .before .before .before .before .before .before .normalize .ensures) (c .before .answer .given .1)
 
 slice-aggregate-write-all : tie.Need-slice-aggregate-write-all
-slice-aggregate-write-all c = sym (length-take-le _ _ (normal-fits (c .before .before .before .before .before .before .before .normalize .ensures) (c .before .before .answer .given .1)))
+slice-aggregate-write-all c =
+    sym
+    (length-take-le _ _
+    (normal-fits (c .before .before .before .before .before .before .before .normalize .ensures)
+    (c .before .before .answer .given .1)))
 
 write-all-requires : tie.Need-write-all-requires
 write-all-requires c κs = search needs

@@ -51,7 +51,8 @@ is-within-requires-3 c κs = search needs
 returns-3 : tie.Need-returns-3
 returns-3 c =
     let a = c .before .before .before .before .before .before .before .args in
-    let second = sym (c .before .before .before .before .before .is-within .ensures) ∙ not-false _ (c .before .before .before .before .if1 .left) in
+    let second = sym (c .before .before .before .before .before .is-within .ensures)
+    ∙ not-false _ (c .before .before .before .before .if1 .left) in
     let third = sym (c .before .before .before .is-within2 .ensures) ∙ not-false _ (c .before .before .if2 .left) in
     let fourth = sym (c .before .is-within3 .ensures) ∙ c .if3 .taken in
     sym
@@ -62,7 +63,8 @@ returns-3 c =
 returns-4 : tie.Need-returns-4
 returns-4 c =
     let a = c .before .before .before .before .before .before .before .args in
-    let second = sym (c .before .before .before .before .before .is-within .ensures) ∙ not-false _ (c .before .before .before .before .if1 .left) in
+    let second = sym (c .before .before .before .before .before .is-within .ensures)
+    ∙ not-false _ (c .before .before .before .before .if1 .left) in
     let third = sym (c .before .before .before .is-within2 .ensures) ∙ not-false _ (c .before .before .if2 .left) in
     let fourth = sym (c .before .is-within3 .ensures) ∙ c .if3 .left in
     sym

@@ -16,11 +16,19 @@ shared-slice-read-b c = search needs
 
 returns-2 : tie.Need-returns-2
 unfolding isBoundary
-returns-2 c = rw (ne-eqb _ _ (c .before .before .before .if1 .left), isBoundary, lt-ltb _ _ (c .before .before .if2 .taken)) (starts _ (c .if3 .taken))
+returns-2 c =
+    rw (ne-eqb _ _ (c .before .before .before .if1 .left), isBoundary, lt-ltb _ _ (c .before .before .if2 .taken))
+    (starts _ (c .if3 .taken))
 
 returns-3 : tie.Need-returns-3
 unfolding isBoundary isContinuation
-returns-3 c = rw (ne-eqb _ _ (c .before .before .before .if1 .left), isBoundary, lt-ltb _ _ (c .before .before .if2 .taken), within-below (0x80 ‥ 0xBF) _ (c .if3 .left))
+returns-3 c =
+    rw (
+      ne-eqb _ _ (c .before .before .before .if1 .left),
+      isBoundary,
+      lt-ltb _ _ (c .before .before .if2 .taken),
+      within-below (0x80 ‥ 0xBF) _ (c .if3 .left),
+    )
 
 returns-4 : tie.Need-returns-4
 unfolding isBoundary

@@ -21,7 +21,9 @@ returns c =
 returns-2 : tie.Need-returns-2
 returns-2 c =
     let a = c .before .before .before .args in
-    sym (fits-one (a .source .now) (a .at) (a .low ‥ a .high) (c .before .before .if1 .taken) ∙ within-below (a .low ‥ a .high) _ (c .if2 .left))
+    sym
+    (fits-one (a .source .now) (a .at) (a .low ‥ a .high) (c .before .before .if1 .taken)
+    ∙ within-below (a .low ‥ a .high) _ (c .if2 .left))
 
 returns-3 : tie.Need-returns-3
 returns-3 c =

@@ -111,7 +111,10 @@ unfolding table without
 returns-11 c =
     let entry = c .before .before .before .before .before .before .before .before .before .before .before .before in
     let a = entry .args in
-    let byte = c .before .before .before .before .before .before .before .before .before .before .before .shared-slice-known .given (a .at) in
+    let byte =
+    c .before .before .before .before .before .before .before .before .before .before .before .shared-slice-known
+    .given
+    (a .at) in
     width-none (a .source .now) (a .at) (entry .pre) (0xF5 ‥ 0xFF) (omega arith) (omega (arith, byte)) refl
 
 pub sequence-width-spec : {M : Type 1} → statement M

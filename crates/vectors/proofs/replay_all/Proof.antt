@@ -8,7 +8,8 @@ use Rattle.vectors.proofs.replay_all.Tie as tie
 
 abbrev Inv-loop : tie.InvT-loop
 Inv-loop fd writes source₀ listing₀ tree₀ errors₀ output₀ cases₀ different₀ source listing tree errors output cases different =
-    (different ≤ cases) × (length source ≡ length source₀) × (length listing ≡ length listing₀) × (length tree ≡ length tree₀) × (length errors ≡ length errors₀) × (length output ≡ length output₀)
+    (different ≤ cases) × (length source ≡ length source₀) × (length listing ≡ length listing₀)
+    × (length tree ≡ length tree₀) × (length errors ≡ length errors₀) × (length output ≡ length output₀)
 
 abbrev μ-loop : tie.MeasureT-loop
 μ-loop fd writes source₀ listing₀ tree₀ errors₀ output₀ cases₀ different₀ source listing tree errors output cases different =

@@ -26,7 +26,9 @@ words l = omega arith
 
 returns : tie.Need-returns
 unfolding readable
-returns c = rw (le-leb _ _ (c .before .before .if1 .taken), le-leb _ _ (c .before .if2 .taken), le-leb _ _ (c .if3 .taken)) (ap (λ i. leb i (c .before .before .before .args .words)) (words _))
+returns c =
+    rw (le-leb _ _ (c .before .before .if1 .taken), le-leb _ _ (c .before .if2 .taken), le-leb _ _ (c .if3 .taken))
+    (ap (λ i. leb i (c .before .before .before .args .words)) (words _))
 
 returns-2 : tie.Need-returns-2
 unfolding readable

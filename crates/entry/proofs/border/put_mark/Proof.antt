@@ -21,7 +21,11 @@ same-length : tie.Need-same-length
 same-length c = search needs
 
 returns-2 : tie.Need-returns-2
-returns-2 c = rw (by (c .before .before .before .before .before .has-room .ensures) (not-false _ (c .before .before .before .before .if1 .left))) (c .before .before .put .ensures)
+returns-2 c =
+    rw
+    (by (c .before .before .before .before .before .has-room .ensures)
+    (not-false _ (c .before .before .before .before .if1 .left)))
+    (c .before .before .put .ensures)
 
 pub put-mark-spec : {M : Type 1} → statement M
 put-mark-spec = tie.close (tie.spec has-room-requires returns put-requires same-length returns-2)

@@ -17,7 +17,11 @@ returns c = rw (by (c .before .is-readable .ensures) (not-true _ (c .if1 .taken)
 mul-get-entry : tie.Need-mul-get-entry
 mul-get-entry c =
     let a = c .before .before .before .before .before .args in
-    omega (arith, entered (a .source .now) (a .tree .now) (by (c .before .before .is-readable .ensures) (not-false _ (c .before .if1 .left))) .short)
+    omega (
+      arith,
+      entered (a .source .now) (a .tree .now)
+          (by (c .before .before .is-readable .ensures) (not-false _ (c .before .if1 .left))) .short,
+    )
 
 get-entry-requires : tie.Need-get-entry-requires
 get-entry-requires c κs = entered _ _ (by (c .before .before .is-readable .ensures) (not-false _ (c .before .if1 .left)))
@@ -26,7 +30,11 @@ same-length : tie.Need-same-length
 same-length c = search needs
 
 returns-2 : tie.Need-returns-2
-returns-2 c = rw (by (c .before .before .before .before .before .is-readable .ensures) (not-false _ (c .before .before .before .before .if1 .left))) (tried _ (c .before .before .get-entry .ensures))
+returns-2 c =
+    rw
+    (by (c .before .before .before .before .before .is-readable .ensures)
+    (not-false _ (c .before .before .before .before .if1 .left)))
+    (tried _ (c .before .before .get-entry .ensures))
 
 pub read-entry-spec : {M : Type 1} → statement M
 read-entry-spec =

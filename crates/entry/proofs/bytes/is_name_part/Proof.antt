@@ -18,15 +18,30 @@ returns c = rw (by (c .before .is-ascii-alphabetic .ensures) (c .if1 .taken)) (c
 
 returns-2 : tie.Need-returns-2
 unfolding isNamePart
-returns-2 c = rw (by (c .before .before .before .is-ascii-alphabetic .ensures) (c .before .before .if1 .left), by (c .before .is-ascii-digit .ensures) (c .if2 .taken)) (c .if2 .taken)
+returns-2 c =
+    rw (
+      by (c .before .before .before .is-ascii-alphabetic .ensures) (c .before .before .if1 .left),
+      by (c .before .is-ascii-digit .ensures) (c .if2 .taken),
+    )
+    (c .if2 .taken)
 
 returns-3 : tie.Need-returns-3
 unfolding isNamePart
-returns-3 c = rw (by (c .before .before .before .before .is-ascii-alphabetic .ensures) (c .before .before .before .if1 .left), by (c .before .before .is-ascii-digit .ensures) (c .before .if2 .left), eq-eqb _ _ (c .if3 .taken))
+returns-3 c =
+    rw (
+      by (c .before .before .before .before .is-ascii-alphabetic .ensures) (c .before .before .before .if1 .left),
+      by (c .before .before .is-ascii-digit .ensures) (c .before .if2 .left),
+      eq-eqb _ _ (c .if3 .taken),
+    )
 
 returns-4 : tie.Need-returns-4
 unfolding isNamePart
-returns-4 c = rw (by (c .before .before .before .before .is-ascii-alphabetic .ensures) (c .before .before .before .if1 .left), by (c .before .before .is-ascii-digit .ensures) (c .before .if2 .left), ne-eqb _ _ (c .if3 .left))
+returns-4 c =
+    rw (
+      by (c .before .before .before .before .is-ascii-alphabetic .ensures) (c .before .before .before .if1 .left),
+      by (c .before .before .is-ascii-digit .ensures) (c .before .if2 .left),
+      ne-eqb _ _ (c .if3 .left),
+    )
 
 pub is-name-part-spec : {M : Type 1} → statement M
 is-name-part-spec =

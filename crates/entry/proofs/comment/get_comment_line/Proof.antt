@@ -23,10 +23,16 @@ is-eol-requires : tie.Need-is-eol-requires Inv-loop μ-loop
 is-eol-requires c κs = search needs
 
 add-end : tie.Need-add-end Inv-loop μ-loop
-add-end c = let l = line-byte (c .before .before .before .before .args .source .now) (c .before .before .loop .end) (by (c .before .is-eol .ensures) (not-true _ (c .if1 .taken))) in omega arith
+add-end c = let l =
+    line-byte (c .before .before .before .before .args .source .now) (c .before .before .loop .end)
+    (by (c .before .is-eol .ensures) (not-true _ (c .if1 .taken))) in
+    omega arith
 
 loop-less : tie.Need-loop-less Inv-loop μ-loop
-loop-less c = falls _ _ (line-byte (c .before .before .before .before .args .source .now) (c .before .before .loop .end) (by (c .before .is-eol .ensures) (not-true _ (c .if1 .taken))))
+loop-less c =
+    falls _ _
+    (line-byte (c .before .before .before .before .args .source .now) (c .before .before .loop .end)
+    (by (c .before .is-eol .ensures) (not-true _ (c .if1 .taken))))
 
 loop-again : tie.Need-loop-again Inv-loop μ-loop
 loop-again c = lining-more (c .before .before .loop .inv) (c .before .is-eol .ensures) (not-true _ (c .if1 .taken))

@@ -16,13 +16,29 @@ skip-blank-inline-requires : tie.Need-skip-blank-inline-requires
 skip-blank-inline-requires c κs = (rw (c .before .exp .given .1) at (c .before .before .before .before .pre .0)) .inside
 
 expect-byte-requires : tie.Need-expect-byte-requires
-expect-byte-requires c κs = record { inside = c .skip-blank-inline .ensures .within; short = (rw (c .before .before .exp .given .1) at (c .before .before .before .before .before .pre .0)) .short }
+expect-byte-requires c κs =
+    record {
+      inside = c .skip-blank-inline .ensures .within;
+      short = (rw (c .before .before .exp .given .1) at (c .before .before .before .before .before .pre .0)) .short;
+    }
 
 enum-known-end : tie.Need-enum-known-end
 enum-known-end c = search needs
 
 without-attribute-requires : tie.Need-without-attribute-requires
-without-attribute-requires c κs = (rw (c .before .before .before .before .before .before .exp .given .1) at (c .before .before .before .before .before .before .before .before .before .pre .1), omega (arith, found-within (c .before .before .before .expect-byte .ensures) (c .before .end .given .1), (rw (c .before .before .before .before .before .before .exp .given .1) at (c .before .before .before .before .before .before .before .before .before .pre .0)) .short))
+without-attribute-requires c κs = (
+  rw
+      (c .before .before .before .before .before .before .exp .given .1) at (c .before .before .before .before .before
+      .before .before .before .before .pre .1),
+  omega (
+    arith,
+    found-within (c .before .before .before .expect-byte .ensures) (c .before .end .given .1),
+    (rw
+        (c .before .before .before .before .before .before .exp .given .1) at (c .before .before .before .before .before
+        .before .before .before .before .pre .0))
+        .short,
+  ),
+)
 
 enum-known-e : tie.Need-enum-known-e
 enum-known-e c = search needs
@@ -34,10 +50,23 @@ enum-known-exp-3 : tie.Need-enum-known-exp-3
 enum-known-exp-3 c = search needs
 
 returns : tie.Need-returns
-returns c = c .without-attribute .ensures ∙ ended-at placeableEnd (c .before .before .before .before .before .before .before .before .before .before .args .source .now) _ placeable-quiet (ap plainly (c .before .before .before .before .before .before .before .exp .given .1)) (placeable-found (c .before .before .before .before .before .skip-blank-inline .ensures) (c .before .before .before .before .expect-byte .ensures)) (c .before .before .end .given .1)
+returns c = c .without-attribute .ensures
+    ∙ ended-at placeableEnd
+    (c .before .before .before .before .before .before .before .before .before .before .args .source .now) _
+    placeable-quiet
+    (ap plainly (c .before .before .before .before .before .before .before .exp .given .1))
+    (placeable-found (c .before .before .before .before .before .skip-blank-inline .ensures)
+    (c .before .before .before .before .expect-byte .ensures))
+    (c .before .before .end .given .1)
 
 returns-2 : tie.Need-returns-2
-returns-2 c = ended-bad placeableEnd (c .before .before .before .before .before .before .before .before .before .args .source .now) _ (ap plainly (c .before .before .before .before .before .before .exp .given .1)) (placeable-found (c .before .before .before .before .skip-blank-inline .ensures) (c .before .before .before .expect-byte .ensures)) (c .before .e .given .1)
+returns-2 c =
+    ended-bad placeableEnd
+    (c .before .before .before .before .before .before .before .before .before .args .source .now) _
+    (ap plainly (c .before .before .before .before .before .before .exp .given .1))
+    (placeable-found (c .before .before .before .before .skip-blank-inline .ensures)
+    (c .before .before .before .expect-byte .ensures))
+    (c .before .e .given .1)
 
 returns-3 : tie.Need-returns-3
 returns-3 c = rw (c .before .exp2 .given .1)

@@ -15,7 +15,11 @@ same-length : tie.Need-same-length
 same-length c = search needs
 
 returns : tie.Need-returns
-returns c = entry-comment _ _ (by (c .before .before .before .before .before .is-current-byte .ensures .is) (c .before .before .before .before .if1 .taken)) (c .before .before .get-comment .ensures)
+returns c =
+    entry-comment _ _
+    (by (c .before .before .before .before .before .is-current-byte .ensures .is)
+    (c .before .before .before .before .if1 .taken))
+    (c .before .before .get-comment .ensures)
 
 is-current-byte-requires-2 : tie.Need-is-current-byte-requires-2
 is-current-byte-requires-2 c κs = search needs
@@ -27,7 +31,13 @@ same-length-2 : tie.Need-same-length-2
 same-length-2 c = search needs
 
 returns-2 : tie.Need-returns-2
-returns-2 c = entry-term _ _ (by (c .before .before .before .before .before .before .before .is-current-byte .ensures .is) (c .before .before .before .before .before .before .if1 .left)) (by (c .before .before .before .before .before .is-current-byte2 .ensures .is) (c .before .before .before .before .if2 .taken)) (c .before .before .get-term .ensures)
+returns-2 c =
+    entry-term _ _
+    (by (c .before .before .before .before .before .before .before .is-current-byte .ensures .is)
+    (c .before .before .before .before .before .before .if1 .left))
+    (by (c .before .before .before .before .before .is-current-byte2 .ensures .is)
+    (c .before .before .before .before .if2 .taken))
+    (c .before .before .get-term .ensures)
 
 get-message-requires : tie.Need-get-message-requires
 get-message-requires c κs = search needs
@@ -36,7 +46,13 @@ same-length-3 : tie.Need-same-length-3
 same-length-3 c = search needs
 
 returns-3 : tie.Need-returns-3
-returns-3 c = entry-message _ _ (by (c .before .before .before .before .before .before .before .is-current-byte .ensures .is) (c .before .before .before .before .before .before .if1 .left)) (by (c .before .before .before .before .before .is-current-byte2 .ensures .is) (c .before .before .before .before .if2 .left)) (c .before .before .get-message .ensures)
+returns-3 c =
+    entry-message _ _
+    (by (c .before .before .before .before .before .before .before .is-current-byte .ensures .is)
+    (c .before .before .before .before .before .before .if1 .left))
+    (by (c .before .before .before .before .before .is-current-byte2 .ensures .is)
+    (c .before .before .before .before .if2 .left))
+    (c .before .before .get-message .ensures)
 
 pub get-entry-spec : {M : Type 1} → statement M
 get-entry-spec =

@@ -16,22 +16,47 @@ same-length : tie.Need-same-length
 same-length c = search needs
 
 returns : tie.Need-returns
-returns c = did-message _ (c .before .before .before .before .before .before .get-fields .ensures .0) (⊎-elim (λ w. message-first _ (c .before .before .length .given .1) (w .taken)) (λ w. message-second _ (c .before .before .length .given .1) (w .0 .left) (w .1 .taken)) (c .if1 .came))
+returns c =
+    did-message _ (c .before .before .before .before .before .before .get-fields .ensures .0)
+    (⊎-elim (λ w. message-first _ (c .before .before .length .given .1) (w .taken))
+    (λ w. message-second _ (c .before .before .length .given .1) (w .0 .left) (w .1 .taken)) (c .if1 .came))
 
 add-name-end : tie.Need-add-name-end
-add-name-end c = omega (arith, rw (c .before .before .before .length .given .1) at (c .before .before .before .before .before .before .before .get-fields .ensures .1), c .before .before .before .before .before .before .before .before .before .before .before .pre .short)
+add-name-end c =
+    omega (
+      arith,
+      rw
+          (c .before .before .before .length .given .1) at (c .before .before .before .before .before .before .before
+          .get-fields .ensures .1),
+      c .before .before .before .before .before .before .before .before .before .before .before .pre .short,
+    )
 
 cast-t24 : tie.Need-cast-t24
 cast-t24 c = search needs
 
 cast-t25 : tie.Need-cast-t25
-cast-t25 c = omega (arith, rw (c .before .before .before .length .given .1) at (c .before .before .before .before .before .before .before .get-fields .ensures .1), c .before .before .before .before .before .before .before .before .before .before .before .pre .short)
+cast-t25 c =
+    omega (
+      arith,
+      rw
+          (c .before .before .before .length .given .1) at (c .before .before .before .before .before .before .before
+          .get-fields .ensures .1),
+      c .before .before .before .before .before .before .before .before .before .before .before .pre .short,
+    )
 
 cast-t24-2 : tie.Need-cast-t24-2
 cast-t24-2 c = search needs
 
 cast-t25-2 : tie.Need-cast-t25-2
-cast-t25-2 c = omega (arith, fields-within _ _ _ (c .before .before .before .before .before .before .before .before .before .before .before .pre .inside) (c .before .before .before .before .before .before .before .get-fields .ensures .0) (c .before .before .before .length .given .1), c .before .before .before .before .before .before .before .before .before .before .before .pre .short)
+cast-t25-2 c =
+    omega (
+      arith,
+      fields-within _ _ _
+          (c .before .before .before .before .before .before .before .before .before .before .before .pre .inside)
+          (c .before .before .before .before .before .before .before .get-fields .ensures .0)
+          (c .before .before .before .length .given .1),
+      c .before .before .before .before .before .before .before .before .before .before .before .pre .short,
+    )
 
 enum-known-e : tie.Need-enum-known-e
 enum-known-e c = search needs
@@ -43,7 +68,9 @@ same-length-2 : tie.Need-same-length-2
 same-length-2 c = search needs
 
 returns-2 : tie.Need-returns-2
-returns-2 c = did-message _ (c .before .before .before .before .before .before .before .get-fields .ensures .0) (message-none _ (c .before .before .before .length .given .1) (c .before .if1 .left) (c .if2 .left))
+returns-2 c =
+    did-message _ (c .before .before .before .before .before .before .before .get-fields .ensures .0)
+    (message-none _ (c .before .before .before .length .given .1) (c .before .if1 .left) (c .if2 .left))
 
 same-length-3 : tie.Need-same-length-3
 same-length-3 c = search needs

@@ -27,10 +27,21 @@ same-length c = search needs
 
 returns : tie.Need-returns
 unfolding getVariantKey
-returns c = did-then (c .before .before .before .before .before .before .before .before .args .source .now) skipBlank _ (went (c .before .before .before .before .before .skip-blank .ensures)) (stop-then _ keyText _ (c .before .before .before .get-key .ensures) (not-ok _ (c .match .keys2)))
+returns c =
+    did-then (c .before .before .before .before .before .before .before .before .args .source .now) skipBlank _
+    (went (c .before .before .before .before .before .skip-blank .ensures))
+    (stop-then _ keyText _ (c .before .before .before .get-key .ensures) (not-ok _ (c .match .keys2)))
 
 skip-blank-requires-2 : tie.Need-skip-blank-requires-2
-skip-blank-requires-2 c κs = let w = kept-at (c .before .before .before .before .before .before .before .before .before .before .args .source .now) (key-text-bounds {n = 0} .on _) (c .before .before .before .before .before .before .before .skip-blank .ensures .within) (c .before .before .before .before .before .get-key .ensures) (c .before .r .given .1) in record { inside = w .1; short = c .before .before .before .before .before .before .before .before .before .before .pre .short }
+skip-blank-requires-2 c κs = let w =
+    kept-at (c .before .before .before .before .before .before .before .before .before .before .args .source .now)
+    (key-text-bounds {n = 0} .on _)
+    (c .before .before .before .before .before .before .before .skip-blank .ensures .within)
+    (c .before .before .before .before .before .get-key .ensures) (c .before .r .given .1) in
+    record {
+      inside = w .1;
+      short = c .before .before .before .before .before .before .before .before .before .before .pre .short;
+    }
 
 expect-after-requires : tie.Need-expect-after-requires
 expect-after-requires c κs = search needs
@@ -40,7 +51,24 @@ same-length-2 c = search needs
 
 returns-2 : tie.Need-returns-2
 unfolding getVariantKey
-returns-2 c = did-then (c .before .before .before .before .before .before .before .before .before .before .before .before .args .source .now) skipBlank _ (went (c .before .before .before .before .before .before .before .before .before .skip-blank .ensures)) (did-then (c .before .before .before .before .before .before .before .before .before .before .before .before .args .source .now) keyText _ (found _ (c .before .before .before .before .before .before .before .get-key .ensures) (c .before .before .before .r .given .1)) (did-then (c .before .before .before .before .before .before .before .before .before .before .before .before .args .source .now) skipBlank (expectByte Byte.closeBracket) (went (c .before .skip-blank2 .ensures)) (record { answers = c .expect-after .ensures; wrote = rw (expect-quiet, words-none) (step-none _ _ _) })))
+returns-2 c =
+    did-then
+    (c .before .before .before .before .before .before .before .before .before .before .before .before .args .source
+    .now)
+    skipBlank _
+    (went (c .before .before .before .before .before .before .before .before .before .skip-blank .ensures))
+    (did-then
+    (c .before .before .before .before .before .before .before .before .before .before .before .before .args .source
+    .now)
+    keyText _
+    (found _ (c .before .before .before .before .before .before .before .get-key .ensures)
+    (c .before .before .before .r .given .1))
+    (did-then
+    (c .before .before .before .before .before .before .before .before .before .before .before .before .args .source
+    .now)
+    skipBlank
+    (expectByte Byte.closeBracket) (went (c .before .skip-blank2 .ensures))
+    (record { answers = c .expect-after .ensures; wrote = rw (expect-quiet, words-none) (step-none _ _ _) })))
 
 pub get-variant-key-spec : {M : Type 1} → statement M
 get-variant-key-spec =

@@ -17,7 +17,9 @@ returns : tie.Need-returns
 returns c = number-starts _ _ _ (c .before .before .before .if1 .taken) (c .before .is-ascii-digit .ensures) (c .if2 .taken)
 
 returns-2 : tie.Need-returns-2
-returns-2 c = minus-starts _ _ _ (c .before .before .before .before .if1 .taken) (c .before .before .is-ascii-digit .ensures) (c .before .if2 .left)
+returns-2 c =
+    minus-starts _ _ _ (c .before .before .before .before .if1 .taken) (c .before .before .is-ascii-digit .ensures)
+    (c .before .if2 .left)
 
 returns-3 : tie.Need-returns-3
 returns-3 c = none-starts _ _ _ (c .if1 .left)

@@ -16,7 +16,9 @@ skip-blank-requires : tie.Need-skip-blank-requires
 skip-blank-requires c κs = rw (c .before .r .given .1) at (c .before .before .before .before .pre)
 
 returns-2 : tie.Need-returns-2
-returns-2 c = ended-went skipBlank (c .before .before .before .before .before .args .source .now) _ (c .before .before .r .given .1) (c .skip-blank .ensures)
+returns-2 c =
+    ended-went skipBlank (c .before .before .before .before .before .args .source .now) _
+    (c .before .before .r .given .1) (c .skip-blank .ensures)
 
 pub skip-after-spec : {M : Type 1} → statement M
 skip-after-spec = tie.close (tie.spec enum-known-r returns skip-blank-requires returns-2)

@@ -11,7 +11,11 @@ error-requires : tie.Need-error-requires
 error-requires c κs = search needs
 
 returns : tie.Need-returns
-returns c = absurd (no-attribute (c .before .before .before .before .before .args .exp) (c .before .before .before .before .before .pre .0) (c .before .before .before .exp .given .1) (c .before .if1 .taken))
+returns c =
+    absurd
+    (no-attribute (c .before .before .before .before .before .args .exp)
+    (c .before .before .before .before .before .pre .0) (c .before .before .before .exp .given .1)
+    (c .before .if1 .taken))
 
 returns-2 : tie.Need-returns-2
 returns-2 c = search needs

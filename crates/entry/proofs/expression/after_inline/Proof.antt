@@ -13,16 +13,28 @@ is-arrow-requires : tie.Need-is-arrow-requires
 is-arrow-requires c κs = search needs
 
 get-select-requires : tie.Need-get-select-requires
-get-select-requires c κs = (record { inside = c .before .before .skip-blank .ensures .within; short = c .before .before .before .before .pre .short }, by (c .before .is-arrow .ensures) (c .if1 .taken))
+get-select-requires c κs = (
+  record {
+    inside = c .before .before .skip-blank .ensures .within;
+    short = c .before .before .before .before .pre .short;
+  },
+  by (c .before .is-arrow .ensures) (c .if1 .taken),
+)
 
 alone-requires : tie.Need-alone-requires
 alone-requires c κs = search needs
 
 returns : tie.Need-returns
-returns c = select-followed (c .before .before .before .before .before .args .exp) (c .before .before .before .skip-blank .ensures) (by (c .before .before .is-arrow .ensures) (c .before .if1 .taken)) (c .get-select .result) (c .get-select .ensures)
+returns c =
+    select-followed (c .before .before .before .before .before .args .exp)
+    (c .before .before .before .skip-blank .ensures) (by (c .before .before .is-arrow .ensures) (c .before .if1 .taken))
+    (c .get-select .result) (c .get-select .ensures)
 
 returns-2 : tie.Need-returns-2
-returns-2 c = rw (c .alone .ensures) (alone-followed (c .before .before .before .before .before .args .exp) (c .before .before .before .skip-blank .ensures) (by (c .before .before .is-arrow .ensures) (c .before .if1 .left)))
+returns-2 c =
+    rw (c .alone .ensures)
+    (alone-followed (c .before .before .before .before .before .args .exp)
+    (c .before .before .before .skip-blank .ensures) (by (c .before .before .is-arrow .ensures) (c .before .if1 .left)))
 
 pub after-inline-spec : {M : Type 1} → statement M
 after-inline-spec =

@@ -28,13 +28,24 @@ is-callee-requires : tie.Need-is-callee-requires
 is-callee-requires c κs = search needs
 
 error-requires : tie.Need-error-requires
-error-requires c κs = omega (arith, rw (c .before .before .before .before .r .given .1) at (c .before .before .before .before .before .before .before .pre .1))
+error-requires c κs =
+    omega (
+      arith,
+      rw
+          (c .before .before .before .before .r .given .1) at (c .before .before .before .before .before .before .before
+          .pre .1),
+    )
 
 returns-2 : tie.Need-returns-2
-returns-2 c = sym (c .before .before .before .before .r .given .1) ∙ callee-yes _ (c .before .before .before .before .before .before .before .args .source .now) _ (c .before .before .before .before .r .given .1) (c .before .is-callee .ensures) (c .if1 .taken)
+returns-2 c = sym (c .before .before .before .before .r .given .1)
+    ∙ callee-yes _ (c .before .before .before .before .before .before .before .args .source .now) _
+    (c .before .before .before .before .r .given .1) (c .before .is-callee .ensures) (c .if1 .taken)
 
 returns-3 : tie.Need-returns-3
-returns-3 c = callee-no _ (c .before .before .before .before .before .before .before .before .args .source .now) _ (c .before .before .before .before .before .r .given .1) (c .before .before .is-callee .ensures) (c .before .if1 .left) (c .error .ensures)
+returns-3 c =
+    callee-no _ (c .before .before .before .before .before .before .before .before .args .source .now) _
+    (c .before .before .before .before .before .r .given .1) (c .before .before .is-callee .ensures)
+    (c .before .if1 .left) (c .error .ensures)
 
 pub check-callee-spec : {M : Type 1} → statement M
 check-callee-spec =

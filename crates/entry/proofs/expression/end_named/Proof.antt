@@ -14,7 +14,10 @@ put-requires : tie.Need-put-requires
 put-requires c κs = (rw (c .before .before .r .given .1) at (c .before .before .before .before .before .before .pre .1), search needs)
 
 skip-separator-requires : tie.Need-skip-separator-requires
-skip-separator-requires c κs = rw (c .before .before .before .before .before .r .given .1) at (c .before .before .before .before .before .before .before .before .before .pre .0)
+skip-separator-requires c κs =
+    rw
+    (c .before .before .before .before .before .r .given .1) at (c .before .before .before .before .before .before
+    .before .before .before .pre .0)
 
 enum-known-r-2 : tie.Need-enum-known-r-2
 enum-known-r-2 c = search needs
@@ -26,7 +29,15 @@ same-length : tie.Need-same-length
 same-length c = search needs
 
 returns : tie.Need-returns
-returns c = rw (c .before .before .before .before .before .before .r .given .1) (record { holds = (λ name before. ap (Named (c .skip-separator .result)) (c .before .before .before .put .ensures .0) ∙ answer-went _ (name ∷ before) (c .skip-separator .ensures (name ∷ before)), c .before .before .before .put .ensures .1) })
+returns c =
+    rw (c .before .before .before .before .before .before .r .given .1)
+    (record {
+      holds = (
+        λ name before. ap (Named (c .skip-separator .result)) (c .before .before .before .put .ensures .0)
+            ∙ answer-went _ (name ∷ before) (c .skip-separator .ensures (name ∷ before)),
+        c .before .before .before .put .ensures .1,
+      );
+    })
 
 returns-2 : tie.Need-returns-2
 returns-2 c = rw (c .before .r2 .given .1) (record { holds = (refl, refl) })

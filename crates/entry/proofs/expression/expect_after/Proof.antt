@@ -22,10 +22,18 @@ enum-known-e : tie.Need-enum-known-e
 enum-known-e c = search needs
 
 returns-2 : tie.Need-returns-2
-returns-2 c = ended-at (expectByte (c .before .before .before .before .before .before .before .before .args .b)) (c .before .before .before .before .before .before .before .before .args .source .now) _ (expect-quiet _) (c .before .before .before .before .before .r .given .1) (c .before .before .before .expect-byte .ensures) (c .before .end .given .1)
+returns-2 c =
+    ended-at (expectByte (c .before .before .before .before .before .before .before .before .args .b))
+    (c .before .before .before .before .before .before .before .before .args .source .now) _ (expect-quiet _)
+    (c .before .before .before .before .before .r .given .1) (c .before .before .before .expect-byte .ensures)
+    (c .before .end .given .1)
 
 returns-3 : tie.Need-returns-3
-returns-3 c = ended-bad (expectByte (c .before .before .before .before .before .before .before .before .args .b)) (c .before .before .before .before .before .before .before .before .args .source .now) _ (c .before .before .before .before .before .r .given .1) (c .before .before .before .expect-byte .ensures) (c .before .e .given .1)
+returns-3 c =
+    ended-bad (expectByte (c .before .before .before .before .before .before .before .before .args .b))
+    (c .before .before .before .before .before .before .before .before .args .source .now) _
+    (c .before .before .before .before .before .r .given .1) (c .before .before .before .expect-byte .ensures)
+    (c .before .e .given .1)
 
 pub expect-after-spec : {M : Type 1} → statement M
 expect-after-spec =

@@ -13,7 +13,10 @@ get-number-literal-requires : tie.Need-get-number-literal-requires
 get-number-literal-requires c κs = search needs
 
 put-found-requires : tie.Need-put-found-requires
-put-found-requires c κs = ((search needs, omega (arith, c .before .before .before .before .pre)), number-textable _ (c .before .before .before .before .pre) (c .before .get-number-literal .ensures))
+put-found-requires c κs = (
+  (search needs, omega (arith, c .before .before .before .before .pre)),
+  number-textable _ (c .before .before .before .before .pre) (c .before .get-number-literal .ensures),
+)
 
 expressed-requires : tie.Need-expressed-requires
 expressed-requires c κs = search needs
@@ -23,7 +26,12 @@ same-length c = search needs
 
 returns : tie.Need-returns
 unfolding numberLiteral
-returns c = rw (c .expressed .ensures) (did-shape number (getNumberLiteral 20) _ (did-number (c .before .before .before .before .before .before .before .before .args .source .now) _ (c .before .before .before .before .before .get-number-literal .ensures) (c .before .before .before .put-found .ensures)))
+returns c =
+    rw (c .expressed .ensures)
+    (did-shape number (getNumberLiteral 20) _
+    (did-number (c .before .before .before .before .before .before .before .before .args .source .now) _
+    (c .before .before .before .before .before .get-number-literal .ensures)
+    (c .before .before .before .put-found .ensures)))
 
 pub get-number-spec : {M : Type 1} → statement M
 get-number-spec =

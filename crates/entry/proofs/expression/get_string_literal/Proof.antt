@@ -20,10 +20,22 @@ add-put-text : tie.Need-add-put-text
 add-put-text c = search needs
 
 sub-put-text : tie.Need-sub-put-text
-sub-put-text c = omega (arith, string-ends (c .before .before .before .before .before .before .before .args .source .now) (c .before .before .before .before .skip-string-literal .ensures) (c .before .before .end .given .1))
+sub-put-text c =
+    omega (
+      arith,
+      string-ends (c .before .before .before .before .before .before .before .args .source .now)
+          (c .before .before .before .before .skip-string-literal .ensures) (c .before .before .end .given .1),
+    )
 
 put-text-requires : tie.Need-put-text-requires
-put-text-requires c κs = omega (arith, string-ends (c .before .before .before .before .before .before .before .args .source .now) (c .before .before .before .before .skip-string-literal .ensures) (c .before .before .end .given .1), found-within (c .before .before .before .before .skip-string-literal .ensures) (c .before .before .end .given .1), c .before .before .before .before .before .before .before .pre)
+put-text-requires c κs =
+    omega (
+      arith,
+      string-ends (c .before .before .before .before .before .before .before .args .source .now)
+          (c .before .before .before .before .skip-string-literal .ensures) (c .before .before .end .given .1),
+      found-within (c .before .before .before .before .skip-string-literal .ensures) (c .before .before .end .given .1),
+      c .before .before .before .before .before .before .before .pre,
+    )
 
 enum-known-e : tie.Need-enum-known-e
 enum-known-e c = search needs
@@ -32,10 +44,18 @@ same-length : tie.Need-same-length
 same-length c = search needs
 
 returns : tie.Need-returns
-returns c = did-string (c .before .before .before .before .before .before .before .before .before .before .args .source .now) (c .before .before .before .before .before .before .before .skip-string-literal .ensures) (c .before .before .before .before .before .end .given .1) (c .before .before .put-text .ensures .0) (c .before .before .put-text .ensures .1)
+returns c =
+    did-string (c .before .before .before .before .before .before .before .before .before .before .args .source .now)
+    (c .before .before .before .before .before .before .before .skip-string-literal .ensures)
+    (c .before .before .before .before .before .end .given .1) (c .before .before .put-text .ensures .0)
+    (c .before .before .put-text .ensures .1)
 
 returns-2 : tie.Need-returns-2
-returns-2 c = did-lost (expressing (c .before .before .before .before .before .before .args .at)) (lost-string (c .before .before .before .before .before .before .args .source .now) (c .before .before .before .skip-string-literal .ensures) (c .before .e .given .1)) (step-none _ _ _)
+returns-2 c =
+    did-lost (expressing (c .before .before .before .before .before .before .args .at))
+    (lost-string (c .before .before .before .before .before .before .args .source .now)
+    (c .before .before .before .skip-string-literal .ensures) (c .before .e .given .1))
+    (step-none _ _ _)
 
 pub get-string-literal-spec : {M : Type 1} → statement M
 get-string-literal-spec =

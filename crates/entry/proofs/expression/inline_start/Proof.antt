@@ -23,16 +23,26 @@ is-ascii-digit-requires : tie.Need-is-ascii-digit-requires
 is-ascii-digit-requires c κs = search needs
 
 returns-3 : tie.Need-returns-3
-returns-3 c = start-digit _ _ _ (c .before .before .before .before .if1 .left) (ne-eqb _ _ (c .before .before .if2 .left)) (by (c .before .is-ascii-digit .ensures) (c .if3 .taken))
+returns-3 c =
+    start-digit _ _ _ (c .before .before .before .before .if1 .left) (ne-eqb _ _ (c .before .before .if2 .left))
+    (by (c .before .is-ascii-digit .ensures) (c .if3 .taken))
 
 is-ascii-alphabetic-requires : tie.Need-is-ascii-alphabetic-requires
 is-ascii-alphabetic-requires c κs = search needs
 
 returns-4 : tie.Need-returns-4
-returns-4 c = start-letter _ _ _ (c .before .before .before .before .before .before .if1 .left) (ne-eqb _ _ (c .before .before .before .before .if2 .left)) (by (c .before .before .before .is-ascii-digit .ensures) (c .before .before .if3 .left)) (by (c .before .is-ascii-alphabetic .ensures) (c .if4 .taken))
+returns-4 c =
+    start-letter _ _ _ (c .before .before .before .before .before .before .if1 .left)
+    (ne-eqb _ _ (c .before .before .before .before .if2 .left))
+    (by (c .before .before .before .is-ascii-digit .ensures) (c .before .before .if3 .left))
+    (by (c .before .is-ascii-alphabetic .ensures) (c .if4 .taken))
 
 returns-5 : tie.Need-returns-5
-returns-5 c = start-literal _ _ _ (c .before .before .before .before .before .before .before .if1 .left) (ne-eqb _ _ (c .before .before .before .before .before .if2 .left)) (by (c .before .before .before .before .is-ascii-digit .ensures) (c .before .before .before .if3 .left)) (by (c .before .before .is-ascii-alphabetic .ensures) (c .before .if4 .left)) (c .if5 .taken)
+returns-5 c =
+    start-literal _ _ _ (c .before .before .before .before .before .before .before .if1 .left)
+    (ne-eqb _ _ (c .before .before .before .before .before .if2 .left))
+    (by (c .before .before .before .before .is-ascii-digit .ensures) (c .before .before .before .if3 .left))
+    (by (c .before .before .is-ascii-alphabetic .ensures) (c .before .if4 .left)) (c .if5 .taken)
 
 add-is-identifier-start : tie.Need-add-is-identifier-start
 add-is-identifier-start c = search needs
@@ -44,7 +54,13 @@ non-literal-requires : tie.Need-non-literal-requires
 non-literal-requires c κs = search needs
 
 returns-6 : tie.Need-returns-6
-returns-6 c = start-other _ _ _ (c .before .before .before .before .before .before .before .before .before .if1 .left) (ne-eqb _ _ (c .before .before .before .before .before .before .before .if2 .left)) (by (c .before .before .before .before .before .before .is-ascii-digit .ensures) (c .before .before .before .before .before .if3 .left)) (by (c .before .before .before .before .is-ascii-alphabetic .ensures) (c .before .before .before .if4 .left)) (c .before .before .if5 .left) (c .before .is-identifier-start .ensures .is) (c .non-literal .ensures)
+returns-6 c =
+    start-other _ _ _ (c .before .before .before .before .before .before .before .before .before .if1 .left)
+    (ne-eqb _ _ (c .before .before .before .before .before .before .before .if2 .left))
+    (by (c .before .before .before .before .before .before .is-ascii-digit .ensures)
+    (c .before .before .before .before .before .if3 .left))
+    (by (c .before .before .before .before .is-ascii-alphabetic .ensures) (c .before .before .before .if4 .left))
+    (c .before .before .if5 .left) (c .before .is-identifier-start .ensures .is) (c .non-literal .ensures)
 
 pub inline-start-spec : {M : Type 1} → statement M
 inline-start-spec =

@@ -21,10 +21,24 @@ is-current-byte-requires : tie.Need-is-current-byte-requires
 is-current-byte-requires c κs = search needs
 
 returns-3 : tie.Need-returns-3
-returns-3 c = rw (c .before .before .before .before .before .exp .given .1, c .before .before .before .if1 .left, past-went (c .before .before .skip-blank .ensures), sym (c .before .is-current-byte .ensures .is) ∙ c .if2 .taken)
+returns-3 c =
+    rw (
+      c .before .before .before .before .before .exp .given .1,
+      c .before .before .before .if1 .left,
+      past-went (c .before .before .skip-blank .ensures),
+      sym (c .before .is-current-byte .ensures .is)
+          ∙ c .if2 .taken,
+    )
 
 returns-4 : tie.Need-returns-4
-returns-4 c = rw (c .before .before .before .before .before .exp .given .1, c .before .before .before .if1 .left, past-went (c .before .before .skip-blank .ensures), sym (c .before .is-current-byte .ensures .is) ∙ c .if2 .left)
+returns-4 c =
+    rw (
+      c .before .before .before .before .before .exp .given .1,
+      c .before .before .before .if1 .left,
+      past-went (c .before .before .skip-blank .ensures),
+      sym (c .before .is-current-byte .ensures .is)
+          ∙ c .if2 .left,
+    )
 
 pub name-of-spec : {M : Type 1} → statement M
 name-of-spec =

@@ -19,10 +19,15 @@ sub-if1-2 : tie.Need-sub-if1-2 Inv-loop μ-loop
 sub-if1-2 c = search needs
 
 returns : tie.Need-returns Inv-loop μ-loop
-returns c = sym (parts-differ (c .before .args .source .now) (c .before .args .a) (c .before .args .b) (c .before .args .c) (c .before .args .d) (c .before .pre .0 .1) (c .before .pre .1 .1) (c .if1 .taken))
+returns c =
+    sym
+    (parts-differ (c .before .args .source .now) (c .before .args .a) (c .before .args .b) (c .before .args .c)
+    (c .before .args .d) (c .before .pre .0 .1) (c .before .pre .1 .1) (c .if1 .taken))
 
 loop-holds : tie.Need-loop-holds Inv-loop μ-loop
-loop-holds c = matching-none _ _ _ _ _ (c .before .pre .0 .0) (c .before .pre .0 .1) (c .before .pre .1 .0) (c .before .pre .1 .1) (c .if1 .left)
+loop-holds c =
+    matching-none _ _ _ _ _ (c .before .pre .0 .0) (c .before .pre .0 .1) (c .before .pre .1 .0) (c .before .pre .1 .1)
+    (c .if1 .left)
 
 shared-slice-read-if2 : tie.Need-shared-slice-read-if2 Inv-loop μ-loop
 shared-slice-read-if2 c = search needs
@@ -31,7 +36,10 @@ shared-slice-read-if2-2 : tie.Need-shared-slice-read-if2-2 Inv-loop μ-loop
 shared-slice-read-if2-2 c = search needs
 
 returns-2 : tie.Need-returns-2 Inv-loop μ-loop
-returns-2 c = sym (matching-fails (c .before .before .before .before .loop .inv) (c .before .before .before .loop-test .taken) (c .if2 .taken))
+returns-2 c =
+    sym
+    (matching-fails (c .before .before .before .before .loop .inv) (c .before .before .before .loop-test .taken)
+    (c .if2 .taken))
 
 add-i : tie.Need-add-i Inv-loop μ-loop
 add-i c = search needs

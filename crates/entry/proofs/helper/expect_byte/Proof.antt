@@ -17,10 +17,13 @@ error-requires : tie.Need-error-requires
 error-requires c κs = search needs
 
 returns : tie.Need-returns
-returns c = let l = c .before .is-current-byte .ensures .here (c .if1 .taken) in found-ok (expect-yes _ _ (by (c .before .is-current-byte .ensures .is) (c .if1 .taken))) refl (omega arith)
+returns c = let l = c .before .is-current-byte .ensures .here (c .if1 .taken) in
+    found-ok (expect-yes _ _ (by (c .before .is-current-byte .ensures .is) (c .if1 .taken))) refl (omega arith)
 
 returns-2 : tie.Need-returns-2
-returns-2 c = found-fail _ _ (expect-no _ _ (by (c .before .before .is-current-byte .ensures .is) (c .before .if1 .left))) (c .before .before .before .before .pre .inside) refl (c .error .ensures)
+returns-2 c =
+    found-fail _ _ (expect-no _ _ (by (c .before .before .is-current-byte .ensures .is) (c .before .if1 .left)))
+    (c .before .before .before .before .pre .inside) refl (c .error .ensures)
 
 pub expect-byte-spec : {M : Type 1} → statement M
 expect-byte-spec =

@@ -23,23 +23,35 @@ enum-told c = search needs
 
 returns : tie.Need-returns
 unfolding number _>>_
-returns c = went-next _ (c .before .before .before .take-byte-if .ensures) (found-stop _ _ (c .before .before .skip-digits .ensures) (c .enum-told .given .1))
+returns c =
+    went-next _ (c .before .before .before .take-byte-if .ensures)
+    (found-stop _ _ (c .before .before .skip-digits .ensures) (c .enum-told .given .1))
 
 is-current-byte-requires : tie.Need-is-current-byte-requires
 is-current-byte-requires c κs = search needs
 
 add-skip-digits : tie.Need-add-skip-digits
-add-skip-digits c = let l = found-within (c .before .before .before .before .before .skip-digits .ensures) (c .before .before .before .whole .given .1) in omega arith
+add-skip-digits c = let l =
+    found-within (c .before .before .before .before .before .skip-digits .ensures)
+    (c .before .before .before .whole .given .1) in
+    omega arith
 
 skip-digits-requires-2 : tie.Need-skip-digits-requires-2
-skip-digits-requires-2 c κs = let l = c .before .is-current-byte .ensures .here (c .if1 .taken) in record { inside = omega arith; short = c .before .before .before .before .before .before .before .before .pre .short }
+skip-digits-requires-2 c κs = let l = c .before .is-current-byte .ensures .here (c .if1 .taken) in
+    record {
+      inside = omega arith;
+      short = c .before .before .before .before .before .before .before .before .pre .short;
+    }
 
 returns-2 : tie.Need-returns-2
 unfolding number _>>_ _>>=_ fraction
 returns-2 c =
-    let f = found-at (c .before .before .before .before .before .before .skip-digits .ensures) (c .before .before .before .before .whole .given .1) in
+    let f =
+    found-at (c .before .before .before .before .before .before .skip-digits .ensures)
+    (c .before .before .before .before .whole .given .1) in
     let d = by (c .before .before .is-current-byte .ensures .is) (c .before .if1 .taken) in
-    went-next _ (c .before .before .before .before .before .before .before .take-byte-if .ensures) (found-next _ (f .is) (f .place) (found-next _ (take-yes _ _ d) refl (rw d (c .skip-digits2 .ensures))))
+    went-next _ (c .before .before .before .before .before .before .before .take-byte-if .ensures)
+    (found-next _ (f .is) (f .place) (found-next _ (take-yes _ _ d) refl (rw d (c .skip-digits2 .ensures))))
 
 returns-3 : tie.Need-returns-3
 unfolding number _>>_ _>>=_ fraction pure
@@ -47,7 +59,10 @@ returns-3 c =
     let f = found-at (c .before .before .before .before .before .skip-digits .ensures) (c .before .before .before .whole .given .1) in
     let l = found-within (c .before .before .before .before .before .skip-digits .ensures) (c .before .before .before .whole .given .1) in
     let d = by (c .before .is-current-byte .ensures .is) (c .if1 .left) in
-    went-next _ (c .before .before .before .before .before .before .take-byte-if .ensures) (found-next _ (f .is) (f .place) (found-next {i = c .before .before .before .whole .given .0 .0} _ (take-no _ _ d) (omega arith) (rw d (found-ok refl (omega arith) l))))
+    went-next _ (c .before .before .before .before .before .before .take-byte-if .ensures)
+    (found-next _ (f .is) (f .place)
+    (found-next {i = c .before .before .before .whole .given .0 .0} _ (take-no _ _ d) (omega arith)
+    (rw d (found-ok refl (omega arith) l))))
 
 pub get-number-literal-spec : {M : Type 1} → statement M
 get-number-literal-spec =

@@ -25,7 +25,10 @@ is-callee-part-requires : tie.Need-is-callee-part-requires Inv-loop μ-loop
 is-callee-part-requires c κs = search needs
 
 returns : tie.Need-returns Inv-loop μ-loop
-returns c = sym (passing-fails (c .before .before .before .before .loop .inv) (c .before .before .before .loop-test .taken) (c .before .is-callee-part .ensures) (not-true _ (c .if1 .taken)))
+returns c =
+    sym
+    (passing-fails (c .before .before .before .before .loop .inv) (c .before .before .before .loop-test .taken)
+    (c .before .is-callee-part .ensures) (not-true _ (c .if1 .taken)))
 
 add-i : tie.Need-add-i Inv-loop μ-loop
 add-i c = search needs
@@ -34,7 +37,9 @@ loop-less : tie.Need-loop-less Inv-loop μ-loop
 loop-less c = search needs
 
 loop-again : tie.Need-loop-again Inv-loop μ-loop
-loop-again c = passing-more (c .before .before .before .before .loop .inv) (c .before .before .before .loop-test .taken) (c .before .is-callee-part .ensures) (not-false _ (c .if1 .left))
+loop-again c =
+    passing-more (c .before .before .before .before .loop .inv) (c .before .before .before .loop-test .taken)
+    (c .before .is-callee-part .ensures) (not-false _ (c .if1 .left))
 
 returns-2 : tie.Need-returns-2 Inv-loop μ-loop
 returns-2 c = sym (passing-end (c .before .loop .inv) (c .loop-test .left))

@@ -29,7 +29,9 @@ loop-less : tie.Need-loop-less Inv-loop μ-loop
 loop-less c = omega arith
 
 loop-again : tie.Need-loop-again Inv-loop μ-loop
-loop-again c = turning-more blankTurn-moves (c .before .before .loop .inv) (blank-again _ (omega arith)) (c .before .skip-one-blank .ensures .end) (c .before .skip-one-blank .ensures .within)
+loop-again c =
+    turning-more blankTurn-moves (c .before .before .loop .inv) (blank-again _ (omega arith))
+    (c .before .skip-one-blank .ensures .end) (c .before .skip-one-blank .ensures .within)
 
 pub skip-blank-spec : {M : Type 1} → statement M
 skip-blank-spec =

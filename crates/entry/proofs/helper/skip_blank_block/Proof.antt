@@ -24,16 +24,43 @@ skip-eol-requires : tie.Need-skip-eol-requires Inv-loop μ-loop
 skip-eol-requires c κs = c .skip-blank-inline .ensures .within
 
 returns : tie.Need-returns Inv-loop μ-loop
-returns c = went-block (c .before .before .before .loop .inv .0) (c .before .before .skip-blank-inline .ensures) (c .before .skip-eol .ensures) (c .if1 .taken)
+returns c =
+    went-block (c .before .before .before .loop .inv .0) (c .before .before .skip-blank-inline .ensures)
+    (c .before .skip-eol .ensures) (c .if1 .taken)
 
 add-count : tie.Need-add-count Inv-loop μ-loop
-add-count c = omega (arith, c .before .before .before .loop .inv .1, c .if1 .left, c .before .before .skip-blank-inline .ensures .end, c .before .skip-eol .ensures .end, c .before .skip-eol .ensures .within)
+add-count c =
+    omega (
+      arith,
+      c .before .before .before .loop .inv .1,
+      c .if1 .left,
+      c .before .before .skip-blank-inline .ensures .end,
+      c .before .skip-eol .ensures .end,
+      c .before .skip-eol .ensures .within,
+    )
 
 loop-less : tie.Need-loop-less Inv-loop μ-loop
-loop-less c = omega (arith, c .if1 .left, c .before .before .skip-blank-inline .ensures .end, c .before .skip-eol .ensures .end, c .before .skip-eol .ensures .within)
+loop-less c =
+    omega (
+      arith,
+      c .if1 .left,
+      c .before .before .skip-blank-inline .ensures .end,
+      c .before .skip-eol .ensures .end,
+      c .before .skip-eol .ensures .within,
+    )
 
 loop-again : tie.Need-loop-again Inv-loop μ-loop
-loop-again c = (turning-block (c .before .before .before .loop .inv .0) (c .before .before .skip-blank-inline .ensures) (c .before .skip-eol .ensures) (c .if1 .left), omega (arith, c .before .before .before .loop .inv .1, c .if1 .left, c .before .before .skip-blank-inline .ensures .end, c .before .skip-eol .ensures .end))
+loop-again c = (
+  turning-block (c .before .before .before .loop .inv .0) (c .before .before .skip-blank-inline .ensures)
+      (c .before .skip-eol .ensures) (c .if1 .left),
+  omega (
+    arith,
+    c .before .before .before .loop .inv .1,
+    c .if1 .left,
+    c .before .before .skip-blank-inline .ensures .end,
+    c .before .skip-eol .ensures .end,
+  ),
+)
 
 pub skip-blank-block-spec : {M : Type 1} → statement M
 skip-blank-block-spec =

@@ -36,10 +36,16 @@ error-requires : tie.Need-error-requires Inv-loop μ-loop
 error-requires c κs = search needs
 
 returns : tie.Need-returns Inv-loop μ-loop
-returns c = let e = going-end (c .before .before .before .before .loop .inv) (c .before .before .before .is-digit-at .ensures) (c .before .before .if1 .left) in found-fail _ _ (digits-none _ (omega arith)) (c .before .before .before .before .before .before .pre .inside) refl (c .error .ensures)
+returns c = let e =
+    going-end (c .before .before .before .before .loop .inv) (c .before .before .before .is-digit-at .ensures)
+    (c .before .before .if1 .left) in
+    found-fail _ _ (digits-none _ (omega arith)) (c .before .before .before .before .before .before .pre .inside) refl
+    (c .error .ensures)
 
 returns-2 : tie.Need-returns-2 Inv-loop μ-loop
-returns-2 c = let e = going-end (c .before .before .before .loop .inv) (c .before .before .is-digit-at .ensures) (c .before .if1 .left) in found-ok (digits-some _ (λ z. omega arith)) (e .end) (e .within)
+returns-2 c = let e =
+    going-end (c .before .before .before .loop .inv) (c .before .before .is-digit-at .ensures) (c .before .if1 .left) in
+    found-ok (digits-some _ (λ z. omega arith)) (e .end) (e .within)
 
 pub skip-digits-spec : {M : Type 1} → statement M
 skip-digits-spec =

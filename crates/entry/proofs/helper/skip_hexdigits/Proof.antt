@@ -28,7 +28,10 @@ add-result : tie.Need-add-result Inv-loop μ-loop
 add-result c = omega arith
 
 returns : tie.Need-returns Inv-loop μ-loop
-returns c = let e = going-end (c .before .before .before .loop .inv .0) (c .before .is-hexdigit-at .ensures) (not-true _ (c .if1 .taken)) in record { end = omega arith; within = e .within }
+returns c = let e =
+    going-end (c .before .before .before .loop .inv .0) (c .before .is-hexdigit-at .ensures)
+    (not-true _ (c .if1 .taken)) in
+    record { end = omega arith; within = e .within }
 
 add-n : tie.Need-add-n Inv-loop μ-loop
 add-n c = omega arith
@@ -37,7 +40,12 @@ loop-less : tie.Need-loop-less Inv-loop μ-loop
 loop-less c = omega arith
 
 loop-again : tie.Need-loop-again Inv-loop μ-loop
-loop-again c = (rw (← add-assoc) (going-more (c .before .before .before .loop .inv .0) (c .before .is-hexdigit-at .ensures) (not-false _ (c .if1 .left))), omega arith)
+loop-again c = (
+  rw (← add-assoc)
+      (going-more (c .before .before .before .loop .inv .0) (c .before .is-hexdigit-at .ensures)
+      (not-false _ (c .if1 .left))),
+  omega arith,
+)
 
 add-result-2 : tie.Need-add-result-2 Inv-loop μ-loop
 add-result-2 c = omega arith

@@ -18,10 +18,13 @@ skip-eol-requires : tie.Need-skip-eol-requires
 skip-eol-requires c κs = search needs
 
 returns : tie.Need-returns
-returns c = let l = c .before .is-current-byte .ensures .here (c .if1 .taken) in passed 1 (blank-space _ (by (c .before .is-current-byte .ensures .is) (c .if1 .taken))) refl (omega arith)
+returns c = let l = c .before .is-current-byte .ensures .here (c .if1 .taken) in
+    passed 1 (blank-space _ (by (c .before .is-current-byte .ensures .is) (c .if1 .taken))) refl (omega arith)
 
 returns-2 : tie.Need-returns-2
-returns-2 c = passed _ (blank-eol _ (by (c .before .before .is-current-byte .ensures .is) (c .before .if1 .left))) (c .skip-eol .ensures .end) (c .skip-eol .ensures .within)
+returns-2 c =
+    passed _ (blank-eol _ (by (c .before .before .is-current-byte .ensures .is) (c .before .if1 .left)))
+    (c .skip-eol .ensures .end) (c .skip-eol .ensures .within)
 
 pub skip-one-blank-spec : {M : Type 1} → statement M
 skip-one-blank-spec =

@@ -14,7 +14,8 @@ add-result : tie.Need-add-result
 add-result c = search needs
 
 returns : tie.Need-returns
-returns c = let l = c .before .is-current-byte .ensures .here (c .if1 .taken) in went-ok (take-yes _ _ (by (c .before .is-current-byte .ensures .is) (c .if1 .taken))) refl (omega arith)
+returns c = let l = c .before .is-current-byte .ensures .here (c .if1 .taken) in
+    went-ok (take-yes _ _ (by (c .before .is-current-byte .ensures .is) (c .if1 .taken))) refl (omega arith)
 
 returns-2 : tie.Need-returns-2
 returns-2 c = went-ok (take-no _ _ (by (c .before .is-current-byte .ensures .is) (c .if1 .left))) (omega arith) (omega arith)

@@ -24,7 +24,9 @@ same-length : tie.Need-same-length
 same-length c = search needs
 
 returns : tie.Need-returns
-returns c = rw (c .before .before .before .before .before .r .given .1) (record { holds = (ap₂ Ok refl (c .before .before .put .ensures .0), c .before .before .put .ensures .1) })
+returns c =
+    rw (c .before .before .before .before .before .r .given .1)
+    (record { holds = (ap₂ Ok refl (c .before .before .put .ensures .0), c .before .before .put .ensures .1) })
 
 returns-2 : tie.Need-returns-2
 returns-2 c = rw (c .before .r2 .given .1) (record { holds = (refl, refl) })

@@ -28,37 +28,62 @@ add-b-2 : tie.Need-add-b-2 Inv-loop μ-loop
 add-b-2 c = omega (arith, c .before .loop .inv, c .before .before .before .pre, c .before .before .before .good)
 
 mul-k : tie.Need-mul-k Inv-loop μ-loop
-mul-k c = scaled-fits _ (length (c .before .before .before .args .tree .now)) 4 (omega (arith, c .before .loop .inv, c .before .before .before .pre)) (c .before .before .before .good .0 .1)
+mul-k c =
+    scaled-fits _ (length (c .before .before .before .args .tree .now)) 4
+    (omega (arith, c .before .loop .inv, c .before .before .before .pre)) (c .before .before .before .good .0 .1)
 
 slice-read-k : tie.Need-slice-read-k Inv-loop μ-loop
 slice-read-k c = omega (arith, c .before .before .loop .inv, c .before .before .before .before .pre)
 
 mul-p : tie.Need-mul-p Inv-loop μ-loop
-mul-p c = scaled-fits _ (length (c .before .before .before .before .args .tree .now)) 4 (omega (arith, c .before .before .loop .inv, c .before .before .before .before .pre)) (c .before .before .before .before .good .0 .1)
+mul-p c =
+    scaled-fits _ (length (c .before .before .before .before .args .tree .now)) 4
+    (omega (arith, c .before .before .loop .inv, c .before .before .before .before .pre))
+    (c .before .before .before .before .good .0 .1)
 
 slice-read-p : tie.Need-slice-read-p Inv-loop μ-loop
 slice-read-p c = omega (arith, c .before .before .before .loop .inv, c .before .before .before .before .before .pre)
 
 mul-tree : tie.Need-mul-tree Inv-loop μ-loop
-mul-tree c = scaled-fits _ (length (c .before .before .before .before .before .args .tree .now)) 4 (omega (arith, c .before .before .before .loop .inv, c .before .before .before .before .before .pre)) (c .before .before .before .before .before .good .0 .1)
+mul-tree c =
+    scaled-fits _ (length (c .before .before .before .before .before .args .tree .now)) 4
+    (omega (arith, c .before .before .before .loop .inv, c .before .before .before .before .before .pre))
+    (c .before .before .before .before .before .good .0 .1)
 
 slice-write-tree : tie.Need-slice-write-tree Inv-loop μ-loop
 slice-write-tree c = omega (arith, c .before .before .before .loop .inv, c .before .before .before .before .before .pre)
 
 mul-tree-2 : tie.Need-mul-tree-2 Inv-loop μ-loop
-mul-tree-2 c = scaled-fits _ (length (c .before .before .before .before .before .args .tree .now)) 4 (omega (arith, c .before .before .before .loop .inv, c .before .before .before .before .before .pre)) (c .before .before .before .before .before .good .0 .1)
+mul-tree-2 c =
+    scaled-fits _ (length (c .before .before .before .before .before .args .tree .now)) 4
+    (omega (arith, c .before .before .before .loop .inv, c .before .before .before .before .before .pre))
+    (c .before .before .before .before .before .good .0 .1)
 
 slice-write-tree-2 : tie.Need-slice-write-tree-2 Inv-loop μ-loop
 slice-write-tree-2 c = simp length-set (omega (arith, c .before .before .before .loop .inv, c .before .before .before .before .before .pre))
 
 add-i : tie.Need-add-i Inv-loop μ-loop
-add-i c = omega (arith, c .before .before .before .loop .inv, c .before .before .before .before .before .pre, c .before .before .before .before .before .good)
+add-i c =
+    omega (
+      arith,
+      c .before .before .before .loop .inv,
+      c .before .before .before .before .before .pre,
+      c .before .before .before .before .before .good,
+    )
 
 loop-less : tie.Need-loop-less Inv-loop μ-loop
 loop-less c = omega (arith, c .before .before .before .loop .inv, c .before .before .before .before .before .pre)
 
 loop-again : tie.Need-loop-again Inv-loop μ-loop
-loop-again c = inserting-more _ _ _ _ _ _ _ _ _ (omega (arith, c .before .before .before .before .before .pre)) (omega (arith, c .before .before .before .before .before .pre)) (omega (arith, c .slice-known3 .given (c .before .before .before .before .before .args .cap + c .before .before .before .loop .i + 2))) (c .before .before .before .loop .inv) (c .before .before .loop-test .taken)
+loop-again c =
+    inserting-more _ _ _ _ _ _ _ _ _ (omega (arith, c .before .before .before .before .before .pre))
+    (omega (arith, c .before .before .before .before .before .pre))
+    (omega (
+      arith,
+      c .slice-known3 .given
+          (c .before .before .before .before .before .args .cap + c .before .before .before .loop .i + 2),
+    ))
+    (c .before .before .before .loop .inv) (c .before .before .loop-test .taken)
 
 cast-put : tie.Need-cast-put Inv-loop μ-loop
 cast-put c = omega (arith, c .before .before .loop .inv)
@@ -70,7 +95,11 @@ same-length : tie.Need-same-length Inv-loop μ-loop
 same-length c = c .before .before .put .ensures .1 .long ∙ c .before .before .before .before .before .loop .inv .long
 
 returns : tie.Need-returns Inv-loop μ-loop
-returns c = (c .before .before .put .ensures .0, inserting-end _ _ _ _ _ _ _ _ _ _ (c .before .before .before .before .before .loop .inv) (omega (arith, c .before .before .before .before .loop-test)) (c .before .before .put .ensures .1))
+returns c = (
+  c .before .before .put .ensures .0,
+  inserting-end _ _ _ _ _ _ _ _ _ _ (c .before .before .before .before .before .loop .inv)
+      (omega (arith, c .before .before .before .before .loop-test)) (c .before .before .put .ensures .1),
+)
 
 pub insert-spec : {M : Type 1} → statement M
 insert-spec =

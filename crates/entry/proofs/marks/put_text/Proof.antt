@@ -18,7 +18,12 @@ same-length : tie.Need-same-length
 same-length c = search needs
 
 returns : tie.Need-returns
-returns c = (omega (arith, c .before .before .put2 .ensures .0, c .before .before .before .before .before .before .put .ensures .0), step-then (c .before .before .before .before .before .before .put .ensures .1) (c .before .before .before .before .before .before .put .ensures .0) (c .before .before .put2 .ensures .1))
+returns c = (
+  omega
+      (arith, c .before .before .put2 .ensures .0, c .before .before .before .before .before .before .put .ensures .0),
+  step-then (c .before .before .before .before .before .before .put .ensures .1)
+      (c .before .before .before .before .before .before .put .ensures .0) (c .before .before .put2 .ensures .1),
+)
 
 pub put-text-spec : {M : Type 1} → statement M
 put-text-spec = tie.close (tie.spec put-requires add-put put-requires-2 same-length returns)

@@ -24,25 +24,44 @@ enum-known-slice : tie.Need-enum-known-slice
 enum-known-slice c = search needs
 
 with-text-requires : tie.Need-with-text-requires
-with-text-requires c κs = (c .before .before .before .before .before .before .before .before .before .pre .fits, text-fits (c .before .before .before .before .before .before .before .before .before .pre) (c .before .before .slice .given .0 .0) (c .before .before .before .before .get-text-slice .ensures) (c .before .before .slice .given .1))
+with-text-requires c κs = (
+  c .before .before .before .before .before .before .before .before .before .pre .fits,
+  text-fits (c .before .before .before .before .before .before .before .before .before .pre)
+      (c .before .before .slice .given .0 .0) (c .before .before .before .before .get-text-slice .ensures)
+      (c .before .before .slice .given .1),
+)
 
 enum-known-k : tie.Need-enum-known-k
 enum-known-k c = search needs
 
 add-end : tie.Need-add-end
-add-end c = omega (arith, brace-fits (c .before .before .before .before .before .before .before .before .pre) (c .before .k .given .0 .0) (c .before .before .before .get-text-slice .ensures) (c .before .k .given .1))
+add-end c =
+    omega (
+      arith,
+      brace-fits (c .before .before .before .before .before .before .before .before .pre) (c .before .k .given .0 .0)
+          (c .before .before .before .get-text-slice .ensures) (c .before .k .given .1),
+    )
 
 error-requires : tie.Need-error-requires
-error-requires c κs = brace-fits (c .before .before .before .before .before .before .before .before .pre) (c .before .k .given .0 .0) (c .before .before .before .get-text-slice .ensures) (c .before .k .given .1)
+error-requires c κs =
+    brace-fits (c .before .before .before .before .before .before .before .before .pre) (c .before .k .given .0 .0)
+    (c .before .before .before .get-text-slice .ensures) (c .before .k .given .1)
 
 same-length : tie.Need-same-length
 same-length c = search needs
 
 returns : tie.Need-returns
-returns c = text-next (c .before .before .before .before .before .before .before .before .before .before .before .before .pre) (c .before .before .before .before .before .slice .given .0 .0) (c .before .before .before .before .before .before .before .get-text-slice .ensures) (c .before .before .before .before .before .slice .given .1) (c .before .before .with-text .ensures)
+returns c =
+    text-next (c .before .before .before .before .before .before .before .before .before .before .before .before .pre)
+    (c .before .before .before .before .before .slice .given .0 .0)
+    (c .before .before .before .before .before .before .before .get-text-slice .ensures)
+    (c .before .before .before .before .before .slice .given .1) (c .before .before .with-text .ensures)
 
 returns-2 : tie.Need-returns-2
-returns-2 c = text-bad (c .before .before .before .before .before .before .before .before .before .pre) (c .before .before .k .given .0 .0) (c .before .before .before .before .get-text-slice .ensures) (c .before .before .k .given .1) (c .error .ensures)
+returns-2 c =
+    text-bad (c .before .before .before .before .before .before .before .before .before .pre)
+    (c .before .before .k .given .0 .0) (c .before .before .before .before .get-text-slice .ensures)
+    (c .before .before .k .given .1) (c .error .ensures)
 
 pub get-text-spec : {M : Type 1} → statement M
 get-text-spec =

@@ -34,7 +34,9 @@ loop-less : tie.Need-loop-less Inv-loop μ-loop
 loop-less c = falls _ _ (c .before .before .before .loop-test .taken)
 
 loop-again : tie.Need-loop-again Inv-loop μ-loop
-loop-again c = indent-more _ _ _ _ (c .before .before .before .before .loop .inv) (c .before .before .before .loop-test .taken) (c .before .before .if1 .left) (c .if2 .left)
+loop-again c =
+    indent-more _ _ _ _ (c .before .before .before .before .loop .inv) (c .before .before .before .loop-test .taken)
+    (c .before .before .if1 .left) (c .if2 .left)
 
 returns-3 : tie.Need-returns-3 Inv-loop μ-loop
 returns-3 c = indent-full _ _ _ _ (c .before .loop .inv) (c .loop-test .left)

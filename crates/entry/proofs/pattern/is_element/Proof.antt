@@ -16,7 +16,13 @@ is-line-feed-requires c κs = search needs
 
 returns-2 : tie.Need-returns-2
 unfolding isPart
-returns-2 c = c .is-line-feed .ensures ∙ sym (simp (lt-ltb 0 (c .before .before .before .before .before .args .slice .size) (omega arith), c .before .before .if2 .taken, c .before .if3 .taken))
+returns-2 c = c .is-line-feed .ensures
+    ∙ sym
+    (simp (
+      lt-ltb 0 (c .before .before .before .before .before .args .slice .size) (omega arith),
+      c .before .before .if2 .taken,
+      c .before .if3 .taken,
+    ))
 
 returns-3 : tie.Need-returns-3
 unfolding isPart

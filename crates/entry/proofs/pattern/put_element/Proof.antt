@@ -18,7 +18,15 @@ same-length : tie.Need-same-length
 same-length c = search needs
 
 returns : tie.Need-returns
-returns c = (omega (arith, c .before .before .put2 .ensures .0, c .before .before .before .before .before .before .put .ensures .0), step-then (rw (c .before .before .before .before .before .before .before .opening-kind .ensures) at (c .before .before .before .before .before .before .put .ensures .1)) (c .before .before .before .before .before .before .put .ensures .0) (c .before .before .put2 .ensures .1))
+returns c = (
+  omega
+      (arith, c .before .before .put2 .ensures .0, c .before .before .before .before .before .before .put .ensures .0),
+  step-then
+      (rw
+      (c .before .before .before .before .before .before .before .opening-kind .ensures) at (c .before .before .before
+      .before .before .before .put .ensures .1))
+      (c .before .before .before .before .before .before .put .ensures .0) (c .before .before .put2 .ensures .1),
+)
 
 pub put-element-spec : {M : Type 1} → statement M
 put-element-spec =

@@ -13,13 +13,40 @@ skip-eol-requires : tie.Need-skip-eol-requires
 skip-eol-requires c κs = search needs
 
 returns : tie.Need-returns
-returns c = record { state = start-here (c .before .before .before .before .args .source .now) (c .before .before .before .before .args .at) (c .before .before .skip-blank-inline .ensures) (c .before .skip-eol .ensures) (c .if1 .taken); onward = omega (arith, c .before .before .skip-blank-inline .ensures .end); within = c .before .before .skip-blank-inline .ensures .within; count = refl; last = refl; common = refl }
+returns c =
+    record {
+      state =
+          start-here (c .before .before .before .before .args .source .now) (c .before .before .before .before .args .at)
+          (c .before .before .skip-blank-inline .ensures) (c .before .skip-eol .ensures) (c .if1 .taken);
+      onward = omega (arith, c .before .before .skip-blank-inline .ensures .end);
+      within = c .before .before .skip-blank-inline .ensures .within;
+      count = refl;
+      last = refl;
+      common = refl;
+    }
 
 skip-blank-block-requires : tie.Need-skip-blank-block-requires
 skip-blank-block-requires c κs = search needs
 
 returns-2 : tie.Need-returns-2
-returns-2 c = record { state = start-below (c .before .before .before .before .before .args .source .now) (c .before .before .before .before .before .args .at) (c .before .before .before .skip-blank-inline .ensures) (c .before .before .skip-eol .ensures) (c .before .if1 .left) (c .skip-blank-block .ensures); onward = omega (arith, c .before .before .before .skip-blank-inline .ensures .end, c .before .before .skip-eol .ensures .end, c .skip-blank-block .ensures .onward); within = c .skip-blank-block .ensures .within; count = refl; last = refl; common = refl }
+returns-2 c =
+    record {
+      state =
+          start-below (c .before .before .before .before .before .args .source .now)
+          (c .before .before .before .before .before .args .at) (c .before .before .before .skip-blank-inline .ensures)
+          (c .before .before .skip-eol .ensures) (c .before .if1 .left) (c .skip-blank-block .ensures);
+      onward =
+          omega (
+            arith,
+            c .before .before .before .skip-blank-inline .ensures .end,
+            c .before .before .skip-eol .ensures .end,
+            c .skip-blank-block .ensures .onward,
+          );
+      within = c .skip-blank-block .ensures .within;
+      count = refl;
+      last = refl;
+      common = refl;
+    }
 
 pub start-spec : {M : Type 1} → statement M
 start-spec =

@@ -31,7 +31,12 @@ slice-read-start : tie.Need-slice-read-start
 slice-read-start c = search needs
 
 cast-start : tie.Need-cast-start
-cast-start c = omega (arith, c .slice-known3 .given (c .before .before .before .before .before .args .cap + c .before .before .before .before .before .args .n + 2))
+cast-start c =
+    omega (
+      arith,
+      c .slice-known3 .given
+          (c .before .before .before .before .before .args .cap + c .before .before .before .before .before .args .n + 2),
+    )
 
 add-p-3 : tie.Need-add-p-3
 add-p-3 c = search needs
@@ -46,13 +51,33 @@ slice-read-end : tie.Need-slice-read-end
 slice-read-end c = search needs
 
 cast-end : tie.Need-cast-end
-cast-end c = omega (arith, c .slice-known4 .given (c .before .before .before .before .before .before .args .cap + (c .before .before .before .before .before .before .args .n + 1) + 2))
+cast-end c =
+    omega (
+      arith,
+      c .slice-known4 .given
+          (c .before .before .before .before .before .before .args
+          .cap + (c .before .before .before .before .before .before .args .n + 1) + 2),
+    )
 
 trim-end-requires : tie.Need-trim-end-requires
-trim-end-requires c κs = within (c .before .before .before .before .before .before .args .source .now) (c .before .before .before .before .before .before .args .cap) (c .before .before .before .before .before .before .args .n) (c .before .before .before .before .before .before .args .tree .now) (c .before .before .before .before .before .before .pre .1 .1) (c .before .before .if1 .taken)
+trim-end-requires c κs =
+    within (c .before .before .before .before .before .before .args .source .now)
+    (c .before .before .before .before .before .before .args .cap)
+    (c .before .before .before .before .before .before .args .n)
+    (c .before .before .before .before .before .before .args .tree .now)
+    (c .before .before .before .before .before .before .pre .1 .1) (c .before .before .if1 .taken)
 
 cast-tree : tie.Need-cast-tree
-cast-tree c = record { fits = trimmed-fits (c .before .before .before .before .before .before .before .args .source .now) (c .before .before .before .before .before .before .before .args .cap) (c .before .before .before .before .before .before .before .args .n) (c .before .before .before .before .before .before .before .args .tree .now) (c .before .before .before .before .before .before .before .pre .1 .1) (c .before .before .before .if1 .taken) (c .trim-end .ensures) (c .before .before .before .before .before .before .before .pre .1 .0) }
+cast-tree c =
+    record {
+      fits =
+          trimmed-fits (c .before .before .before .before .before .before .before .args .source .now)
+          (c .before .before .before .before .before .before .before .args .cap)
+          (c .before .before .before .before .before .before .before .args .n)
+          (c .before .before .before .before .before .before .before .args .tree .now)
+          (c .before .before .before .before .before .before .before .pre .1 .1) (c .before .before .before .if1 .taken)
+          (c .trim-end .ensures) (c .before .before .before .before .before .before .before .pre .1 .0);
+    }
 
 mul-tree : tie.Need-mul-tree
 mul-tree c = search needs
@@ -64,7 +89,10 @@ same-length : tie.Need-same-length
 same-length c = search needs
 
 returns : tie.Need-returns
-returns c = trim-yes _ _ _ _ _ (c .before .before .before .before .before .before .before .pre .0 .fits) (c .before .before .before .before .before .before .before .pre .0 .layout) (c .before .before .before .if1 .taken) (c .trim-end .ensures)
+returns c =
+    trim-yes _ _ _ _ _ (c .before .before .before .before .before .before .before .pre .0 .fits)
+    (c .before .before .before .before .before .before .before .pre .0 .layout) (c .before .before .before .if1 .taken)
+    (c .trim-end .ensures)
 
 returns-2 : tie.Need-returns-2
 returns-2 c = trim-no _ _ _ _ (c .if1 .left)

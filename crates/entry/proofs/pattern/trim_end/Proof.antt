@@ -28,10 +28,16 @@ loop-less : tie.Need-loop-less Inv-loop μ-loop
 loop-less c = omega arith
 
 loop-again : tie.Need-loop-again Inv-loop μ-loop
-loop-again c = trim-more _ _ _ _ (c .before .before .before .before .before .before .pre .1) (c .before .before .before .before .loop .inv) (c .before .before .before .loop-test .taken) (sym (c .before .is-trimmed .ensures) ∙ c .if1 .taken)
+loop-again c =
+    trim-more _ _ _ _ (c .before .before .before .before .before .before .pre .1)
+    (c .before .before .before .before .loop .inv) (c .before .before .before .loop-test .taken)
+    (sym (c .before .is-trimmed .ensures) ∙ c .if1 .taken)
 
 returns : tie.Need-returns Inv-loop μ-loop
-returns c = trim-stop _ _ _ _ (c .before .before .before .before .before .before .pre .1) (c .before .before .before .before .loop .inv) (c .before .before .before .loop-test .taken) (sym (c .before .is-trimmed .ensures) ∙ c .if1 .left)
+returns c =
+    trim-stop _ _ _ _ (c .before .before .before .before .before .before .pre .1)
+    (c .before .before .before .before .loop .inv) (c .before .before .before .loop-test .taken)
+    (sym (c .before .is-trimmed .ensures) ∙ c .if1 .left)
 
 returns-2 : tie.Need-returns-2 Inv-loop μ-loop
 returns-2 c = trim-all _ _ _ _ (c .before .loop .inv) (c .loop-test .left)

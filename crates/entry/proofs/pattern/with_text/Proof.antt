@@ -28,7 +28,13 @@ is-element-requires : tie.Need-is-element-requires
 is-element-requires c κs = search needs
 
 returns : tie.Need-returns
-returns c = text-out (c .before .before .before .before .before .before .before .before .args .st) (c .before .before .before .before .before .before .before .before .args .indent) (c .before .before .before .before .before .before .before .before .args .slice) (c .before .before .before .before .before .before .is-line-start .ensures) (c .before .is-element .ensures) (c .before .before .before .crlf-width .ensures) (c .before .before .role-after .ensures) (not-true _ (c .if1 .taken))
+returns c =
+    text-out (c .before .before .before .before .before .before .before .before .args .st)
+    (c .before .before .before .before .before .before .before .before .args .indent)
+    (c .before .before .before .before .before .before .before .before .args .slice)
+    (c .before .before .before .before .before .before .is-line-start .ensures) (c .before .is-element .ensures)
+    (c .before .before .before .crlf-width .ensures) (c .before .before .role-after .ensures)
+    (not-true _ (c .if1 .taken))
 
 put-element-requires : tie.Need-put-element-requires
 put-element-requires c κs = search needs
@@ -37,7 +43,20 @@ same-length : tie.Need-same-length
 same-length c = search needs
 
 returns-2 : tie.Need-returns-2
-returns-2 c = text-blank (c .before .before .before .before .before .before .before .before .before .before .before .before .before .args .st) (c .before .before .before .before .before .before .before .before .before .before .before .before .before .args .indent) (c .before .before .before .before .before .before .before .before .before .before .before .before .before .args .slice) (c .before .before .before .before .before .before .before .before .before .before .before .is-line-start .ensures) (c .before .before .before .before .before .before .is-element .ensures) (c .before .before .before .before .before .before .before .before .crlf-width .ensures) (c .before .before .before .before .before .before .before .role-after .ensures) (not-false _ (c .before .before .before .before .before .if1 .left)) (c .if2 .taken) (c .before .before .before .put-element .ensures .0) (c .before .before .before .put-element .ensures .1)
+returns-2 c =
+    text-blank
+    (c .before .before .before .before .before .before .before .before .before .before .before .before .before .args
+    .st)
+    (c .before .before .before .before .before .before .before .before .before .before .before .before .before .args
+    .indent)
+    (c .before .before .before .before .before .before .before .before .before .before .before .before .before .args
+    .slice)
+    (c .before .before .before .before .before .before .before .before .before .before .before .is-line-start .ensures)
+    (c .before .before .before .before .before .before .is-element .ensures)
+    (c .before .before .before .before .before .before .before .before .crlf-width .ensures)
+    (c .before .before .before .before .before .before .before .role-after .ensures)
+    (not-false _ (c .before .before .before .before .before .if1 .left)) (c .if2 .taken)
+    (c .before .before .before .put-element .ensures .0) (c .before .before .before .put-element .ensures .1)
 
 least-indent-requires : tie.Need-least-indent-requires
 least-indent-requires c κs = search needs
@@ -46,7 +65,22 @@ same-length-2 : tie.Need-same-length-2
 same-length-2 c = search needs
 
 returns-3 : tie.Need-returns-3
-returns-3 c = text-full (c .before .before .before .before .before .before .before .before .before .before .before .before .before .before .args .st) (c .before .before .before .before .before .before .before .before .before .before .before .before .before .before .args .indent) (c .before .before .before .before .before .before .before .before .before .before .before .before .before .before .args .slice) (c .before .before .before .before .before .before .before .before .before .before .before .before .is-line-start .ensures) (c .before .before .before .before .before .before .before .is-element .ensures) (c .before .before .before .before .before .before .before .before .before .crlf-width .ensures) (c .before .before .before .before .before .before .before .before .role-after .ensures) (not-false _ (c .before .before .before .before .before .before .if1 .left)) (c .before .if2 .left) (c .before .before .before .before .put-element .ensures .0) (c .least-indent .ensures) (c .before .before .before .before .put-element .ensures .1)
+returns-3 c =
+    text-full
+    (c .before .before .before .before .before .before .before .before .before .before .before .before .before .before
+    .args .st)
+    (c .before .before .before .before .before .before .before .before .before .before .before .before .before .before
+    .args .indent)
+    (c .before .before .before .before .before .before .before .before .before .before .before .before .before .before
+    .args .slice)
+    (c .before .before .before .before .before .before .before .before .before .before .before .before .is-line-start
+    .ensures)
+    (c .before .before .before .before .before .before .before .is-element .ensures)
+    (c .before .before .before .before .before .before .before .before .before .crlf-width .ensures)
+    (c .before .before .before .before .before .before .before .before .role-after .ensures)
+    (not-false _ (c .before .before .before .before .before .before .if1 .left)) (c .before .if2 .left)
+    (c .before .before .before .before .put-element .ensures .0) (c .least-indent .ensures)
+    (c .before .before .before .before .put-element .ensures .1)
 
 pub with-text-spec : {M : Type 1} → statement M
 with-text-spec =

@@ -25,7 +25,10 @@ add-t12 : tie.Need-add-t12
 add-t12 c = search needs
 
 returns-2 : tie.Need-returns-2
-returns-2 c = escape-self (c .before .before .before .before .before .args .source .now) (c .before .before .before .before .before .args .at) (omega arith) (by (c .before .is-escaped .ensures) (c .if2 .taken))
+returns-2 c =
+    escape-self (c .before .before .before .before .before .args .source .now)
+    (c .before .before .before .before .before .args .at) (omega arith)
+    (by (c .before .is-escaped .ensures) (c .if2 .taken))
 
 add-skip-unicode-escape-sequence : tie.Need-add-skip-unicode-escape-sequence
 add-skip-unicode-escape-sequence c = search needs
@@ -34,7 +37,11 @@ skip-unicode-escape-sequence-requires : tie.Need-skip-unicode-escape-sequence-re
 skip-unicode-escape-sequence-requires c κs = search needs
 
 returns-3 : tie.Need-returns-3
-returns-3 c = escape-lower (c .before .before .before .before .before .before .before .args .source .now) (c .before .before .before .before .before .before .before .args .at) (omega arith) (by (c .before .before .before .is-escaped .ensures) (c .before .before .if2 .left)) (c .before .if3 .taken) (c .skip-unicode-escape-sequence .ensures)
+returns-3 c =
+    escape-lower (c .before .before .before .before .before .before .before .args .source .now)
+    (c .before .before .before .before .before .before .before .args .at) (omega arith)
+    (by (c .before .before .before .is-escaped .ensures) (c .before .before .if2 .left)) (c .before .if3 .taken)
+    (c .skip-unicode-escape-sequence .ensures)
 
 add-skip-unicode-escape-sequence-2 : tie.Need-add-skip-unicode-escape-sequence-2
 add-skip-unicode-escape-sequence-2 c = search needs
@@ -43,13 +50,21 @@ skip-unicode-escape-sequence-requires-2 : tie.Need-skip-unicode-escape-sequence-
 skip-unicode-escape-sequence-requires-2 c κs = search needs
 
 returns-4 : tie.Need-returns-4
-returns-4 c = escape-upper (c .before .before .before .before .before .before .before .before .args .source .now) (c .before .before .before .before .before .before .before .before .args .at) (omega arith) (by (c .before .before .before .before .is-escaped .ensures) (c .before .before .before .if2 .left)) (c .before .before .if3 .left) (c .before .if4 .taken) (c .skip-unicode-escape-sequence2 .ensures)
+returns-4 c =
+    escape-upper (c .before .before .before .before .before .before .before .before .args .source .now)
+    (c .before .before .before .before .before .before .before .before .args .at) (omega arith)
+    (by (c .before .before .before .before .is-escaped .ensures) (c .before .before .before .if2 .left))
+    (c .before .before .if3 .left) (c .before .if4 .taken) (c .skip-unicode-escape-sequence2 .ensures)
 
 error-requires-2 : tie.Need-error-requires-2
 error-requires-2 c κs = search needs
 
 returns-5 : tie.Need-returns-5
-returns-5 c = escape-unknown (c .before .before .before .before .before .before .before .before .args .source .now) (c .before .before .before .before .before .before .before .before .args .at) (omega arith) (by (c .before .before .before .before .is-escaped .ensures) (c .before .before .before .if2 .left)) (c .before .before .if3 .left) (c .before .if4 .left) (c .error2 .ensures)
+returns-5 c =
+    escape-unknown (c .before .before .before .before .before .before .before .before .args .source .now)
+    (c .before .before .before .before .before .before .before .before .args .at) (omega arith)
+    (by (c .before .before .before .before .is-escaped .ensures) (c .before .before .before .if2 .left))
+    (c .before .before .if3 .left) (c .before .if4 .left) (c .error2 .ensures)
 
 pub skip-escape-spec : {M : Type 1} → statement M
 skip-escape-spec =

@@ -28,7 +28,8 @@ is-current-byte-requires : tie.Need-is-current-byte-requires Inv-loop μ-loop
 is-current-byte-requires c κs = search needs
 
 skip-escape-requires : tie.Need-skip-escape-requires Inv-loop μ-loop
-skip-escape-requires c κs = let l = c .before .is-current-byte .ensures .here (c .if1 .taken) in record { inside = omega arith; short = c .before .before .before .before .before .pre .short }
+skip-escape-requires c κs = let l = c .before .is-current-byte .ensures .here (c .if1 .taken) in
+    record { inside = omega arith; short = c .before .before .before .before .before .pre .short }
 
 enum-known-escape : tie.Need-enum-known-escape Inv-loop μ-loop
 enum-known-escape c = search needs
@@ -37,28 +38,58 @@ enum-told : tie.Need-enum-told Inv-loop μ-loop
 enum-told c = search needs
 
 returns : tie.Need-returns Inv-loop μ-loop
-returns c = scan-fails (c .before .before .before .before .before .loop .inv) (by (c .before .before .before .before .is-current-byte .ensures .is) (c .before .before .before .if1 .taken)) (c .before .before .skip-escape .ensures) (c .enum-told .given .1)
+returns c =
+    scan-fails (c .before .before .before .before .before .loop .inv)
+    (by (c .before .before .before .before .is-current-byte .ensures .is) (c .before .before .before .if1 .taken))
+    (c .before .before .skip-escape .ensures) (c .enum-told .given .1)
 
 skip-plain-requires-2 : tie.Need-skip-plain-requires-2 Inv-loop μ-loop
-skip-plain-requires-2 c κs = let o = escape-onward (c .before .before .before .skip-escape .ensures) (c .before .escape .given .1) in record { inside = o .within; short = c .before .before .before .before .before .before .before .before .before .pre .short }
+skip-plain-requires-2 c κs = let o =
+    escape-onward (c .before .before .before .skip-escape .ensures) (c .before .escape .given .1) in
+    record {
+      inside = o .within;
+      short = c .before .before .before .before .before .before .before .before .before .pre .short;
+    }
 
 loop-less : tie.Need-loop-less Inv-loop μ-loop
-loop-less c = let o = escape-onward (c .before .before .before .before .skip-escape .ensures) (c .before .before .escape .given .1) in omega (arith, o .onward, o .within, c .skip-plain2 .ensures .end, c .skip-plain2 .ensures .within)
+loop-less c = let o =
+    escape-onward (c .before .before .before .before .skip-escape .ensures) (c .before .before .escape .given .1) in
+    omega (arith, o .onward, o .within, c .skip-plain2 .ensures .end, c .skip-plain2 .ensures .within)
 
 loop-again : tie.Need-loop-again Inv-loop μ-loop
-loop-again c = scan-escape (c .before .before .before .before .before .before .before .loop .inv) (by (c .before .before .before .before .before .before .is-current-byte .ensures .is) (c .before .before .before .before .before .if1 .taken)) (c .before .before .before .before .skip-escape .ensures) (c .before .before .escape .given .1) (c .skip-plain2 .ensures)
+loop-again c =
+    scan-escape (c .before .before .before .before .before .before .before .loop .inv)
+    (by (c .before .before .before .before .before .before .is-current-byte .ensures .is)
+    (c .before .before .before .before .before .if1 .taken))
+    (c .before .before .before .before .skip-escape .ensures) (c .before .before .escape .given .1)
+    (c .skip-plain2 .ensures)
 
 is-current-byte-requires-2 : tie.Need-is-current-byte-requires-2 Inv-loop μ-loop
 is-current-byte-requires-2 c κs = search needs
 
 error-requires : tie.Need-error-requires Inv-loop μ-loop
-error-requires c κs = omega (arith, c .before .before .before .before .loop .inv .turns .inside, c .before .before .before .before .before .before .before .pre .short)
+error-requires c κs =
+    omega (
+      arith,
+      c .before .before .before .before .loop .inv .turns .inside,
+      c .before .before .before .before .before .before .before .pre .short,
+    )
 
 returns-2 : tie.Need-returns-2 Inv-loop μ-loop
-returns-2 c = found-turns (c .before .before .before .before .before .loop .inv .turns) (feed-turn _ (by (c .before .before .before .before .is-current-byte .ensures .is) (c .before .before .before .if1 .left)) (by (c .before .before .is-current-byte2 .ensures .is) (c .before .if2 .taken))) (found-fail _ _ refl (c .before .before .before .before .before .loop .inv .turns .inside) refl (c .error .ensures))
+returns-2 c =
+    found-turns (c .before .before .before .before .before .loop .inv .turns)
+    (feed-turn _
+    (by (c .before .before .before .before .is-current-byte .ensures .is) (c .before .before .before .if1 .left))
+    (by (c .before .before .is-current-byte2 .ensures .is) (c .before .if2 .taken)))
+    (found-fail _ _ refl (c .before .before .before .before .before .loop .inv .turns .inside) refl (c .error .ensures))
 
 returns-3 : tie.Need-returns-3 Inv-loop μ-loop
-returns-3 c = found-turns (c .before .before .before .before .loop .inv .turns) (quote-turn _ (by (c .before .before .before .is-current-byte .ensures .is) (c .before .before .if1 .left)) (by (c .before .is-current-byte2 .ensures .is) (c .if2 .left)) (c .before .before .before .before .loop .inv .stands)) (found-ok refl (omega arith) (c .before .before .before .before .loop .inv .turns .inside))
+returns-3 c =
+    found-turns (c .before .before .before .before .loop .inv .turns)
+    (quote-turn _ (by (c .before .before .before .is-current-byte .ensures .is) (c .before .before .if1 .left))
+    (by (c .before .is-current-byte2 .ensures .is) (c .if2 .left))
+    (c .before .before .before .before .loop .inv .stands))
+    (found-ok refl (omega arith) (c .before .before .before .before .loop .inv .turns .inside))
 
 pub skip-string-spec : {M : Type 1} → statement M
 skip-string-spec =

@@ -12,10 +12,20 @@ returns : tie.Need-returns
 returns c = rw (c .before .before .if1 .taken, by (c .before .is-ascii-alphabetic .ensures) (c .if2 .taken)) (c .if2 .taken)
 
 returns-2 : tie.Need-returns-2
-returns-2 c = rw (c .before .before .before .if1 .taken, by (c .before .before .is-ascii-alphabetic .ensures) (c .before .if2 .left), eq-eqb _ _ (c .if3 .taken))
+returns-2 c =
+    rw (
+      c .before .before .before .if1 .taken,
+      by (c .before .before .is-ascii-alphabetic .ensures) (c .before .if2 .left),
+      eq-eqb _ _ (c .if3 .taken),
+    )
 
 returns-3 : tie.Need-returns-3
-returns-3 c = rw (c .before .before .before .if1 .taken, by (c .before .before .is-ascii-alphabetic .ensures) (c .before .if2 .left), ne-eqb _ _ (c .if3 .left))
+returns-3 c =
+    rw (
+      c .before .before .before .if1 .taken,
+      by (c .before .before .is-ascii-alphabetic .ensures) (c .before .if2 .left),
+      ne-eqb _ _ (c .if3 .left),
+    )
 
 returns-4 : tie.Need-returns-4
 returns-4 c = search needs

@@ -25,7 +25,9 @@ is-entry-start-requires : tie.Need-is-entry-start-requires Inv-loop μ-loop
 is-entry-start-requires c κs = search needs
 
 returns : tie.Need-returns Inv-loop μ-loop
-returns c = seeking-found (c .before .before .before .before .loop .inv) (c .before .before .before .loop-test .taken) (c .before .is-entry-start .ensures) (c .if1 .taken)
+returns c =
+    seeking-found (c .before .before .before .before .loop .inv) (c .before .before .before .loop-test .taken)
+    (c .before .is-entry-start .ensures) (c .if1 .taken)
 
 add-end : tie.Need-add-end Inv-loop μ-loop
 add-end c = search needs
@@ -34,7 +36,9 @@ loop-less : tie.Need-loop-less Inv-loop μ-loop
 loop-less c = search needs
 
 loop-again : tie.Need-loop-again Inv-loop μ-loop
-loop-again c = seeking-more (c .before .before .before .before .loop .inv) (c .before .before .before .loop-test .taken) (c .before .is-entry-start .ensures) (c .if1 .left)
+loop-again c =
+    seeking-more (c .before .before .before .before .loop .inv) (c .before .before .before .loop-test .taken)
+    (c .before .is-entry-start .ensures) (c .if1 .left)
 
 returns-2 : tie.Need-returns-2 Inv-loop μ-loop
 returns-2 c = seeking-end (c .before .loop .inv) (c .loop-test .left)

@@ -38,7 +38,10 @@ add-zero-3 c = search needs
 zero-requires-2 : tie.Need-zero-requires-2
 zero-requires-2 c κs =
     let start = c .before .before .before .before .before .before .args in
-    let l = zero-length (2 + start .n) (2 + start .cap) (set (set (start .slice .now) 0 (start .n)) 1 (start .cap)) (c .before .before .before .zero .last .0) (omega arith) (simp length-set (omega arith)) (c .before .before .before .zero .ensures) in
+    let l =
+    zero-length (2 + start .n) (2 + start .cap) (set (set (start .slice .now) 0 (start .n)) 1 (start .cap))
+    (c .before .before .before .zero .last .0) (omega arith) (simp length-set (omega arith))
+    (c .before .before .before .zero .ensures) in
     let k = simp length-set at l in
     (omega arith, omega arith)
 
@@ -46,16 +49,25 @@ same-length : tie.Need-same-length
 same-length c =
     let start = c .before .before .before .before .before .before .before .before .before .args in
     let sized = set (set (start .slice .now) 0 (start .n)) 1 (start .cap) in
-    let l = zero-length (2 + start .n) (2 + start .cap) sized (c .before .before .before .before .before .before .zero .last .0) (omega arith) (simp length-set (omega arith)) (c .before .before .before .before .before .before .zero .ensures) in
+    let l =
+    zero-length (2 + start .n) (2 + start .cap) sized
+    (c .before .before .before .before .before .before .zero .last .0) (omega arith) (simp length-set (omega arith))
+    (c .before .before .before .before .before .before .zero .ensures) in
     let k = simp length-set at l in
-    zero-length (2 + start .cap + start .used) (2 + start .cap + start .size) (c .before .before .before .before .before .before .zero .last .0) (c .before .before .zero2 .last .0) (omega arith) (omega arith) (c .before .before .zero2 .ensures) ∙ k
+    zero-length (2 + start .cap + start .used) (2 + start .cap + start .size)
+    (c .before .before .before .before .before .before .zero .last .0) (c .before .before .zero2 .last .0)
+    (omega arith) (omega arith) (c .before .before .zero2 .ensures)
+    ∙ k
 
 returns : tie.Need-returns
 unfolding zeroed
 returns c =
     let start = c .before .before .before .before .before .before .before .before .before .args in
-    c .before .before .zero2 .ensures ∙ ap (zeroed (2 + start .cap + start .used) (2 + start .cap + start .size)) (c .before .before .before .before .before .before .zero .ensures)
-    ∙ finish-is (start .slice .now) (start .cap) (start .n) (start .size) (start .used) (c .before .before .before .before .before .before .before .before .before .pre)
+    c .before .before .zero2 .ensures
+    ∙ ap (zeroed (2 + start .cap + start .used) (2 + start .cap + start .size))
+    (c .before .before .before .before .before .before .zero .ensures)
+    ∙ finish-is (start .slice .now) (start .cap) (start .n) (start .size) (start .used)
+    (c .before .before .before .before .before .before .before .before .before .pre)
 
 pub finish-spec : {M : Type 1} → statement M
 finish-spec =

@@ -48,16 +48,36 @@ add-put-pair-2 : tie.Need-add-put-pair-2
 add-put-pair-2 c = search needs
 
 put-pair-requires-3 : tie.Need-put-pair-requires-3
-put-pair-requires-3 c κs = let k = simp length-set at (c .before .before .before .before .before .before .before .put-pair .ensures .1) in let m = c .before .before .before .put-pair2 .ensures .1 in omega arith
+put-pair-requires-3 c κs = let k =
+    simp length-set at (c .before .before .before .before .before .before .before .put-pair .ensures .1) in
+    let m = c .before .before .before .put-pair2 .ensures .1 in omega arith
 
 add-result : tie.Need-add-result
 add-result c = search needs
 
 same-length : tie.Need-same-length
-same-length c = let k = simp length-set at (c .before .before .before .before .before .before .before .before .before .before .put-pair .ensures .1) in c .before .before .put-pair3 .ensures .1 ∙ c .before .before .before .before .before .before .put-pair2 .ensures .1 ∙ k
+same-length c = let k =
+    simp length-set at (c .before .before .before .before .before .before .before .before .before .before .put-pair
+    .ensures .1) in
+    c .before .before .put-pair3 .ensures .1 ∙ c .before .before .before .before .before .before .put-pair2 .ensures .1
+    ∙ k
 
 returns : tie.Need-returns
-returns c = let start = c .before .before .before .before .before .before .before .before .before .before .before .before .before .before .args in let e = withJunk (start .e) (start .junk-start) (start .junk-end) in (refl, error-written (start .cap) (start .n) (start .list .now) (c .before .before .before .before .before .before .before .before .before .before .before .before .before .before .pre .0) e _ _ _ _ (c .before .before .before .before .before .before .before .before .before .before .before .before .kind-words .ensures) (c .before .before .before .before .before .before .before .before .before .before .put-pair .ensures .0) (c .before .before .before .before .before .before .put-pair2 .ensures .0) (c .before .before .put-pair3 .ensures .0))
+returns c = let start =
+    c .before .before .before .before .before .before .before .before .before .before .before .before .before .before
+    .args in
+    let e = withJunk (start .e) (start .junk-start) (start .junk-end) in (
+      refl,
+      error-written (start .cap) (start .n) (start .list .now)
+          (c .before .before .before .before .before .before .before .before .before .before .before .before .before .before
+          .pre .0)
+          e _ _ _ _
+          (c .before .before .before .before .before .before .before .before .before .before .before .before .kind-words
+          .ensures)
+          (c .before .before .before .before .before .before .before .before .before .before .put-pair .ensures .0)
+          (c .before .before .before .before .before .before .put-pair2 .ensures .0)
+          (c .before .before .put-pair3 .ensures .0),
+    )
 
 pub put-error-spec : {M : Type 1} → statement M
 put-error-spec =

@@ -17,13 +17,26 @@ same-length : tie.Need-same-length
 same-length c = search needs
 
 returns : tie.Need-returns
-returns c = answered _ (rw (can-read (c .before .before .before .before .before .before .before .before .before .pre)) at (c .before .before .before .before .before .read-entry .ensures)) (c .before .entry .given .1)
+returns c =
+    answered _
+    (rw
+    (can-read
+    (c .before .before .before .before .before .before .before .before .before .pre)) at (c .before .before .before
+    .before .before .read-entry .ensures))
+    (c .before .entry .given .1)
 
 same-length-2 : tie.Need-same-length-2
 same-length-2 c = search needs
 
 returns-2 : tie.Need-returns-2
-returns-2 c = absurd (not-refused _ (rw (can-read (c .before .before .before .before .before .before .before .before .pre)) at (c .before .before .before .before .read-entry .ensures)) (c .enum-told .given .1))
+returns-2 c =
+    absurd
+    (not-refused _
+    (rw
+    (can-read
+    (c .before .before .before .before .before .before .before .before .pre)) at (c .before .before .before .before
+    .read-entry .ensures))
+    (c .enum-told .given .1))
 
 pub get-entry-spec : {M : Type 1} → statement M
 get-entry-spec =

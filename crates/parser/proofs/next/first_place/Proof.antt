@@ -22,7 +22,9 @@ enum-told-2 : tie.Need-enum-told-2
 enum-told-2 c = search needs
 
 returns-3 : tie.Need-returns-3
-returns-3 c = first-formed _ (c .before .before .before .if1 .left) (formed _ [] [] _ (c .before .before .check .ensures) (c .enum-told2 .given .1))
+returns-3 c =
+    first-formed _ (c .before .before .before .if1 .left)
+    (formed _ [] [] _ (c .before .before .check .ensures) (c .enum-told2 .given .1))
 
 pub first-place-spec : {M : Type 1} → statement M
 first-place-spec = tie.close (tie.spec returns check-requires enum-told returns-2 enum-told-2 returns-3)

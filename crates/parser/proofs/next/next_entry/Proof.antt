@@ -15,7 +15,12 @@ same-length : tie.Need-same-length
 same-length c = search needs
 
 returns : tie.Need-returns
-returns c = record { answers = c .before .before .before .answer .ensures .0; place = c .place-after .ensures ∙ ap (placeAfter _ _) (c .before .before .before .answer .ensures .0); tree = c .before .before .before .answer .ensures .1 }
+returns c =
+    record {
+      answers = c .before .before .before .answer .ensures .0;
+      place = c .place-after .ensures ∙ ap (placeAfter _ _) (c .before .before .before .answer .ensures .0);
+      tree = c .before .before .before .answer .ensures .1;
+    }
 
 pub next-entry-spec : {M : Type 1} → statement M
 next-entry-spec = tie.close (tie.spec answer-requires place-after-requires same-length returns)

@@ -33,7 +33,9 @@ returns-3 : tie.Need-returns-3
 returns-3 c = rw (c .before .entry3 .given .1)
 
 returns-4 : tie.Need-returns-4
-returns-4 c = rw (c .before .before .entry4 .given .1) (ap (Entry (c .before .before .before .before .before .args .start)) (c .skip-to-next-entry-start .ensures .end))
+returns-4 c =
+    rw (c .before .before .entry4 .given .1)
+    (ap (Entry (c .before .before .before .before .before .args .start)) (c .skip-to-next-entry-start .ensures .end))
 
 returns-5 : tie.Need-returns-5
 returns-5 c = search needs

@@ -14,7 +14,9 @@ enum-known-at : tie.Need-enum-known-at
 enum-known-at c = search needs
 
 returns-2 : tie.Need-returns-2
-returns-2 c = not-utf8 _ _ _ (c .before .before .before .before .if1 .left) _ _ (c .before .before .before .check .ensures) (c .before .at .given .1)
+returns-2 c =
+    not-utf8 _ _ _ (c .before .before .before .before .if1 .left) _ _ (c .before .before .before .check .ensures)
+    (c .before .at .given .1)
 
 enum-told : tie.Need-enum-told
 enum-told c = search needs
@@ -26,7 +28,12 @@ add-words : tie.Need-add-words
 add-words c = search needs
 
 returns-3 : tie.Need-returns-3
-returns-3 c = tree-short _ _ _ (c .before .before .before .before .if1 .left) (formed _ (c .before .before .before .before .before .before .before .before .args .tree .now) (c .before .before .before .before .before .before .before .before .args .errors .now) _ (c .before .before .before .check .ensures) (c .before .enum-told .given .1)) (c .if2 .taken)
+returns-3 c =
+    tree-short _ _ _ (c .before .before .before .before .if1 .left)
+    (formed _ (c .before .before .before .before .before .before .before .before .args .tree .now)
+    (c .before .before .before .before .before .before .before .before .args .errors .now) _
+    (c .before .before .before .check .ensures) (c .before .enum-told .given .1))
+    (c .if2 .taken)
 
 mul-rows : tie.Need-mul-rows
 mul-rows c = search needs
@@ -35,7 +42,12 @@ add-rows : tie.Need-add-rows
 add-rows c = search needs
 
 returns-4 : tie.Need-returns-4
-returns-4 c = errors-short _ _ _ (c .before .before .before .before .before .if1 .left) (formed _ (c .before .before .before .before .before .before .before .before .before .args .tree .now) (c .before .before .before .before .before .before .before .before .before .args .errors .now) _ (c .before .before .before .before .check .ensures) (c .before .before .enum-told .given .1)) (c .before .if2 .left) (c .if3 .taken)
+returns-4 c =
+    errors-short _ _ _ (c .before .before .before .before .before .if1 .left)
+    (formed _ (c .before .before .before .before .before .before .before .before .before .args .tree .now)
+    (c .before .before .before .before .before .before .before .before .before .args .errors .now) _
+    (c .before .before .before .before .check .ensures) (c .before .before .enum-told .given .1))
+    (c .before .if2 .left) (c .if3 .taken)
 
 read-into-requires : tie.Need-read-into-requires
 read-into-requires c κs = search needs
@@ -47,7 +59,20 @@ same-length-2 : tie.Need-same-length-2
 same-length-2 c = search needs
 
 returns-5 : tie.Need-returns-5
-returns-5 c = none-short _ _ _ (c .before .before .before .before .before .before .before .before .before .before .before .before .if1 .left) (formed _ (c .before .before .before .before .before .before .before .before .before .before .before .before .before .before .before .before .args .tree .now) (c .before .before .before .before .before .before .before .before .before .before .before .before .before .before .before .before .args .errors .now) _ (c .before .before .before .before .before .before .before .before .before .before .before .check .ensures) (c .before .before .before .before .before .before .before .before .before .enum-told .given .1)) (c .before .before .before .before .before .before .before .before .if2 .left) _ _ _ (c .before .before .before .before .before .before .before .if3 .left) (c .before .before .before .before .read-into .ensures)
+returns-5 c =
+    none-short _ _ _
+    (c .before .before .before .before .before .before .before .before .before .before .before .before .if1 .left)
+    (formed _
+    (c .before .before .before .before .before .before .before .before .before .before .before .before .before .before
+    .before .before .args .tree .now)
+    (c .before .before .before .before .before .before .before .before .before .before .before .before .before .before
+    .before .before .args .errors .now)
+    _
+    (c .before .before .before .before .before .before .before .before .before .before .before .check .ensures)
+    (c .before .before .before .before .before .before .before .before .before .enum-told .given .1))
+    (c .before .before .before .before .before .before .before .before .if2 .left) _ _ _
+    (c .before .before .before .before .before .before .before .if3 .left)
+    (c .before .before .before .before .read-into .ensures)
 
 pub read-spec : {M : Type 1} → statement M
 read-spec =

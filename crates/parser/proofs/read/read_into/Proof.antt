@@ -19,25 +19,64 @@ mul-finish-2 c = search needs
 
 finish-requires : tie.Need-finish-requires
 finish-requires c κs =
-    let k = counted _ _ _ _ _ _ (c .before .before .before .before .before .before .before .before .before .before .before .before .before .before .pre) (c .before .before .before .before .before .before .before .before .parse .ensures) _ _ (c .before .before .n .given .1) in
+    let k =
+    counted _ _ _ _ _ _
+    (c .before .before .before .before .before .before .before .before .before .before .before .before .before
+    .before .pre)
+    (c .before .before .before .before .before .before .before .before .parse .ensures) _ _
+    (c .before .before .n .given .1) in
     let l = c .before .before .before .before .before .before .before .before .parse .ensures .tree .long in
     let z = c .before .before .before .before .before .before .before .before .before .before .before .before .before .before .pre in
-    record { held = omega (arith, k .marks, k .room); filled = omega (arith, k .marks, k .room); small = omega (arith, z .short); layout = omega (arith, l, z .tree) }
+    record {
+      held = omega (arith, k .marks, k .room);
+      filled = omega (arith, k .marks, k .room);
+      small = omega (arith, z .short);
+      layout = omega (arith, l, z .tree);
+    }
 
 mul-finish-3 : tie.Need-mul-finish-3
 mul-finish-3 c = search needs
 
 mul-finish-4 : tie.Need-mul-finish-4
 mul-finish-4 c =
-    let k = counted _ _ _ _ _ _ (c .before .before .before .before .before .before .before .before .before .before .before .before .before .before .before .before .before .before .pre) (c .before .before .before .before .before .before .before .before .before .before .before .before .parse .ensures) _ _ (c .before .before .before .before .before .before .n .given .1) in
-    omega (arith, k .errors, k .few, c .before .before .before .before .before .before .before .before .before .before .before .before .before .before .before .before .before .before .pre .short)
+    let k =
+    counted _ _ _ _ _ _
+    (c .before .before .before .before .before .before .before .before .before .before .before .before .before
+    .before .before .before .before .before .pre)
+    (c .before .before .before .before .before .before .before .before .before .before .before .before .parse
+    .ensures)
+    _ _
+    (c .before .before .before .before .before .before .n .given .1) in
+    omega (
+      arith,
+      k .errors,
+      k .few,
+      c .before .before .before .before .before .before .before .before .before .before .before .before .before
+          .before .before .before .before .before .pre .short,
+    )
 
 finish-requires-2 : tie.Need-finish-requires-2
 finish-requires-2 c κs =
-    let k = counted _ _ _ _ _ _ (c .before .before .before .before .before .before .before .before .before .before .before .before .before .before .before .before .before .before .pre) (c .before .before .before .before .before .before .before .before .before .before .before .before .parse .ensures) _ _ (c .before .before .before .before .before .before .n .given .1) in
-    let l = c .before .before .before .before .before .before .before .before .before .before .before .before .parse .ensures .errors .long in
-    let z = c .before .before .before .before .before .before .before .before .before .before .before .before .before .before .before .before .before .before .pre in
-    record { held = omega (arith, k .errors, k .few); filled = omega (arith, k .errors, k .few); small = omega (arith, z .short); layout = omega (arith, l, z .errors) }
+    let k =
+    counted _ _ _ _ _ _
+    (c .before .before .before .before .before .before .before .before .before .before .before .before .before
+    .before .before .before .before .before .pre)
+    (c .before .before .before .before .before .before .before .before .before .before .before .before .parse
+    .ensures)
+    _ _
+    (c .before .before .before .before .before .before .n .given .1) in
+    let l =
+    c .before .before .before .before .before .before .before .before .before .before .before .before .parse
+    .ensures .errors .long in
+    let z =
+    c .before .before .before .before .before .before .before .before .before .before .before .before .before
+    .before .before .before .before .before .pre in
+    record {
+      held = omega (arith, k .errors, k .few);
+      filled = omega (arith, k .errors, k .few);
+      small = omega (arith, z .short);
+      layout = omega (arith, l, z .errors);
+    }
 
 enum-known-at : tie.Need-enum-known-at
 enum-known-at c = search needs
@@ -67,7 +106,15 @@ same-length-2 : tie.Need-same-length-2
 same-length-2 c = search needs
 
 returns : tie.Need-returns
-returns c = accepted _ _ _ _ _ _ (c .before .before .before .before .before .before .before .before .before .before .before .before .before .before .before .before .before .before .before .before .before .pre) (c .before .before .before .before .before .before .before .before .before .before .before .before .before .before .before .parse .ensures) _ _ _ _ (c .before .before .before .before .before .before .before .before .before .n .given .1) (c .before .before .before .before .before .before .finish .ensures) (c .before .before .finish2 .ensures)
+returns c =
+    accepted _ _ _ _ _ _
+    (c .before .before .before .before .before .before .before .before .before .before .before .before .before .before
+    .before .before .before .before .before .before .before .pre)
+    (c .before .before .before .before .before .before .before .before .before .before .before .before .before .before
+    .before .parse .ensures)
+    _ _ _ _
+    (c .before .before .before .before .before .before .before .before .before .n .given .1)
+    (c .before .before .before .before .before .before .finish .ensures) (c .before .before .finish2 .ensures)
 
 same-length-3 : tie.Need-same-length-3
 same-length-3 c = search needs
@@ -76,7 +123,15 @@ same-length-4 : tie.Need-same-length-4
 same-length-4 c = search needs
 
 returns-2 : tie.Need-returns-2
-returns-2 c = too-deep _ _ _ _ _ _ (c .before .before .before .before .before .before .before .before .before .before .before .before .before .before .before .before .before .before .before .before .before .pre) (c .before .before .before .before .before .before .before .before .before .before .before .before .before .before .before .parse .ensures) _ _ _ (c .before .before .before .before .before .before .before .before .before .at .given .1) (c .before .before .before .before .before .before .zero .ensures) (c .before .before .zero2 .ensures)
+returns-2 c =
+    too-deep _ _ _ _ _ _
+    (c .before .before .before .before .before .before .before .before .before .before .before .before .before .before
+    .before .before .before .before .before .before .before .pre)
+    (c .before .before .before .before .before .before .before .before .before .before .before .before .before .before
+    .before .parse .ensures)
+    _ _ _
+    (c .before .before .before .before .before .before .before .before .before .at .given .1)
+    (c .before .before .before .before .before .before .zero .ensures) (c .before .before .zero2 .ensures)
 
 pub read-into-spec : {M : Type 1} → statement M
 read-into-spec =

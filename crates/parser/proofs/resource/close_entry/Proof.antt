@@ -16,7 +16,10 @@ same-length : tie.Need-same-length
 same-length c = search needs
 
 returns : tie.Need-returns
-returns c = (c .before .before .put .ensures .0, rw (c .before .before .before .before .before .before .set-kind .ensures) at (c .before .before .put .ensures .1))
+returns c = (
+  c .before .before .put .ensures .0,
+  rw (c .before .before .before .before .before .before .set-kind .ensures) at (c .before .before .put .ensures .1),
+)
 
 pub close-entry-spec : {M : Type 1} → statement M
 close-entry-spec = tie.close (tie.spec set-kind-requires add-put put-requires same-length returns)

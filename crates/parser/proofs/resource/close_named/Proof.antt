@@ -13,7 +13,12 @@ same-length : tie.Need-same-length
 same-length c = search needs
 
 returns : tie.Need-returns
-returns c = (c .before .before .close-entry .ensures .0, rw (c .before .before .before .before .before .before .attach-comment .ensures) at (c .before .before .close-entry .ensures .1))
+returns c = (
+  c .before .before .close-entry .ensures .0,
+  rw
+      (c .before .before .before .before .before .before .attach-comment .ensures) at (c .before .before .close-entry
+      .ensures .1),
+)
 
 pub close-named-spec : {M : Type 1} → statement M
 close-named-spec =

@@ -28,22 +28,46 @@ enum-known-next : tie.Need-enum-known-next Inv-loop μ-loop
 enum-known-next c = search needs
 
 loop-less : tie.Need-loop-less Inv-loop μ-loop
-loop-less c = let q = rw (c .before .next .given .1) at (c .before .before .before .before .before .before .before .parse-entry .ensures) in omega (arith, q .2, q .1 .inside)
+loop-less c = let q =
+    rw
+    (c .before .next .given .1) at (c .before .before .before .before .before .before .before .parse-entry .ensures) in
+    omega (arith, q .2, q .1 .inside)
 
 loop-again : tie.Need-loop-again Inv-loop μ-loop
-loop-again c = let q = rw (c .before .next .given .1) at (c .before .before .before .before .before .before .before .parse-entry .ensures) in (framed-then (c .before .before .before .before .before .before .before .before .before .before .before .before .loop .inv .0) (q .0), q .1)
+loop-again c = let q =
+    rw
+    (c .before .next .given .1) at (c .before .before .before .before .before .before .before .parse-entry .ensures) in (
+      framed-then
+          (c .before .before .before .before .before .before .before .before .before .before .before .before .loop .inv .0)
+          (q .0),
+      q .1,
+    )
 
 enum-known-k : tie.Need-enum-known-k Inv-loop μ-loop
 enum-known-k c = search needs
 
 same-length : tie.Need-same-length Inv-loop μ-loop
-same-length c = let q = rw (c .before .k .given .1) at (c .before .before .before .before .before .before .before .parse-entry .ensures) in q .0 .tree .long ∙ c .before .before .before .before .before .before .before .before .before .before .before .before .loop .inv .0 .tree .long
+same-length c = let q =
+    rw (c .before .k .given .1) at (c .before .before .before .before .before .before .before .parse-entry .ensures) in
+    q .0 .tree .long
+    ∙ c .before .before .before .before .before .before .before .before .before .before .before .before .loop .inv .0
+    .tree .long
 
 same-length-2 : tie.Need-same-length-2 Inv-loop μ-loop
-same-length-2 c = let q = rw (c .before .k .given .1) at (c .before .before .before .before .before .before .before .parse-entry .ensures) in q .0 .list .long ∙ c .before .before .before .before .before .before .before .before .before .before .before .before .loop .inv .0 .list .long
+same-length-2 c = let q =
+    rw (c .before .k .given .1) at (c .before .before .before .before .before .before .before .parse-entry .ensures) in
+    q .0 .list .long
+    ∙ c .before .before .before .before .before .before .before .before .before .before .before .before .loop .inv .0
+    .list .long
 
 returns : tie.Need-returns Inv-loop μ-loop
-returns c = let q = rw (c .before .k .given .1) at (c .before .before .before .before .before .before .before .parse-entry .ensures) in did-deep (framed-then (c .before .before .before .before .before .before .before .before .before .before .before .before .loop .inv .0) (q .0)) (q .1)
+returns c = let q =
+    rw (c .before .k .given .1) at (c .before .before .before .before .before .before .before .parse-entry .ensures) in
+    did-deep
+    (framed-then
+    (c .before .before .before .before .before .before .before .before .before .before .before .before .loop .inv .0)
+    (q .0))
+    (q .1)
 
 same-length-3 : tie.Need-same-length-3 Inv-loop μ-loop
 same-length-3 c = c .before .before .loop .inv .0 .tree .long

@@ -33,7 +33,14 @@ same-length-2 c = search needs
 
 returns : tie.Need-returns
 returns c =
-    junked (c .before .before .before .before .before .before .before .before .before .before .before .before .before .skip-to-next-entry-start .ensures) (c .before .before .before .before .before .before .before .before .before .before .before .put .ensures .1) (c .before .before .before .before .before .before .before .before .before .before .before .put .ensures .0) (c .before .before .before .before .before .before .before .put2 .ensures .1) (c .before .before .before .before .before .before .before .put2 .ensures .0) (c .before .before .before .put-error .ensures .1)
+    junked
+    (c .before .before .before .before .before .before .before .before .before .before .before .before .before
+    .skip-to-next-entry-start .ensures)
+    (c .before .before .before .before .before .before .before .before .before .before .before .put .ensures .1)
+    (c .before .before .before .before .before .before .before .before .before .before .before .put .ensures .0)
+    (c .before .before .before .before .before .before .before .put2 .ensures .1)
+    (c .before .before .before .before .before .before .before .put2 .ensures .0)
+    (c .before .before .before .put-error .ensures .1)
     (c .before .before .before .put-error .ensures .0) (c .go-on .ensures)
 
 pub put-junk-spec : {M : Type 1} → statement M

@@ -20,11 +20,23 @@ returns c = rw (sym (c .before .is-ascii-digit .ensures) ∙ c .if1 .taken) (c .
 
 returns-2 : tie.Need-returns-2
 unfolding isHex
-returns-2 c = rw (sym (c .before .before .before .is-ascii-digit .ensures) ∙ c .before .before .if1 .left, sym (c .before .is-between .ensures) ∙ c .if2 .taken) (c .if2 .taken)
+returns-2 c =
+    rw (
+      sym (c .before .before .before .is-ascii-digit .ensures)
+          ∙ c .before .before .if1 .left,
+      sym (c .before .is-between .ensures) ∙ c .if2 .taken,
+    )
+    (c .if2 .taken)
 
 returns-3 : tie.Need-returns-3
 unfolding isHex
-returns-3 c = rw (sym (c .before .before .before .before .is-ascii-digit .ensures) ∙ c .before .before .before .if1 .left, sym (c .before .before .is-between .ensures) ∙ c .before .if2 .left) (c .is-between2 .ensures)
+returns-3 c =
+    rw (
+      sym (c .before .before .before .before .is-ascii-digit .ensures)
+          ∙ c .before .before .before .if1 .left,
+      sym (c .before .before .is-between .ensures) ∙ c .before .if2 .left,
+    )
+    (c .is-between2 .ensures)
 
 pub is-ascii-hexdigit-spec : {M : Type 1} → statement M
 is-ascii-hexdigit-spec =

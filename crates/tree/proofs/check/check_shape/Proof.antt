@@ -50,7 +50,12 @@ mul-kind c = omega (arith, sizes _ (c .before .before .before .before .before .b
 
 shared-slice-read-kind : tie.Need-shared-slice-read-kind Inv-loop μ-loop
 unfolding count capacity
-shared-slice-read-kind c = omega (arith, sizes _ (c .before .before .before .before .before .before .before .before .pre), c .before .loop-test .taken)
+shared-slice-read-kind c =
+    omega (
+      arith,
+      sizes _ (c .before .before .before .before .before .before .before .before .pre),
+      c .before .loop-test .taken,
+    )
 
 add-place : tie.Need-add-place Inv-loop μ-loop
 unfolding count capacity
@@ -62,7 +67,12 @@ mul-place c = omega (arith, sizes _ (c .before .before .before .before .before .
 
 shared-slice-read-place : tie.Need-shared-slice-read-place Inv-loop μ-loop
 unfolding count capacity
-shared-slice-read-place c = omega (arith, sizes _ (c .before .before .before .before .before .before .before .before .before .pre), c .before .before .loop-test .taken)
+shared-slice-read-place c =
+    omega (
+      arith,
+      sizes _ (c .before .before .before .before .before .before .before .before .before .pre),
+      c .before .before .loop-test .taken,
+    )
 
 slice-aggregate-step-mark : tie.Need-slice-aggregate-step-mark Inv-loop μ-loop
 slice-aggregate-step-mark c = sym (c .before .before .before .before .before .loop .inv .longKinds)
@@ -72,8 +82,10 @@ slice-aggregate-step-mark-2 c = sym (c .before .before .before .before .before .
 
 step-mark-requires : tie.Need-step-mark-requires Inv-loop μ-loop
 step-mark-requires c κs =
-    let st = c .before .before .before .before .before .before .loop .inv in
-    (c .before .before .before .before .before .before .before .before .before .models .ensures, (record { longKinds = omega arith; longStates = omega arith }, st .reached))
+    let st = c .before .before .before .before .before .before .loop .inv in (
+      c .before .before .before .before .before .before .before .before .before .models .ensures,
+      (record { longKinds = omega arith; longStates = omega arith }, st .reached),
+    )
 
 enum-known-next : tie.Need-enum-known-next Inv-loop μ-loop
 enum-known-next c = search needs
@@ -86,11 +98,19 @@ unfolding count capacity outcome
 returns c =
     let turn = c .before .before .before .before .before .before .before .before .before .before in
     let head = turn .before in
-    stands-refused _ _ (sizes _ (head .before .before .before .before .before .before .pre)) _ _ _ _ (head .loop .inv) (turn .loop-test .taken)
+    stands-refused _ _ (sizes _ (head .before .before .before .before .before .before .pre)) _ _ _ _ (head .loop .inv)
+    (turn .loop-test .taken)
     (rw (c .enum-told .given .1) at (c .before .before .before .before .step-mark .ensures))
 
 add-i : tie.Need-add-i Inv-loop μ-loop
-add-i c = omega (arith, c .before .before .before .before .before .before .before .before .before .before .before .loop-test .taken, c .before .before .before .before .before .before .before .before .before .before .before .before .before .before .shared-slice-known3 .given 0)
+add-i c =
+    omega (
+      arith,
+      c .before .before .before .before .before .before .before .before .before .before .before .loop-test .taken,
+      c .before .before .before .before .before .before .before .before .before .before .before .before .before .before
+          .shared-slice-known3 .given
+          0,
+    )
 
 loop-less : tie.Need-loop-less Inv-loop μ-loop
 unfolding count capacity
@@ -102,7 +122,8 @@ loop-again c =
     let turn = c .before .before .before .before .before .before .before .before .before .before .before in
     let head = turn .before in
     let mark = c .before .before .before .before .before .step-mark in
-    stands-on _ _ (sizes _ (head .before .before .before .before .before .before .pre)) _ _ _ _ (head .loop .inv) _ _ _ (turn .loop-test .taken)
+    stands-on _ _ (sizes _ (head .before .before .before .before .before .before .pre)) _ _ _ _ (head .loop .inv) _ _ _
+    (turn .loop-test .taken)
     (rw (c .before .next .given .1) at (mark .ensures)) (mark .kept .1 .1 .0) (mark .kept .1 .1 .1 .0)
 
 may-be-last-requires : tie.Need-may-be-last-requires Inv-loop μ-loop
@@ -112,14 +133,16 @@ returns-2 : tie.Need-returns-2 Inv-loop μ-loop
 unfolding count capacity
 returns-2 c =
     let head = c .before .before .before .before in
-    stands-whole _ _ (sizes _ (head .before .before .before .before .before .before .pre)) _ _ _ _ (head .loop .inv) (c .before .before .before .loop-test .left)
+    stands-whole _ _ (sizes _ (head .before .before .before .before .before .before .pre)) _ _ _ _ (head .loop .inv)
+    (c .before .before .before .loop-test .left)
     (sym (c .if1 .taken) ∙ c .before .may-be-last .ensures _ _)
 
 returns-3 : tie.Need-returns-3 Inv-loop μ-loop
 unfolding count capacity
 returns-3 c =
     let head = c .before .before .before .before in
-    stands-early _ _ (sizes _ (head .before .before .before .before .before .before .pre)) _ _ _ _ (head .loop .inv) (c .before .before .before .loop-test .left)
+    stands-early _ _ (sizes _ (head .before .before .before .before .before .before .pre)) _ _ _ _ (head .loop .inv)
+    (c .before .before .before .loop-test .left)
     (sym (c .if1 .left) ∙ c .before .may-be-last .ensures _ _)
 
 pub check-shape-spec : {M : Type 1} → statement M

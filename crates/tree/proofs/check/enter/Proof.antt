@@ -33,7 +33,13 @@ opens-requires : tie.Need-opens-requires
 opens-requires c κs = search needs
 
 sub-t12 : tie.Need-sub-t12
-sub-t12 c = omega (arith, opens-needs (c .before .before .before .before .before .args .child), c .before .before .needs .ensures, c .opens .ensures)
+sub-t12 c =
+    omega (
+      arith,
+      opens-needs (c .before .before .before .before .before .args .child),
+      c .before .before .needs .ensures,
+      c .opens .ensures,
+    )
 
 add-t13 : tie.Need-add-t13
 add-t13 c = search needs
@@ -48,7 +54,8 @@ returns-2 : tie.Need-returns-2
 unfolding outcome stateOf
 returns-2 c =
     let p = c .before .before .before .before .before .pre in
-    enter-goes _ _ _ _ _ _ (p .0) (p .1 .0) (p .1 .1 .0) (p .1 .1 .1) (rw (c .before .before .needs .ensures) at (c .before .if1 .left)) (c .opens .ensures)
+    enter-goes _ _ _ _ _ _ (p .0) (p .1 .0) (p .1 .1 .0) (p .1 .1 .1)
+    (rw (c .before .before .needs .ensures) at (c .before .if1 .left)) (c .opens .ensures)
 
 pub enter-spec : {M : Type 1} → statement M
 enter-spec =

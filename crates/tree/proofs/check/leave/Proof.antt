@@ -28,11 +28,15 @@ may-end-requires c κs = search needs
 
 returns-3 : tie.Need-returns-3
 unfolding outcome stateOf
-returns-3 c = λ b. rw (c .before .before .before .if1 .left) (sym (not-closed b _ _ _ _ _ (sym (c .before .may-end .ensures) ∙ not-true _ (c .if3 .taken))))
+returns-3 c =
+    λ b. rw (c .before .before .before .if1 .left)
+    (sym (not-closed b _ _ _ _ _ (sym (c .before .may-end .ensures) ∙ not-true _ (c .if3 .taken))))
 
 returns-4 : tie.Need-returns-4
 unfolding outcome stateOf
-returns-4 c = λ b. rw (c .before .before .before .before .if1 .left, c .before .before .before .if2 .left) (leave-top _ _ _ b (sym (c .before .before .may-end .ensures) ∙ not-false _ (c .before .if3 .left)) (c .if4 .taken))
+returns-4 c =
+    λ b. rw (c .before .before .before .before .if1 .left, c .before .before .before .if2 .left)
+    (leave-top _ _ _ b (sym (c .before .before .may-end .ensures) ∙ not-false _ (c .before .if3 .left)) (c .if4 .taken))
 
 sub-outer : tie.Need-sub-outer
 sub-outer c = search needs
@@ -47,11 +51,26 @@ opens-requires : tie.Need-opens-requires
 opens-requires c κs = search needs
 
 add-t19 : tie.Need-add-t19
-add-t19 c = omega (arith, opens-small (c .before .before .before .before .before .before .before .before .before .before .before .args .o .kind), c .before .opens .ensures, c .before .before .before .before .before .before .before .before .before .before .before .pre .1 .1 .0 .inner)
+add-t19 c =
+    omega (
+      arith,
+      opens-small
+          (c .before .before .before .before .before .before .before .before .before .before .before .args .o .kind),
+      c .before .opens .ensures,
+      c .before .before .before .before .before .before .before .before .before .before .before .pre .1 .1 .0 .inner,
+    )
 
 returns-5 : tie.Need-returns-5
 unfolding outcome stateOf
-returns-5 c = λ b. rw (c .before .before .before .before .before .before .before .before .if1 .left, c .before .before .before .before .before .before .before .if2 .left) (leave-goes _ _ _ b (sym (c .before .before .before .before .before .before .may-end .ensures) ∙ not-false _ (c .before .before .before .before .before .if3 .left)) _ (c .before .before .before .before .if4 .left) (c .before .opens .ensures))
+returns-5 c =
+    λ b. rw (
+      c .before .before .before .before .before .before .before .before .if1 .left,
+      c .before .before .before .before .before .before .before .if2 .left,
+    )
+    (leave-goes _ _ _ b
+    (sym (c .before .before .before .before .before .before .may-end .ensures)
+    ∙ not-false _ (c .before .before .before .before .before .if3 .left)) _
+    (c .before .before .before .before .if4 .left) (c .before .opens .ensures))
 
 pub leave-spec : {M : Type 1} → statement M
 leave-spec =

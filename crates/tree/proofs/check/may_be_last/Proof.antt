@@ -10,7 +10,9 @@ enum-known-s : tie.Need-enum-known-s
 enum-known-s c = search needs
 
 may-end-requires : tie.Need-may-end-requires
-may-end-requires c κs = let k = rw (c .before .before .before .s .given .1) at (c .before .before .before .before .before .pre .1) in (c .before .before .before .before .before .pre .0, (k .kind, k .state))
+may-end-requires c κs = let k =
+    rw (c .before .before .before .s .given .1) at (c .before .before .before .before .before .pre .1) in
+    (c .before .before .before .before .before .pre .0, (k .kind, k .state))
 
 enum-told : tie.Need-enum-told
 enum-told c = search needs

@@ -29,7 +29,13 @@ returns-2 c = rw (sizesFit, le-leb _ _ (c .before .before .before .if1 .left), l
 
 returns-3 : tie.Need-returns-3
 unfolding sizesFit count capacity
-returns-3 c = rw (sizesFit, le-leb _ _ (c .before .before .before .before .if1 .left), le-leb _ _ (c .before .if2 .left), lt-leb _ _ (c .if3 .taken))
+returns-3 c =
+    rw (
+      sizesFit,
+      le-leb _ _ (c .before .before .before .before .if1 .left),
+      le-leb _ _ (c .before .if2 .left),
+      lt-leb _ _ (c .if3 .taken),
+    )
 
 mul-result : tie.Need-mul-result
 mul-result c = search needs
@@ -39,7 +45,13 @@ add-result c = search needs
 
 returns-4 : tie.Need-returns-4
 unfolding sizesFit count capacity
-returns-4 c = rw (sizesFit, le-leb _ _ (c .before .before .before .before .if1 .left), le-leb _ _ (c .before .if2 .left), le-leb _ _ (c .if3 .left))
+returns-4 c =
+    rw (
+      sizesFit,
+      le-leb _ _ (c .before .before .before .before .if1 .left),
+      le-leb _ _ (c .before .if2 .left),
+      le-leb _ _ (c .if3 .left),
+    )
 
 pub sizes-fit-spec : {M : Type 1} → statement M
 sizes-fit-spec =

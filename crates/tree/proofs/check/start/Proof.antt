@@ -11,11 +11,17 @@ is-boundary-requires c κs = search needs
 
 returns : tie.Need-returns
 unfolding outcome stateOf
-returns c = λ ks qs. sym (started _ _ _ _ _ _ _ _ (c .before .before .before .pre .0) (c .before .before .before .pre .1) (sym (c .before .is-boundary .ensures) ∙ c .if1 .taken))
+returns c =
+    λ ks qs. sym
+    (started _ _ _ _ _ _ _ _ (c .before .before .before .pre .0) (c .before .before .before .pre .1)
+    (sym (c .before .is-boundary .ensures) ∙ c .if1 .taken))
 
 returns-2 : tie.Need-returns-2
 unfolding outcome stateOf
-returns-2 c = λ ks qs. sym (not-started _ _ _ _ _ _ _ (c .before .before .before .pre .0) (sym (c .before .is-boundary .ensures) ∙ c .if1 .left))
+returns-2 c =
+    λ ks qs. sym
+    (not-started _ _ _ _ _ _ _ (c .before .before .before .pre .0)
+    (sym (c .before .is-boundary .ensures) ∙ c .if1 .left))
 
 pub start-spec : {M : Type 1} → statement M
 start-spec = tie.close (tie.spec is-boundary-requires returns returns-2)

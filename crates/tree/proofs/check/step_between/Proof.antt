@@ -36,7 +36,16 @@ enum-known-next-2 : tie.Need-enum-known-next-2
 enum-known-next-2 c = search needs
 
 enter-requires : tie.Need-enter-requires
-enter-requires c κs = let p = c .before .before .before .before .before .before .before .before .before .before .before .pre in (p .1 .0, (p .1 .1, next-node _ _ _ (sym (c .before .before .before .before .next2 .given .1) ∙ c .before .before .before .before .before .before .step .ensures)))
+enter-requires c κs = let p =
+    c .before .before .before .before .before .before .before .before .before .before .before .pre in (
+      p .1 .0,
+      (
+        p .1 .1,
+        next-node _ _ _
+            (sym (c .before .before .before .before .next2 .given .1)
+            ∙ c .before .before .before .before .before .before .step .ensures),
+      ),
+    )
 
 enum-told : tie.Need-enum-told
 enum-told c = search needs
@@ -46,7 +55,9 @@ returns-2 c = c .start .ensures _ _
 
 returns-3 : tie.Need-returns-3
 unfolding outcome stateOf
-returns-3 c = let t = next-node _ _ _ (sym (c .before .before .next2 .given .1) ∙ c .before .before .before .before .step .ensures) in sym (misplaced _ _ _ _ _ _ _ (t .0) (c .if2 .taken))
+returns-3 c = let t =
+    next-node _ _ _ (sym (c .before .before .next2 .given .1) ∙ c .before .before .before .before .step .ensures) in
+    sym (misplaced _ _ _ _ _ _ _ (t .0) (c .if2 .taken))
 
 same-length-3 : tie.Need-same-length-3
 same-length-3 c = search needs
@@ -56,11 +67,21 @@ same-length-4 c = search needs
 
 returns-4 : tie.Need-returns-4
 unfolding outcome stateOf
-returns-4 c = let t = next-node _ _ _ (sym (c .before .before .before .before .before .before .before .before .before .next2 .given .1) ∙ c .before .before .before .before .before .before .before .before .before .before .before .step .ensures) in c .before .before .before .before .enter .ensures ∙ rw (c .before .before .before .before .before .before .before .if2 .left) (sym (opened _ _ _ _ _ _ (c .before .before .before .before .before .before .before .before .before .before .before .before .if1 .left) (t .0)))
+returns-4 c = let t =
+    next-node _ _ _
+    (sym (c .before .before .before .before .before .before .before .before .before .next2 .given .1)
+    ∙ c .before .before .before .before .before .before .before .before .before .before .before .step .ensures) in
+    c .before .before .before .before .enter .ensures
+    ∙ rw (c .before .before .before .before .before .before .before .if2 .left)
+    (sym
+    (opened _ _ _ _ _ _
+    (c .before .before .before .before .before .before .before .before .before .before .before .before .if1 .left)
+    (t .0)))
 
 returns-5 : tie.Need-returns-5
 unfolding outcome stateOf
-returns-5 c = let t = next-nothing _ _ (sym (c .enum-told .given .1) ∙ c .before .before .step .ensures) in sym (strange _ _ _ _ _ _ _ t (λ e. omega arith))
+returns-5 c = let t = next-nothing _ _ (sym (c .enum-told .given .1) ∙ c .before .before .step .ensures) in
+    sym (strange _ _ _ _ _ _ _ t (λ e. omega arith))
 
 pub step-between-spec : {M : Type 1} → statement M
 step-between-spec =

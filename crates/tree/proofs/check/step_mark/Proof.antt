@@ -7,7 +7,8 @@ enum-known-s : tie.Need-enum-known-s
 enum-known-s c = search needs
 
 step-between-requires : tie.Need-step-between-requires
-step-between-requires c κs = let p = c .before .before .before .before .before .before .before .before .pre in (p .0, (p .1 .0, rw (c .before .before .before .s .given .1) at (p .1 .1)))
+step-between-requires c κs = let p = c .before .before .before .before .before .before .before .before .pre in
+    (p .0, (p .1 .0, rw (c .before .before .before .s .given .1) at (p .1 .1)))
 
 enum-known-s-2 : tie.Need-enum-known-s-2
 enum-known-s-2 c = search needs
@@ -22,7 +23,9 @@ same-length-2 : tie.Need-same-length-2
 same-length-2 c = search needs
 
 returns : tie.Need-returns
-returns c = rw (c .before .before .before .before .before .before .before .before .s .given .1) (c .before .before .before .before .step-between .ensures)
+returns c =
+    rw (c .before .before .before .before .before .before .before .before .s .given .1)
+    (c .before .before .before .before .step-between .ensures)
 
 returns-2 : tie.Need-returns-2
 returns-2 c = rw (c .before .before .s2 .given .1) (c .stop .ensures _ _)

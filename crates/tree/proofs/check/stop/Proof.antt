@@ -22,7 +22,11 @@ is-boundary-requires c κs = search needs
 
 returns-3 : tie.Need-returns-3
 unfolding outcome stateOf
-returns-3 c = λ ks qs. rw (c .before .before .before .if1 .left) (sym (stopped _ _ _ _ _ _ _ _ (c .before .before .before .before .before .pre) (sym (c .before .is-boundary .ensures) ∙ c .if3 .taken) (c .before .before .if2 .left)))
+returns-3 c =
+    λ ks qs. rw (c .before .before .before .if1 .left)
+    (sym
+    (stopped _ _ _ _ _ _ _ _ (c .before .before .before .before .before .pre)
+    (sym (c .before .is-boundary .ensures) ∙ c .if3 .taken) (c .before .before .if2 .left)))
 
 returns-4 : tie.Need-returns-4
 unfolding outcome stateOf

@@ -24,22 +24,44 @@ mul-kind : tie.Need-mul-kind Inv-loop μ-loop
 mul-kind c = omega (arith, kind-inside (c .before .before .before .before .args .tree .now) (c .before .loop .next) (omega arith))
 
 shared-slice-read-kind : tie.Need-shared-slice-read-kind Inv-loop μ-loop
-shared-slice-read-kind c = omega (arith, kind-inside (c .before .before .before .before .before .args .tree .now) (c .before .before .loop .next) (omega arith))
+shared-slice-read-kind c =
+    omega (
+      arith,
+      kind-inside (c .before .before .before .before .before .args .tree .now) (c .before .before .loop .next)
+          (omega arith),
+    )
 
 add-next : tie.Need-add-next Inv-loop μ-loop
-add-next c = omega (arith, kind-inside (c .before .before .before .before .before .args .tree .now) (c .before .before .loop .next) (omega arith))
+add-next c =
+    omega (
+      arith,
+      kind-inside (c .before .before .before .before .before .args .tree .now) (c .before .before .loop .next)
+          (omega arith),
+    )
 
 add-depth : tie.Need-add-depth Inv-loop μ-loop
-add-depth c = omega (arith, c .before .before .before .loop .inv .small, kind-inside (c .before .before .before .before .before .before .args .tree .now) (c .before .before .before .loop .next) (omega arith))
+add-depth c =
+    omega (
+      arith,
+      c .before .before .before .loop .inv .small,
+      kind-inside (c .before .before .before .before .before .before .args .tree .now)
+          (c .before .before .before .loop .next) (omega arith),
+    )
 
 loop-less : tie.Need-loop-less Inv-loop μ-loop
 loop-less c = omega arith
 
 loop-again : tie.Need-loop-again Inv-loop μ-loop
-loop-again c = passing-open (c .before .before .before .before .before .before .args .tree .now) (c .before .before .before .before .before .before .args .mark) (c .before .before .before .loop .inv) (omega arith) (c .if1 .taken)
+loop-again c =
+    passing-open (c .before .before .before .before .before .before .args .tree .now)
+    (c .before .before .before .before .before .before .args .mark) (c .before .before .before .loop .inv) (omega arith)
+    (c .if1 .taken)
 
 returns : tie.Need-returns Inv-loop μ-loop
-returns c = passing-last (c .before .before .before .before .before .before .before .args .tree .now) (c .before .before .before .before .before .before .before .args .mark) (c .before .before .before .before .loop .inv) (omega arith) (omega arith) (c .if2 .taken)
+returns c =
+    passing-last (c .before .before .before .before .before .before .before .args .tree .now)
+    (c .before .before .before .before .before .before .before .args .mark)
+    (c .before .before .before .before .loop .inv) (omega arith) (omega arith) (c .if2 .taken)
 
 sub-depth : tie.Need-sub-depth Inv-loop μ-loop
 sub-depth c = omega arith
@@ -48,10 +70,15 @@ loop-less-2 : tie.Need-loop-less-2 Inv-loop μ-loop
 loop-less-2 c = omega arith
 
 loop-again-2 : tie.Need-loop-again-2 Inv-loop μ-loop
-loop-again-2 c = passing-close (c .before .before .before .before .before .before .before .args .tree .now) (c .before .before .before .before .before .before .before .args .mark) (c .before .before .before .before .loop .inv) (omega arith) (omega arith) (omega arith)
+loop-again-2 c =
+    passing-close (c .before .before .before .before .before .before .before .args .tree .now)
+    (c .before .before .before .before .before .before .before .args .mark)
+    (c .before .before .before .before .loop .inv) (omega arith) (omega arith) (omega arith)
 
 returns-2 : tie.Need-returns-2 Inv-loop μ-loop
-returns-2 c = passing-end (c .before .before .before .before .args .tree .now) (c .before .before .before .before .args .mark) (c .before .loop .inv) (omega arith)
+returns-2 c =
+    passing-end (c .before .before .before .before .args .tree .now) (c .before .before .before .before .args .mark)
+    (c .before .loop .inv) (omega arith)
 
 pub after-node-spec : {M : Type 1} → statement M
 after-node-spec =

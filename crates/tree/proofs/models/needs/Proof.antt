@@ -16,7 +16,12 @@ unfolding needs among
 returns-2 c =
     let k = c .before .args .kind in
     let other = c .match .rest .1 in
-    rw (needs, ne-eqb k Kind.placeable (λ e. other (inl e)), ne-eqb k Kind.function (λ e. other (inr (inl e))), ne-eqb k Kind.arguments (λ e. other (inr (inr e))))
+    rw (
+      needs,
+      ne-eqb k Kind.placeable (λ e. other (inl e)),
+      ne-eqb k Kind.function (λ e. other (inr (inl e))),
+      ne-eqb k Kind.arguments (λ e. other (inr (inr e))),
+    )
 
 pub needs-spec : {M : Type 1} → statement M
 needs-spec = tie.close (tie.spec returns returns-2)

@@ -31,7 +31,11 @@ short-requires : tie.Need-short-requires Inv-loop μ-loop
 short-requires c κs = omega arith
 
 returns : tie.Need-returns Inv-loop μ-loop
-returns c = tells-no (λ e. c .if1 .taken (one-stored _ _ _ (c .before .before .before .before .before .before .before .pre) (omega arith) e ∙ sym (c .before .short .ensures .0)))
+returns c =
+    tells-no
+    (λ e. c .if1 .taken
+    (one-stored _ _ _ (c .before .before .before .before .before .before .before .pre) (omega arith) e
+    ∙ sym (c .before .short .ensures .0)))
 
 add-i : tie.Need-add-i Inv-loop μ-loop
 add-i c = omega arith
@@ -43,7 +47,10 @@ loop-again : tie.Need-loop-again Inv-loop μ-loop
 loop-again c = (omega arith, below-more _ _ (c .before .before .before .before .loop .inv .1) (c .if1 .left ∙ c .before .short .ensures .0))
 
 returns-2 : tie.Need-returns-2 Inv-loop μ-loop
-returns-2 c = tells-yes (all-stored _ _ (c .before .loop .i) (c .before .before .before .before .pre) (omega arith) (c .before .loop .inv .1))
+returns-2 c =
+    tells-yes
+    (all-stored _ _ (c .before .loop .i) (c .before .before .before .before .pre) (omega arith)
+    (c .before .loop .inv .1))
 
 pub are-stored-spec : {M : Type 1} → statement M
 are-stored-spec =

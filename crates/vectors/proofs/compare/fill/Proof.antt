@@ -34,8 +34,12 @@ loop-again : tie.Need-loop-again Inv-loop μ-loop
 loop-again c =
     let loop = c .before .loop in
     let start = c .before .before .args .slice .now in
-    let v = c .before .before .args .v in
-    (omega arith, ap (λ r. set r (loop .i) v) (loop .inv .1) ∙ fill-more (loop .i) v start (omega arith), length-set (loop .slice) (loop .i) v ∙ loop .inv .2)
+    let v = c .before .before .args .v in (
+      omega arith,
+      ap (λ r. set r (loop .i) v) (loop .inv .1)
+          ∙ fill-more (loop .i) v start (omega arith),
+      length-set (loop .slice) (loop .i) v ∙ loop .inv .2,
+    )
 
 same-length : tie.Need-same-length Inv-loop μ-loop
 same-length c = omega arith
@@ -46,7 +50,9 @@ returns c =
     let start = c .before .before .args .slice .now in
     let v = c .before .before .args .v in
     let e : loop .i ≡ length start = omega arith in
-    loop .inv .1 ∙ (ap (λ k. replicate k v ++ drop k start) e ∙ (ap (λ r. replicate (length start) v ++ r) (drop-length start) ∙ append-nil _))
+    loop .inv .1
+    ∙ (ap (λ k. replicate k v ++ drop k start) e
+    ∙ (ap (λ r. replicate (length start) v ++ r) (drop-length start) ∙ append-nil _))
 
 pub fill-spec : {M : Type 1} → statement M
 fill-spec =

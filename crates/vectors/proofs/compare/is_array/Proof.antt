@@ -12,12 +12,15 @@ slice-aggregate-are-stored : tie.Need-slice-aggregate-are-stored
 slice-aggregate-are-stored c = sym (length-take-le _ _ (c .before .before .before .pre .1))
 
 are-stored-requires : tie.Need-are-stored-requires
-are-stored-requires c κs = let start = c .before .before .before in rw (length-take-le (start .args .n) (start .args .words .now) (start .pre .1)) (start .pre .0)
+are-stored-requires c κs = let start = c .before .before .before in
+    rw (length-take-le (start .args .n) (start .args .words .now) (start .pre .1)) (start .pre .0)
 
 returns : tie.Need-returns
 returns c =
     let start = c .before .before .before .before .before .args in
-    tells-no (λ e. untold _ (c .before .are-stored .ensures) (c .if1 .taken) (array-first _ _ (start .n) (length-shorts _ _ (c .before .before .before .before .before .pre .0)) e))
+    tells-no
+    (λ e. untold _ (c .before .are-stored .ensures) (c .if1 .taken)
+    (array-first _ _ (start .n) (length-shorts _ _ (c .before .before .before .before .before .pre .0)) e))
 
 mul-are-all : tie.Need-mul-are-all
 mul-are-all c = search needs
@@ -38,7 +41,12 @@ returns-2 : tie.Need-returns-2
 returns-2 c =
     let start = c .before .before .before .before .before .before .before .args in
     let l = length-shorts _ _ (c .before .before .before .before .before .before .before .pre .0) in
-    tells-same (array-yes _ _ (start .n) l (c .before .before .before .before .before .before .before .pre .1) (told _ (c .before .before .before .are-stored .ensures) (c .before .before .if1 .left))) (array-rest _ _ (start .n) l) (subst (λ z. Tells (c .are-all .result) (z ≡ replicate (length z) 0)) (end-part (start .words .now) (start .n)) (c .are-all .ensures))
+    tells-same
+    (array-yes _ _ (start .n) l (c .before .before .before .before .before .before .before .pre .1)
+    (told _ (c .before .before .before .are-stored .ensures) (c .before .before .if1 .left)))
+    (array-rest _ _ (start .n) l)
+    (subst (λ z. Tells (c .are-all .result) (z ≡ replicate (length z) 0)) (end-part (start .words .now) (start .n))
+    (c .are-all .ensures))
 
 pub is-array-spec : {M : Type 1} → statement M
 is-array-spec =

@@ -22,7 +22,10 @@ cast-if2 : tie.Need-cast-if2
 cast-if2 c = search needs
 
 returns-2 : tie.Need-returns-2
-returns-2 c = tells-no (λ e. c .if2 .taken (is-laid _ _ _ _ (c .before .before .before .before .before .before .before .before .before .pre) e .count))
+returns-2 c =
+    tells-no
+    (λ e. c .if2 .taken
+    (is-laid _ _ _ _ (c .before .before .before .before .before .before .before .before .before .pre) e .count))
 
 shared-slice-read-if3 : tie.Need-shared-slice-read-if3
 shared-slice-read-if3 c = search needs
@@ -31,7 +34,12 @@ cast-if3 : tie.Need-cast-if3
 cast-if3 c = search needs
 
 returns-3 : tie.Need-returns-3
-returns-3 c = tells-no (λ e. c .if3 .taken (is-laid _ _ _ _ (c .before .before .before .before .before .before .before .before .before .before .before .before .pre) e .capacity))
+returns-3 c =
+    tells-no
+    (λ e. c .if3 .taken
+    (is-laid _ _ _ _
+    (c .before .before .before .before .before .before .before .before .before .before .before .before .pre)
+    e .capacity))
 
 sub-is-array : tie.Need-sub-is-array
 sub-is-array c = search needs
@@ -46,7 +54,13 @@ is-array-requires : tie.Need-is-array-requires
 is-array-requires c κs = search needs
 
 returns-4 : tie.Need-returns-4
-returns-4 c = tells-no (λ e. untold _ (c .before .is-array .ensures) (c .if4 .taken) (is-laid _ _ _ _ (c .before .before .before .before .before .before .before .before .before .before .before .before .before .before .before .pre) e .first))
+returns-4 c =
+    tells-no
+    (λ e. untold _ (c .before .is-array .ensures) (c .if4 .taken)
+    (is-laid _ _ _ _
+    (c .before .before .before .before .before .before .before .before .before .before .before .before .before .before
+    .before .pre)
+    e .first))
 
 mul-is-array : tie.Need-mul-is-array
 mul-is-array c = search needs
@@ -64,7 +78,13 @@ is-array-requires-2 : tie.Need-is-array-requires-2
 is-array-requires-2 c κs = search needs
 
 returns-5 : tie.Need-returns-5
-returns-5 c = tells-no (λ e. untold _ (c .before .is-array2 .ensures) (c .if5 .taken) (is-laid _ _ _ _ (c .before .before .before .before .before .before .before .before .before .before .before .before .before .before .before .before .before .before .pre) e .second))
+returns-5 c =
+    tells-no
+    (λ e. untold _ (c .before .is-array2 .ensures) (c .if5 .taken)
+    (is-laid _ _ _ _
+    (c .before .before .before .before .before .before .before .before .before .before .before .before .before .before
+    .before .before .before .before .pre)
+    e .second))
 
 mul-are-all : tie.Need-mul-are-all
 mul-are-all c = search needs
@@ -85,17 +105,25 @@ returns-6 : tie.Need-returns-6
 returns-6 c =
     tells-same
     (λ q.
-    laid-is _ _ _ _ (c .before .before .before .before .before .before .before .before .before .before .before .before .before .before .before .before .before .before .before .before .pre) (
+    laid-is _ _ _ _
+    (c .before .before .before .before .before .before .before .before .before .before .before .before .before
+    .before .before .before .before .before .before .before .pre)
+    (
     record {
       long = c .before .before .before .before .before .before .before .before .before .before .before .before .before .before .if1 .left;
       count = c .before .before .before .before .before .before .before .before .before .before .before .if2 .left;
       capacity = c .before .before .before .before .before .before .before .before .if3 .left;
-      first = told _ (c .before .before .before .before .before .before .is-array .ensures) (c .before .before .before .before .before .if4 .left);
+      first =
+          told _ (c .before .before .before .before .before .before .is-array .ensures)
+          (c .before .before .before .before .before .if4 .left);
       second = told _ (c .before .before .before .is-array2 .ensures) (c .before .before .if5 .left);
       rest = q;
     }
     ))
-    (λ e. is-laid _ _ _ _ (c .before .before .before .before .before .before .before .before .before .before .before .before .before .before .before .before .before .before .before .before .pre) e .rest)
+    (λ e. is-laid _ _ _ _
+    (c .before .before .before .before .before .before .before .before .before .before .before .before .before
+    .before .before .before .before .before .before .before .pre)
+    e .rest)
     (c .are-all .ensures)
 
 pub is-laid-out-spec : {M : Type 1} → statement M

@@ -26,14 +26,26 @@ are-all-requires : tie.Need-are-all-requires
 are-all-requires c κs = search needs
 
 returns : tie.Need-returns
-returns c = tells-equal (sym (left-laid _ _ _ _ _ (sym (c .before .before .number .ensures) ∙ c .before .match .keys1))) (c .is-laid-out .ensures)
+returns c =
+    tells-equal (sym (left-laid _ _ _ _ _ (sym (c .before .before .number .ensures) ∙ c .before .match .keys1)))
+    (c .is-laid-out .ensures)
 
 returns-2 : tie.Need-returns-2
-returns-2 c = tells-equal (sym (left-zeroed _ _ _ _ _ (sym (c .before .before .before .before .number .ensures) ∙ c .before .before .before .match .keys2))) (c .is-zeroed .ensures)
+returns-2 c =
+    tells-equal
+    (sym
+    (left-zeroed _ _ _ _ _
+    (sym (c .before .before .before .before .number .ensures) ∙ c .before .before .before .match .keys2)))
+    (c .is-zeroed .ensures)
 
 returns-3 : tie.Need-returns-3
 unfolding filled
-returns-3 c = tells-equal (sym (left-filled _ _ _ _ _ (λ e. c .before .match .rest .0 .1 (c .before .before .number .ensures ∙ e)) (λ e. c .before .match .rest .1 (c .before .before .number .ensures ∙ e)))) (c .are-all .ensures)
+returns-3 c =
+    tells-equal
+    (sym
+    (left-filled _ _ _ _ _ (λ e. c .before .match .rest .0 .1 (c .before .before .number .ensures ∙ e))
+    (λ e. c .before .match .rest .1 (c .before .before .number .ensures ∙ e))))
+    (c .are-all .ensures)
 
 pub is-left-spec : {M : Type 1} → statement M
 is-left-spec =

@@ -18,7 +18,10 @@ are-all-requires : tie.Need-are-all-requires
 are-all-requires c κs = search needs
 
 returns-2 : tie.Need-returns-2
-returns-2 c = tells-no (λ e. untold _ (c .before .are-all .ensures) (c .if2 .taken) (zeroed-first _ (c .before .before .before .before .before .args .n) e))
+returns-2 c =
+    tells-no
+    (λ e. untold _ (c .before .are-all .ensures) (c .if2 .taken)
+    (zeroed-first _ (c .before .before .before .before .before .args .n) e))
 
 mul-are-all : tie.Need-mul-are-all
 mul-are-all c = search needs
@@ -37,7 +40,10 @@ are-all-requires-2 c κs = search needs
 
 returns-3 : tie.Need-returns-3
 returns-3 c =
-    tells-same (zeroed-is _ _ (c .before .before .before .before .before .if1 .left) (told _ (c .before .before .before .are-all .ensures) (c .before .before .if2 .left))) (zeroed-rest _ (c .before .before .before .before .before .before .before .args .n)) (c .are-all2 .ensures)
+    tells-same
+    (zeroed-is _ _ (c .before .before .before .before .before .if1 .left)
+    (told _ (c .before .before .before .are-all .ensures) (c .before .before .if2 .left)))
+    (zeroed-rest _ (c .before .before .before .before .before .before .before .args .n)) (c .are-all2 .ensures)
 
 pub is-zeroed-spec : {M : Type 1} → statement M
 is-zeroed-spec =

@@ -18,7 +18,12 @@ same-length-2 : tie.Need-same-length-2
 same-length-2 c = search needs
 
 returns : tie.Need-returns
-returns c = tells-no (λ p. untold _ (c .before .is-answer .ensures) (c .if1 .taken) (answers-no _ _ _ _ _ _ _ _ (c .before .before .before .before .before .before .read-filled .ensures) (c .before .before .before .before .before .before .read-filled .kept .1 .0) (c .before .before .before .before .before .before .read-filled .kept .1 .1 .0) p))
+returns c =
+    tells-no
+    (λ p. untold _ (c .before .is-answer .ensures) (c .if1 .taken)
+    (answers-no _ _ _ _ _ _ _ _ (c .before .before .before .before .before .before .read-filled .ensures)
+    (c .before .before .before .before .before .before .read-filled .kept .1 .0)
+    (c .before .before .before .before .before .before .read-filled .kept .1 .1 .0) p))
 
 is-tree-requires : tie.Need-is-tree-requires
 is-tree-requires c κs = search needs
@@ -30,7 +35,13 @@ same-length-4 : tie.Need-same-length-4
 same-length-4 c = search needs
 
 returns-2 : tie.Need-returns-2
-returns-2 c = tells-no (λ p. untold _ (c .before .is-tree .ensures) (c .if2 .taken) (tree-no _ _ _ _ _ _ _ _ (c .before .before .before .before .before .before .before .before .before .read-filled .ensures) (c .before .before .before .before .before .before .before .before .before .read-filled .kept .1 .0) (c .before .before .before .before .before .before .before .before .before .read-filled .kept .1 .1 .0) p))
+returns-2 c =
+    tells-no
+    (λ p. untold _ (c .before .is-tree .ensures) (c .if2 .taken)
+    (tree-no _ _ _ _ _ _ _ _
+    (c .before .before .before .before .before .before .before .before .before .read-filled .ensures)
+    (c .before .before .before .before .before .before .before .before .before .read-filled .kept .1 .0)
+    (c .before .before .before .before .before .before .before .before .before .read-filled .kept .1 .1 .0) p))
 
 is-list-requires : tie.Need-is-list-requires
 is-list-requires c κs = search needs
@@ -44,8 +55,23 @@ same-length-6 c = search needs
 returns-3 : tie.Need-returns-3
 returns-3 c =
     tells-same
-    (agrees-yes _ _ _ _ _ _ _ _ (c .before .before .before .before .before .before .before .before .before .before .before .read-filled .ensures) (c .before .before .before .before .before .before .before .before .before .before .before .read-filled .kept .1 .0) (c .before .before .before .before .before .before .before .before .before .before .before .read-filled .kept .1 .1 .0) (told _ (c .before .before .before .before .before .before .is-answer .ensures) (c .before .before .before .before .before .if1 .left)) (told _ (c .before .before .before .is-tree .ensures) (c .before .before .if2 .left)))
-    (errors-no _ _ _ _ _ _ _ _ (c .before .before .before .before .before .before .before .before .before .before .before .read-filled .ensures) (c .before .before .before .before .before .before .before .before .before .before .before .read-filled .kept .1 .0) (c .before .before .before .before .before .before .before .before .before .before .before .read-filled .kept .1 .1 .0))
+    (agrees-yes _ _ _ _ _ _ _ _
+    (c .before .before .before .before .before .before .before .before .before .before .before .read-filled
+    .ensures)
+    (c .before .before .before .before .before .before .before .before .before .before .before .read-filled
+    .kept .1 .0)
+    (c .before .before .before .before .before .before .before .before .before .before .before .read-filled
+    .kept .1 .1 .0)
+    (told _ (c .before .before .before .before .before .before .is-answer .ensures)
+    (c .before .before .before .before .before .if1 .left))
+    (told _ (c .before .before .before .is-tree .ensures) (c .before .before .if2 .left)))
+    (errors-no _ _ _ _ _ _ _ _
+    (c .before .before .before .before .before .before .before .before .before .before .before .read-filled
+    .ensures)
+    (c .before .before .before .before .before .before .before .before .before .before .before .read-filled
+    .kept .1 .0)
+    (c .before .before .before .before .before .before .before .before .before .before .before .read-filled
+    .kept .1 .1 .0))
     (c .is-list .ensures)
 
 pub agrees-spec : {M : Type 1} → statement M

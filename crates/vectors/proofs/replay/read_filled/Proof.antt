@@ -20,7 +20,12 @@ same-length-2 : tie.Need-same-length-2
 same-length-2 c = search needs
 
 returns : tie.Need-returns
-returns c = did-read _ _ _ _ _ _ _ _ (c .before .before .before .before .before .before .before .before .before .before .before .before .before .fill .ensures) (c .before .before .before .before .before .before .before .before .before .fill2 .ensures) (c .before .before .before .before .read .ensures)
+returns c =
+    did-read _ _ _ _ _ _ _ _
+    (c .before .before .before .before .before .before .before .before .before .before .before .before .before .fill
+    .ensures)
+    (c .before .before .before .before .before .before .before .before .before .fill2 .ensures)
+    (c .before .before .before .before .read .ensures)
 
 pub read-filled-spec : {M : Type 1} → statement M
 read-filled-spec =

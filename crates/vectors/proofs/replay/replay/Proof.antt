@@ -74,7 +74,12 @@ same-length-3 : tie.Need-same-length-3
 same-length-3 c = search needs
 
 returns : tie.Need-returns
-returns c = was-replayed _ _ _ _ _ _ _ _ (c .before .before .before .before .before .before .before .before .before .before .before .before .before .before .before .before .before .before .before .before .pre) (c .before .before .before .before .before .before .before .before .before .before .before .before .repeat .ensures) (c .before .before .before .before .agrees .ensures)
+returns c =
+    was-replayed _ _ _ _ _ _ _ _
+    (c .before .before .before .before .before .before .before .before .before .before .before .before .before .before
+    .before .before .before .before .before .before .pre)
+    (c .before .before .before .before .before .before .before .before .before .before .before .before .repeat .ensures)
+    (c .before .before .before .before .agrees .ensures)
 
 pub replay-spec : {M : Type 1} → statement M
 replay-spec =

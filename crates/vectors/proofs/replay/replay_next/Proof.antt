@@ -36,16 +36,28 @@ returns-4 : tie.Need-returns-4
 returns-4 c = search needs
 
 mul-fetch : tie.Need-mul-fetch
-mul-fetch c = let f = told _ (c .before .before .before .before .before .before .before .before .has-room .ensures) (c .before .before .before .before .before .before .before .if3 .left) in omega arith
+mul-fetch c = let f =
+    told _ (c .before .before .before .before .before .before .before .before .has-room .ensures)
+    (c .before .before .before .before .before .before .before .if3 .left) in
+    omega arith
 
 mul-fetch-2 : tie.Need-mul-fetch-2
-mul-fetch-2 c = let f = told _ (c .before .before .before .before .before .before .before .before .before .has-room .ensures) (c .before .before .before .before .before .before .before .before .if3 .left) in omega arith
+mul-fetch-2 c = let f =
+    told _ (c .before .before .before .before .before .before .before .before .before .has-room .ensures)
+    (c .before .before .before .before .before .before .before .before .if3 .left) in
+    omega arith
 
 add-fetch : tie.Need-add-fetch
-add-fetch c = let f = told _ (c .before .before .before .before .before .before .before .before .before .has-room .ensures) (c .before .before .before .before .before .before .before .before .if3 .left) in omega arith
+add-fetch c = let f =
+    told _ (c .before .before .before .before .before .before .before .before .before .has-room .ensures)
+    (c .before .before .before .before .before .before .before .before .if3 .left) in
+    omega arith
 
 fetch-requires-2 : tie.Need-fetch-requires-2
-fetch-requires-2 c κs = let f = told _ (c .before .before .before .before .before .before .before .before .before .has-room .ensures) (c .before .before .before .before .before .before .before .before .if3 .left) in omega arith
+fetch-requires-2 c κs = let f =
+    told _ (c .before .before .before .before .before .before .before .before .before .has-room .ensures)
+    (c .before .before .before .before .before .before .before .before .if3 .left) in
+    omega arith
 
 same-length-2 : tie.Need-same-length-2
 same-length-2 c = search needs
@@ -58,11 +70,21 @@ returns-5 c = search needs
 
 replay-requires : tie.Need-replay-requires
 replay-requires c κs =
-    let f = told _ (c .before .before .before .before .before .before .before .before .before .before .before .before .before .before .before .before .before .has-room .ensures) (c .before .before .before .before .before .before .before .before .before .before .before .before .before .before .before .before .if3 .left) in
+    let f =
+    told _
+    (c .before .before .before .before .before .before .before .before .before .before .before .before .before
+    .before .before .before .before .has-room .ensures)
+    (c .before .before .before .before .before .before .before .before .before .before .before .before .before
+    .before .before .before .if3 .left) in
     record {
       short = f .short;
       stored = f .stored;
-      source = omega (arith, c .before .before .before .before .before .before .before .before .before .before .before .before .before .before .fetch .kept .1 .0);
+      source =
+          omega (
+            arith,
+            c .before .before .before .before .before .before .before .before .before .before .before .before .before
+                .before .fetch .kept .1 .0,
+          );
       tree = f .tree;
       errors = f .errors;
       marks = f .marks;

@@ -9,7 +9,8 @@ use Rattle.vectors.proofs.stored.case_of.Statement.{statement}
 use Rattle.vectors.proofs.stored.case_of.Tie as tie
 
 case-is : (h : List ℕ) {a b c d e f g i : ℕ}
-    → a ≡ longAt h 0 → b ≡ longAt h 4 → c ≡ longAt h 8 → d ≡ longAt h 12 → e ≡ longAt h 16 → f ≡ longAt h 20 → g ≡ longAt h 24 → i ≡ longAt h 28
+    → a ≡ longAt h 0 → b ≡ longAt h 4 → c ≡ longAt h 8 → d ≡ longAt h 12 → e ≡ longAt h 16 → f ≡ longAt h 20
+    → g ≡ longAt h 24 → i ≡ longAt h 28
     → _≡_ {A = Case} (record { stored = a; length = b; tree = c; errors = d; number = e; value = f; marks = g; faults = i }) (caseIn h)
 case-is h p0 p1 p2 p3 p4 p5 p6 p7 = rw (p0, p1, p2, p3, p4, p5, p6, p7)
 
@@ -59,7 +60,17 @@ cast-t32 : tie.Need-cast-t32
 cast-t32 c = fits-under _ _ _ (c .long8 .ok) tt
 
 returns : tie.Need-returns
-returns c = case-is (c .before .before .before .before .before .before .before .before .before .before .before .before .before .before .before .before .args .head .now) (c .before .before .before .before .before .before .before .before .before .before .before .before .before .before .long .ensures) (c .before .before .before .before .before .before .before .before .before .before .before .before .long2 .ensures) (c .before .before .before .before .before .before .before .before .before .before .long3 .ensures) (c .before .before .before .before .before .before .before .before .long4 .ensures) (c .before .before .before .before .before .before .long5 .ensures) (c .before .before .before .before .long6 .ensures) (c .before .before .long7 .ensures) (c .long8 .ensures)
+returns c =
+    case-is
+    (c .before .before .before .before .before .before .before .before .before .before .before .before .before .before
+    .before .before .args .head .now)
+    (c .before .before .before .before .before .before .before .before .before .before .before .before .before .before
+    .long .ensures)
+    (c .before .before .before .before .before .before .before .before .before .before .before .before .long2 .ensures)
+    (c .before .before .before .before .before .before .before .before .before .before .long3 .ensures)
+    (c .before .before .before .before .before .before .before .before .long4 .ensures)
+    (c .before .before .before .before .before .before .long5 .ensures)
+    (c .before .before .before .before .long6 .ensures) (c .before .before .long7 .ensures) (c .long8 .ensures)
 
 pub case-of-spec : {M : Type 1} → statement M
 case-of-spec =

@@ -10,7 +10,8 @@ use Rattle.vectors.proofs.stored.repeat.Tie as tie
 
 abbrev Inv-loop : tie.InvT-loop
 Inv-loop source₀ n i₀ source i =
-    (n ≤ i) × (length source ≡ length source₀) × (take n source ≡ take n source₀) × ((k : ℕ) → n ≤ k → k < i → k < length source → getD source k 0 ≡ getD source (k - n) 0)
+    (n ≤ i) × (length source ≡ length source₀) × (take n source ≡ take n source₀)
+    × ((k : ℕ) → n ≤ k → k < i → k < length source → getD source k 0 ≡ getD source (k - n) 0)
 
 abbrev μ-loop : tie.MeasureT-loop
 μ-loop source₀ n i₀ source i = length source₀ - i

@@ -18,7 +18,11 @@ same-length-2 : tie.Need-same-length-2
 same-length-2 c = search needs
 
 returns : tie.Need-returns
-returns c = tells-no (λ p. untold _ (c .before .is-answer .ensures) (c .if1 .taken) (text-answers-no _ _ _ _ _ _ (c .before .before .before .before .before .before .write-filled .ensures) (c .before .before .before .before .before .before .write-filled .kept .1 .1 .1 .1 .0) p))
+returns c =
+    tells-no
+    (λ p. untold _ (c .before .is-answer .ensures) (c .if1 .taken)
+    (text-answers-no _ _ _ _ _ _ (c .before .before .before .before .before .before .write-filled .ensures)
+    (c .before .before .before .before .before .before .write-filled .kept .1 .1 .1 .1 .0) p))
 
 mul-words : tie.Need-mul-words
 mul-words c = search needs
@@ -50,8 +54,18 @@ same-length-4 c = search needs
 returns-2 : tie.Need-returns-2
 returns-2 c =
     tells-same
-    (text-agrees _ _ _ _ _ _ (c .before .before .before .before .before .before .before .before .before .before .before .write-filled .ensures) (c .before .before .before .before .before .before .before .before .before .before .before .write-filled .kept .1 .1 .1 .1 .0) (told _ (c .before .before .before .before .before .before .is-answer .ensures) (c .before .before .before .before .before .if1 .left)))
-    (output-no _ _ _ _ _ _ (c .before .before .before .before .before .before .before .before .before .before .before .write-filled .ensures) (c .before .before .before .before .before .before .before .before .before .before .before .write-filled .kept .1 .1 .1 .1 .0))
+    (text-agrees _ _ _ _ _ _
+    (c .before .before .before .before .before .before .before .before .before .before .before .write-filled
+    .ensures)
+    (c .before .before .before .before .before .before .before .before .before .before .before .write-filled
+    .kept .1 .1 .1 .1 .0)
+    (told _ (c .before .before .before .before .before .before .is-answer .ensures)
+    (c .before .before .before .before .before .if1 .left)))
+    (output-no _ _ _ _ _ _
+    (c .before .before .before .before .before .before .before .before .before .before .before .write-filled
+    .ensures)
+    (c .before .before .before .before .before .before .before .before .before .before .before .write-filled
+    .kept .1 .1 .1 .1 .0))
     (c .is-text .ensures)
 
 pub agrees-text-spec : {M : Type 1} → statement M

@@ -11,7 +11,8 @@ use Rattle.vectors.proofs.texts.fill_bytes.Statement.{statement}
 use Rattle.vectors.proofs.texts.fill_bytes.Tie as tie
 
 abbrev Inv-loop : tie.InvT-loop
-Inv-loop output₀ i₀ output i = (i ≤ length output₀) × (output ≡ replicate i fillingByte ++ drop i output₀) × (length output ≡ length output₀)
+Inv-loop output₀ i₀ output i = (i ≤ length output₀) × (output ≡ replicate i fillingByte ++ drop i output₀)
+    × (length output ≡ length output₀)
 
 abbrev μ-loop : tie.MeasureT-loop
 μ-loop output₀ i₀ output i = length output₀ - i
@@ -31,8 +32,13 @@ loop-less c = omega arith
 loop-again : tie.Need-loop-again Inv-loop μ-loop
 loop-again c =
     let loop = c .before .loop in
-    let start = c .before .before .args .output .now in
-    (omega arith, ap (λ r. set r (loop .i) fillingByte) (loop .inv .1) ∙ fill-more (loop .i) fillingByte start (omega arith), length-set (loop .output) (loop .i) fillingByte ∙ loop .inv .2)
+    let start = c .before .before .args .output .now in (
+      omega arith,
+      ap (λ r. set r (loop .i) fillingByte) (loop .inv .1)
+          ∙ fill-more (loop .i) fillingByte start (omega arith),
+      length-set (loop .output) (loop .i) fillingByte
+          ∙ loop .inv .2,
+    )
 
 same-length : tie.Need-same-length Inv-loop μ-loop
 same-length c = omega arith
@@ -43,7 +49,9 @@ returns c =
     let loop = c .before .loop in
     let start = c .before .before .args .output .now in
     let e : loop .i ≡ length start = omega arith in
-    loop .inv .1 ∙ (ap (λ k. replicate k fillingByte ++ drop k start) e ∙ (ap (λ r. replicate (length start) fillingByte ++ r) (drop-length start) ∙ append-nil _))
+    loop .inv .1
+    ∙ (ap (λ k. replicate k fillingByte ++ drop k start) e
+    ∙ (ap (λ r. replicate (length start) fillingByte ++ r) (drop-length start) ∙ append-nil _))
 
 pub fill-bytes-spec : {M : Type 1} → statement M
 fill-bytes-spec =

@@ -40,7 +40,8 @@ are-filled-requires c κs = search needs
 returns-3 : tie.Need-returns-3
 returns-3 c =
     let start = c .before .before .before .before .before .before .before .before .args in
-    tells-same (text-is _ _ (told _ (c .before .before .before .are-same .ensures) (c .before .before .if2 .left))) (text-rest (start .output .now) (start .text .now)) (c .are-filled .ensures)
+    tells-same (text-is _ _ (told _ (c .before .before .before .are-same .ensures) (c .before .before .if2 .left)))
+    (text-rest (start .output .now) (start .text .now)) (c .are-filled .ensures)
 
 pub is-text-spec : {M : Type 1} → statement M
 is-text-spec =

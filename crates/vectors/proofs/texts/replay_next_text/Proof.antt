@@ -36,19 +36,34 @@ returns-4 : tie.Need-returns-4
 returns-4 c = search needs
 
 mul-fetch : tie.Need-mul-fetch
-mul-fetch c = let f = told _ (c .before .before .before .before .before .before .before .before .has-room-for .ensures) (c .before .before .before .before .before .before .before .if3 .left) in omega arith
+mul-fetch c = let f =
+    told _ (c .before .before .before .before .before .before .before .before .has-room-for .ensures)
+    (c .before .before .before .before .before .before .before .if3 .left) in
+    omega arith
 
 mul-fetch-2 : tie.Need-mul-fetch-2
-mul-fetch-2 c = let f = told _ (c .before .before .before .before .before .before .before .before .before .has-room-for .ensures) (c .before .before .before .before .before .before .before .before .if3 .left) in omega arith
+mul-fetch-2 c = let f =
+    told _ (c .before .before .before .before .before .before .before .before .before .has-room-for .ensures)
+    (c .before .before .before .before .before .before .before .before .if3 .left) in
+    omega arith
 
 add-fetch : tie.Need-add-fetch
-add-fetch c = let f = told _ (c .before .before .before .before .before .before .before .before .before .has-room-for .ensures) (c .before .before .before .before .before .before .before .before .if3 .left) in omega arith
+add-fetch c = let f =
+    told _ (c .before .before .before .before .before .before .before .before .before .has-room-for .ensures)
+    (c .before .before .before .before .before .before .before .before .if3 .left) in
+    omega arith
 
 add-fetch-2 : tie.Need-add-fetch-2
-add-fetch-2 c = let f = told _ (c .before .before .before .before .before .before .before .before .before .before .has-room-for .ensures) (c .before .before .before .before .before .before .before .before .before .if3 .left) in omega arith
+add-fetch-2 c = let f =
+    told _ (c .before .before .before .before .before .before .before .before .before .before .has-room-for .ensures)
+    (c .before .before .before .before .before .before .before .before .before .if3 .left) in
+    omega arith
 
 fetch-requires-2 : tie.Need-fetch-requires-2
-fetch-requires-2 c κs = let f = told _ (c .before .before .before .before .before .before .before .before .before .before .has-room-for .ensures) (c .before .before .before .before .before .before .before .before .before .if3 .left) in omega arith
+fetch-requires-2 c κs = let f =
+    told _ (c .before .before .before .before .before .before .before .before .before .before .has-room-for .ensures)
+    (c .before .before .before .before .before .before .before .before .before .if3 .left) in
+    omega arith
 
 same-length-2 : tie.Need-same-length-2
 same-length-2 c = search needs
@@ -61,10 +76,20 @@ returns-5 c = search needs
 
 replay-text-requires : tie.Need-replay-text-requires
 replay-text-requires c κs =
-    let f = told _ (c .before .before .before .before .before .before .before .before .before .before .before .before .before .before .before .before .before .before .has-room-for .ensures) (c .before .before .before .before .before .before .before .before .before .before .before .before .before .before .before .before .before .if3 .left) in
+    let f =
+    told _
+    (c .before .before .before .before .before .before .before .before .before .before .before .before .before
+    .before .before .before .before .before .has-room-for .ensures)
+    (c .before .before .before .before .before .before .before .before .before .before .before .before .before
+    .before .before .before .before .if3 .left) in
     record {
       stored = f .stored;
-      source = omega (arith, c .before .before .before .before .before .before .before .before .before .before .before .before .before .before .before .fetch .kept .1 .0);
+      source =
+          omega (
+            arith,
+            c .before .before .before .before .before .before .before .before .before .before .before .before .before
+                .before .before .fetch .kept .1 .0,
+          );
       tree = f .tree;
       middle = f .middle;
       output = f .output;

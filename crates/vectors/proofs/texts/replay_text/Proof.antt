@@ -77,7 +77,12 @@ same-length-3 : tie.Need-same-length-3
 same-length-3 c = search needs
 
 returns : tie.Need-returns
-returns c = was-rewritten _ _ _ _ _ _ _ _ (c .before .before .before .before .before .before .before .before .before .before .before .before .before .before .before .before .before .before .before .before .before .pre) (c .before .before .before .before .before .before .before .before .before .before .before .before .repeat .ensures) (c .before .before .before .before .agrees-text .ensures)
+returns c =
+    was-rewritten _ _ _ _ _ _ _ _
+    (c .before .before .before .before .before .before .before .before .before .before .before .before .before .before
+    .before .before .before .before .before .before .before .pre)
+    (c .before .before .before .before .before .before .before .before .before .before .before .before .repeat .ensures)
+    (c .before .before .before .before .agrees-text .ensures)
 
 pub replay-text-spec : {M : Type 1} → statement M
 replay-text-spec =

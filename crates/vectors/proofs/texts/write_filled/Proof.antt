@@ -20,7 +20,10 @@ same-length-2 : tie.Need-same-length-2
 same-length-2 c = search needs
 
 returns : tie.Need-returns
-returns c = did-write _ _ _ _ _ _ _ _ (c .before .before .before .before .before .before .before .before .before .before .before .lay-tree .ensures) (c .before .before .before .before .before .before .before .fill-bytes .ensures) (c .before .before .write .ensures)
+returns c =
+    did-write _ _ _ _ _ _ _ _
+    (c .before .before .before .before .before .before .before .before .before .before .before .lay-tree .ensures)
+    (c .before .before .before .before .before .before .before .fill-bytes .ensures) (c .before .before .write .ensures)
 
 pub write-filled-spec : {M : Type 1} → statement M
 write-filled-spec =

@@ -10,7 +10,8 @@ use Rattle.vectors.proofs.written.copy.Statement.{statement}
 use Rattle.vectors.proofs.written.copy.Tie as tie
 
 abbrev Inv-loop : tie.InvT-loop
-Inv-loop words₀ stored i₀ words i = (i ≤ length words₀) × (length words ≡ length words₀) × ((k : ℕ) → k < i → getD words k 0 ≡ longAt stored (4 * k))
+Inv-loop words₀ stored i₀ words i = (i ≤ length words₀) × (length words ≡ length words₀)
+    × ((k : ℕ) → k < i → getD words k 0 ≡ longAt stored (4 * k))
 
 abbrev μ-loop : tie.MeasureT-loop
 μ-loop words₀ stored i₀ words i = length words₀ - i
@@ -38,8 +39,12 @@ loop-less c = omega arith
 
 loop-again : tie.Need-loop-again Inv-loop μ-loop
 loop-again c =
-    let loop = c .before .before .loop in
-    (omega arith, length-set (loop .words) (loop .i) _ ∙ loop .inv .1, copied-more (loop .words) _ (loop .i) _ (omega arith) (loop .inv .2) (c .long .ensures))
+    let loop = c .before .before .loop in (
+      omega arith,
+      length-set (loop .words) (loop .i) _
+          ∙ loop .inv .1,
+      copied-more (loop .words) _ (loop .i) _ (omega arith) (loop .inv .2) (c .long .ensures),
+    )
 
 same-length : tie.Need-same-length Inv-loop μ-loop
 same-length c = omega arith

@@ -35,7 +35,10 @@ same-length : tie.Need-same-length
 same-length c = search needs
 
 returns : tie.Need-returns
-returns c = array-laid _ _ _ _ _ (c .before .before .before .before .before .before .before .before .before .before .pre .0) (c .before .before .before .before .before .before .before .before .before .before .pre .1) (c .before .before .before .before .before .before .copy .ensures) (c .before .before .fill .ensures)
+returns c =
+    array-laid _ _ _ _ _ (c .before .before .before .before .before .before .before .before .before .before .pre .0)
+    (c .before .before .before .before .before .before .before .before .before .before .pre .1)
+    (c .before .before .before .before .before .before .copy .ensures) (c .before .before .fill .ensures)
 
 pub lay-spec : {M : Type 1} → statement M
 lay-spec =

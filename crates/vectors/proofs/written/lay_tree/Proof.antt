@@ -62,7 +62,11 @@ same-length : tie.Need-same-length
 same-length c = search needs
 
 returns : tie.Need-returns
-returns c = tree-laid _ _ _ _ _ (c .before .before .before .before .before .before .before .before .before .before .before .before .before .before .pre) (c .before .before .before .before .before .before .before .lay .ensures) (c .before .before .lay2 .ensures)
+returns c =
+    tree-laid _ _ _ _ _
+    (c .before .before .before .before .before .before .before .before .before .before .before .before .before .before
+    .pre)
+    (c .before .before .before .before .before .before .before .lay .ensures) (c .before .before .lay2 .ensures)
 
 pub lay-tree-spec : {M : Type 1} → statement M
 lay-tree-spec =

@@ -12,8 +12,23 @@ use Rattle.vectors.proofs.written.written_of.Statement.{statement}
 use Rattle.vectors.proofs.written.written_of.Tie as tie
 
 written-is : (h : List ℕ) {a b c d e f g i j k l : ℕ}
-    → a ≡ longAt h 0 → b ≡ longAt h 4 → c ≡ longAt h 8 → d ≡ longAt h 12 → e ≡ longAt h 16 → f ≡ longAt h 20 → g ≡ longAt h 24 → i ≡ longAt h 28 → j ≡ longAt h 32 → k ≡ longAt h 36 → l ≡ longAt h 40
-    → _≡_ {A = Written} (record { stored = a; length = b; tree = c; middle = d; output = e; junk = eqb f 1; number = g; value = i; firsts = j; seconds = k; text = l }) (writtenIn h)
+    → a ≡ longAt h 0 → b ≡ longAt h 4 → c ≡ longAt h 8 → d ≡ longAt h 12 → e ≡ longAt h 16 → f ≡ longAt h 20
+    → g ≡ longAt h 24 → i ≡ longAt h 28 → j ≡ longAt h 32 → k ≡ longAt h 36 → l ≡ longAt h 40
+    → _≡_ {A = Written}
+    (record {
+      stored = a;
+      length = b;
+      tree = c;
+      middle = d;
+      output = e;
+      junk = eqb f 1;
+      number = g;
+      value = i;
+      firsts = j;
+      seconds = k;
+      text = l;
+    })
+    (writtenIn h)
 written-is h p0 p1 p2 p3 p4 p5 p6 p7 p8 p9 p10 = cc
 
 long-requires : tie.Need-long-requires
@@ -77,7 +92,23 @@ cast-t44 : tie.Need-cast-t44
 cast-t44 c = fits-under _ _ _ (c .long11 .ok) tt
 
 returns : tie.Need-returns
-returns c = written-is (c .before .before .before .before .before .before .before .before .before .before .before .before .before .before .before .before .before .before .before .before .before .before .args .head .now) (c .before .before .before .before .before .before .before .before .before .before .before .before .before .before .before .before .before .before .before .before .long .ensures) (c .before .before .before .before .before .before .before .before .before .before .before .before .before .before .before .before .before .before .long2 .ensures) (c .before .before .before .before .before .before .before .before .before .before .before .before .before .before .before .before .long3 .ensures) (c .before .before .before .before .before .before .before .before .before .before .before .before .before .before .long4 .ensures) (c .before .before .before .before .before .before .before .before .before .before .before .before .long5 .ensures) (c .before .before .before .before .before .before .before .before .before .before .long6 .ensures) (c .before .before .before .before .before .before .before .before .long7 .ensures) (c .before .before .before .before .before .before .long8 .ensures) (c .before .before .before .before .long9 .ensures) (c .before .before .long10 .ensures) (c .long11 .ensures)
+returns c =
+    written-is
+    (c .before .before .before .before .before .before .before .before .before .before .before .before .before .before
+    .before .before .before .before .before .before .before .before .args .head .now)
+    (c .before .before .before .before .before .before .before .before .before .before .before .before .before .before
+    .before .before .before .before .before .before .long .ensures)
+    (c .before .before .before .before .before .before .before .before .before .before .before .before .before .before
+    .before .before .before .before .long2 .ensures)
+    (c .before .before .before .before .before .before .before .before .before .before .before .before .before .before
+    .before .before .long3 .ensures)
+    (c .before .before .before .before .before .before .before .before .before .before .before .before .before .before
+    .long4 .ensures)
+    (c .before .before .before .before .before .before .before .before .before .before .before .before .long5 .ensures)
+    (c .before .before .before .before .before .before .before .before .before .before .long6 .ensures)
+    (c .before .before .before .before .before .before .before .before .long7 .ensures)
+    (c .before .before .before .before .before .before .long8 .ensures)
+    (c .before .before .before .before .long9 .ensures) (c .before .before .long10 .ensures) (c .long11 .ensures)
 
 pub written-of-spec : {M : Type 1} → statement M
 written-of-spec =

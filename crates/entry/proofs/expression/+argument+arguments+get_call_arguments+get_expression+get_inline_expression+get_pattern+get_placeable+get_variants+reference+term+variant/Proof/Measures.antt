@@ -78,7 +78,9 @@ abbrev pub get-call-arguments-at : ℕ → In 2 get-call-arguments-kinds.ps
 get-call-arguments-at t = and 2 get-call-arguments-kinds.ps (is 2 get-call-arguments-kinds.ps μ-get-call-arguments t) get-call-arguments.Pre
 
 abbrev pub get-call-arguments-below : ℕ → In 2 get-call-arguments-kinds.ps
-get-call-arguments-below t = and 2 get-call-arguments-kinds.ps (falls 2 get-call-arguments-kinds.ps _<_ μ-get-call-arguments t) get-call-arguments.Pre
+get-call-arguments-below t =
+    and 2 get-call-arguments-kinds.ps
+    (falls 2 get-call-arguments-kinds.ps _<_ μ-get-call-arguments t) get-call-arguments.Pre
 
 abbrev pub μ-get-expression : Measures 2 get-expression-kinds.ps ℕ
 μ-get-expression κs a = 4 * (length (a .0 .now) - a .1 .0) + 2
@@ -93,10 +95,14 @@ abbrev pub μ-get-inline-expression : Measures 2 get-inline-expression-kinds.ps 
 μ-get-inline-expression κs a = 4 * (length (a .0 .now) - a .1 .0) + 1
 
 abbrev pub get-inline-expression-at : ℕ → In 2 get-inline-expression-kinds.ps
-get-inline-expression-at t = and 2 get-inline-expression-kinds.ps (is 2 get-inline-expression-kinds.ps μ-get-inline-expression t) get-inline-expression.Pre
+get-inline-expression-at t =
+    and 2 get-inline-expression-kinds.ps
+    (is 2 get-inline-expression-kinds.ps μ-get-inline-expression t) get-inline-expression.Pre
 
 abbrev pub get-inline-expression-below : ℕ → In 2 get-inline-expression-kinds.ps
-get-inline-expression-below t = and 2 get-inline-expression-kinds.ps (falls 2 get-inline-expression-kinds.ps _<_ μ-get-inline-expression t) get-inline-expression.Pre
+get-inline-expression-below t =
+    and 2 get-inline-expression-kinds.ps
+    (falls 2 get-inline-expression-kinds.ps _<_ μ-get-inline-expression t) get-inline-expression.Pre
 
 abbrev pub μ-reference : Measures 2 reference-kinds.ps ℕ
 μ-reference κs a = 4 * (length (a .0 .now) - a .1 .0) + 0
