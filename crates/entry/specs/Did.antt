@@ -14,6 +14,7 @@ use Rattle.syntax.specs.Errors.{upFault, faultAt}
 use Rattle.syntax.specs.Marks.{Mark}
 use Rattle.syntax.specs.Reader.{Out, ok, bad, deep, Reader}
 use Rattle.syntax.specs.Kind.{closing}
+use Rattle.syntax.specs.Layout.{treeCapacity}
 use Rattle.entry.specs.Tree.{word, Step, wordsAt, Fits}
 use Rattle.entry.specs.Place.{Inside}
 use Rattle.entry.specs.declared.helper.Place.{Place}
@@ -51,22 +52,22 @@ pub record Did {A R : Type 0} (w : Says A R) (cap at n : ℕ) (t t′ : List ℕ
 -- what a reader asks: the marks so far and k more are at most eight a byte, and there is room for eight a byte
 pub record Room (s t : List ℕ) (cap at n k : ℕ) : Type 0 where
   pub inside : at ≤ length s
-  pub spent : n + k ≤ 8 * at
+  pub spent : n + k ≤ treeCapacity at
   pub short : length s ≤ maxLength
-  pub holds : 8 * length s ≤ cap
+  pub holds : treeCapacity (length s) ≤ cap
   pub layout : 2 + 2 * cap ≤ length t
 
 -- the same of a reader of an entry, whose opening mark stands already
 pub record Entered (s t : List ℕ) (cap at n : ℕ) : Type 0 where
   pub inside : at ≤ length s
-  pub spent : n ≤ 8 * at + 1
+  pub spent : n ≤ treeCapacity at + 1
   pub short : length s ≤ maxLength
-  pub holds : 8 * length s ≤ cap
+  pub holds : treeCapacity (length s) ≤ cap
   pub layout : 2 + 2 * cap ≤ length t
 
 -- where a reader's result lies: inside the source, past `at`; its marks and c more are at most eight for each byte that was used
 abbrev pub Lies : ℕ → List ℕ → ℕ → ℕ → Read → Type 0
-Lies c s at n (Ok a m) = (at ≤ a) × (a ≤ length s) × (n ≤ m) × (m + c + 8 * at ≤ n + 8 * a)
+Lies c s at n (Ok a m) = (at ≤ a) × (a ≤ length s) × (n ≤ m) × (m + c + treeCapacity at ≤ n + treeCapacity a)
 Lies c s at n (Bad f k) = k ≤ length s
 Lies c s at n (Deep k) = Unit {0}
 

@@ -6,6 +6,8 @@ ghost use mathlib.Core.Path.{_≡_};
 ghost use mathlib.Core.List.{[], _∷_, map};
 ghost use lib.ListN.{length, drop};
 ghost use Rattle.syntax.specs.Limits.{maxLength};
+ghost use Rattle.syntax.specs.Byte as Byte;
+ghost use Rattle.syntax.specs.Kind as Kind;
 ghost use Rattle.syntax.specs.Bytes.{startsWith, spaces};
 ghost use Rattle.syntax.specs.Pattern.{goesOn, getTextSlice, withText, textTurn};
 ghost use Rattle.entry.specs.Tree.{word, marksIn, Step, Fits};
@@ -238,7 +240,7 @@ fn put_element(
     requires { ⌜ Fits (now tree) cap n 2 ⌝ }
     requires { ⌜ (start < 2 ^ 32) × (end < 2 ^ 32) ⌝ }
     ensures { λ r. ⌜
-        (r ≡ n + 2) × Step cap n (now (tree .entry)) (now (tree .exit)) (word (opening line) start ∷ word 112 end ∷ [])
+        (r ≡ n + 2) × Step cap n (now (tree .entry)) (now (tree .exit)) (word (opening line) start ∷ word (Kind.closing Kind.text) end ∷ [])
         ⌝ }
 {
     let m = put(tree, cap, n, opening_kind(line), start);
@@ -319,7 +321,7 @@ fn get_text(source: &[u8], st: Reading, indent: usize, tree: &mut [u32], cap: us
 // What stands at a place of a pattern where no placeable starts.
 pub fn text_turn(source: &[u8], st: Reading, tree: &mut [u32], cap: usize) -> TextTurn
     requires { ⌜ Room (now source) (now tree) cap (st .at) (st .n) 1 ⌝ }
-    requires { ⌜ (st .at < length (now source)) × (startsWith 123 (drop (st .at) (now source)) ≡ false) ⌝ }
+    requires { ⌜ (st .at < length (now source)) × (startsWith Byte.openBrace (drop (st .at) (now source)) ≡ false) ⌝ }
     ensures { λ r. ⌜
         TextDid (now (source .entry)) cap (now (tree .entry)) (now (tree .exit)) st
         (λ d. textTurn d (drop (st .at) (now (source .entry)))) r

@@ -283,7 +283,7 @@ module _ {s t e : List ℕ} {x : State} (h : Held s t e x) (l : x .at < length s
       within : Uses 6 (drop (x .at) s) (g .ms) (g .k)
       within = ok-uses (entry-bounds (level-bounds maxOpen)) (drop (x .at) s) (g .is)
 
-      pub entry-inside : end ≤ length s
+      entry-inside : end ≤ length s
       entry-inside = omega (arith, within .within, g .place, length-drop (x .at) s)
 
       pub entry-room : (x .marks < m) × (m + 1 ≤ 8 * length s)

@@ -1,11 +1,13 @@
 -- A file that is read part way, and what its loop's functions do to the lent slices.
-use Prim.Native.Nat.{ℕ, suc, _+_, _-_, _*_, _≤_, _<_}
+use Prim.Native.Nat.{ℕ, suc, _+_, _-_, _≤_, _<_}
 use mathlib.Core.Path.{_≡_}
 use mathlib.Core.List.{List, [], _∷_, _++_}
 use mathlib.Core.Bool.{Bool, true, false}
 use lib.Dec.{eqb, ltb}
 use lib.ListN.{length, drop, set}
 use Rattle.syntax.specs.Limits.{maxOpen}
+use Rattle.syntax.specs.Kind as Kind
+use Rattle.syntax.specs.Layout.{treeCapacity}
 use Rattle.syntax.specs.declared.errors.ParserError.{ParserError}
 use Rattle.syntax.specs.Marks.{Mark, node}
 use Rattle.syntax.specs.Helper.{skipBlankBlock}
@@ -37,7 +39,7 @@ Attachable t (At i) n = (i < n) × (n + 1 < length t)
 Attachable t None n = Unit {0}
 
 abbrev pub attached : LastComment → ℕ → List ℕ → List ℕ
-attached (At i) n t = set (set t (i + 2) 6) (n - 1 + 2) 106
+attached (At i) n t = set (set t (i + 2) Kind.attachedComment) (n - 1 + 2) (Kind.closing Kind.attachedComment)
 attached None n t = t
 
 -- ---- after an entry that ends at k: past the blank lines
@@ -58,11 +60,11 @@ pub record Troubled (s t e : List ℕ) (x : State) (k : ℕ) : Type 0 where
   pub sized : Sized s t e
   pub inside : k ≤ length s
   pub here : x .at < length s
-  pub marks : x .marks ≤ 8 * x .at
+  pub marks : x .marks ≤ treeCapacity (x .at)
   pub errors : x .errors ≤ x .at
 
 pub record Junked (s t t′ e e′ : List ℕ) (x : State) (f : ParserError) (k : ℕ) (r : State) : Type 0 where
-  pub tree : Step (8 * length s) (x .marks) t t′ (word 7 (x .at) ∷ word 107 (junkTill k s) ∷ [])
+  pub tree : Step (treeCapacity (length s)) (x .marks) t t′ (word Kind.junk (x .at) ∷ word (Kind.closing Kind.junk) (junkTill k s) ∷ [])
   pub list : ErrorStep (length s) (x .errors) e e′ (withJunk f (x .at) (junkTill k s) ∷ [])
   pub moved : Moved s (junkTill k s) (x .marks + 2) (x .errors + 1) None r
 
@@ -87,11 +89,11 @@ pub record Held (s t e : List ℕ) (x : State) : Type 0 where
   pub starts : x .at < length s → lineStartsAt (x .at) s ≡ true
   pub marks : Bool → List Mark
   pub faults : List Error
-  pub room : x .marks ≤ 8 * x .at
+  pub room : x .marks ≤ treeCapacity (x .at)
   pub few : x .errors ≤ x .at
   pub counted : x .marks ≡ length (marks false)
   pub listed : x .errors ≡ length faults
-  pub tree : Step (8 * length s) 0 t t (wordsAt 0 (marks false))
+  pub tree : Step (treeCapacity (length s)) 0 t t (wordsAt 0 (marks false))
   pub list : ErrorStep (length s) 0 e e faults
   pub pending : Pending (x .comment) marks
   pub answer : parse maxOpen s ≡ following (marks (isNamed (getEntry (level maxOpen) (drop (x .at) s)))) faults (x .at)
@@ -101,7 +103,7 @@ pub record Held (s t e : List ℕ) (x : State) : Type 0 where
 
 -- the words past the layouts are as they were
 pub record Framed (s t t′ e e′ : List ℕ) : Type 0 where
-  pub tree : Step (8 * length s) 0 t t′ []
+  pub tree : Step (treeCapacity (length s)) 0 t t′ []
   pub list : ErrorStep (length s) 0 e e′ []
 
 abbrev pub Turned : (s t t′ e e′ : List ℕ) → State → EntryTurn → Type 0
