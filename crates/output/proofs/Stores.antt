@@ -4,8 +4,8 @@ use native.Mathlib.Nat.{add-zero, add-suc, suc-add, zero-add}
 use native.Mathlib.Omega.{arith}
 use mathlib.Core.Path.{_≡_, refl, sym, ap, ap₂, _∙_}
 use mathlib.Core.List.{List, [], _∷_, _++_, append-nil}
-use lib.ListN.{length, take, drop, set, getD, replicate, length-set, length-drop}
-use lib.Seq.{sets, sets-eq, set-set, set-comm, set-out, length-take-le, take-nil, take-add, drop-cons, getD-drop}
+use lib.ListN.{length, take, drop, set, getD, replicate, length-set, length-replicate, replicate-append-replicate, length-drop}
+use lib.Seq.{sets, sets-eq, set-set, set-comm, set-out, length-take-le, take-nil, take-add, drop-cons, length-sets, getD-drop}
 use Rattle.laws.specs.Sets.{sets-append}
 use Rattle.output.specs.Put.{block}
 
@@ -32,6 +32,22 @@ pub sets-one : (l : List ℕ) (i : ℕ) (xs : List ℕ) (n : ℕ) → n < length
     → set (sets l i (take n xs)) (i + n) (getD xs n 0) ≡ sets l i (take (n + 1) xs)
 sets-one l i xs n h =
     ap (λ t. sets (sets l i (take n xs)) (i + n) (take 1 t)) (sym (drop-cons xs n 0 h)) ∙ sets-more l i xs n 1 (omega arith)
+
+-- spaces: one more, and as many as there is room for
+pub sets-repeat : (l : List ℕ) (i b n : ℕ) → set (sets l i (replicate n b)) (i + n) b ≡ sets l i (replicate (n + 1) b)
+sets-repeat l i b n =
+    ap (λ k. set (sets l i (replicate n b)) (i + k) b) (sym (length-replicate n b))
+    ∙ sets-append l i (replicate n b) (b ∷ [])
+    ∙ ap (λ t. sets l i t) (replicate-append-replicate n 1 b)
+
+pub sets-repeat-room : (l : List ℕ) (i b n m : ℕ) → length l ≡ i + n → n ≤ m → sets l i (replicate n b) ≡ sets l i (replicate m b)
+sets-repeat-room l i b n m e h =
+    let more : n + (m - n) ≡ m = omega arith in
+    sym
+    (ap (λ k. sets l i (replicate k b)) (sym more)
+    ∙ ap (λ t. sets l i t) (sym (replicate-append-replicate n (m - n) b))
+    ∙ sym (sets-append l i (replicate n b) (replicate (m - n) b))
+    ∙ sets-past (sets l i (replicate n b)) (i + length (replicate n b)) (replicate (m - n) b) (omega (arith, length-sets l i (replicate n b), length-replicate n b)))
 
 -- the first n, and then all from the kth on again
 set-sets : (l : List ℕ) (i a j : ℕ) (xs : List ℕ) → i < j → set (sets l j xs) i a ≡ sets (set l i a) j xs

@@ -1,9 +1,10 @@
 // Bytes and texts.
-ghost use Prim.Native.Nat.{_+_, _-_, _≤_};
+ghost use Prim.Native.Nat.{_+_, _≤_};
 ghost use mathlib.Core.Path.{_≡_};
 ghost use mathlib.Core.List.{[], _∷_};
-ghost use lib.ListN.{length, take, drop};
+ghost use lib.ListN.{length, take, drop, replicate};
 ghost use lib.Seq.{sets};
+ghost use Rattle.syntax.specs.Byte as Byte;
 ghost use Rattle.output.specs.Put.{Put, counted, block};
 
 // How many bytes are stored at a time, which a compiler takes as one.
@@ -19,19 +20,9 @@ fn count_on(at: usize, count: usize) -> usize
     at + count
 }
 
-// How many bytes an output of a length has from a place on.
-fn room_at(length: usize, at: usize) -> usize
-    ensures { λ r. ⌜ r ≡ length - at ⌝ }
-{
-    if length < at {
-        return 0;
-    }
-    length - at
-}
-
 // Stores bytes for which there is room.
 fn store(output: &mut [u8], at: usize, item: &[u8])
-    requires { ⌜ length (now item) ≤ length (now output) - at ⌝ }
+    requires { ⌜ at + length (now item) ≤ length (now output) ⌝ }
     ensures { λ _. ⌜ now (output .exit) ≡ sets (now (output .entry)) at (now (item .entry)) ⌝ }
 {
     let mut i = 0;
@@ -57,7 +48,7 @@ fn block_at(item: &[u8], at: usize) -> [u8; BLOCK]
 // Like store, a block at a time. The last block may lie in part over the one before it.
 fn store_blocks(output: &mut [u8], at: usize, item: &[u8])
     requires { ⌜ block ≤ length (now item) ⌝ }
-    requires { ⌜ length (now item) ≤ length (now output) - at ⌝ }
+    requires { ⌜ at + length (now item) ≤ length (now output) ⌝ }
     ensures { λ _. ⌜ now (output .exit) ≡ sets (now (output .entry)) at (now (item .entry)) ⌝ }
 {
     let last = item.len() - BLOCK;
@@ -75,7 +66,10 @@ fn store_blocks(output: &mut [u8], at: usize, item: &[u8])
 fn store_part(output: &mut [u8], at: usize, item: &[u8])
     ensures { λ _. ⌜ now (output .exit) ≡ sets (now (output .entry)) at (now (item .entry)) ⌝ }
 {
-    let room = room_at(output.len(), at);
+    if output.len() <= at {
+        return;
+    }
+    let room = output.len() - at;
     if room < item.len() {
         store(output, at, &item[0..room]);
         return;
@@ -87,11 +81,41 @@ fn store_part(output: &mut [u8], at: usize, item: &[u8])
 fn store_text(output: &mut [u8], at: usize, text: &[u8])
     ensures { λ _. ⌜ now (output .exit) ≡ sets (now (output .entry)) at (now (text .entry)) ⌝ }
 {
-    if text.len() < BLOCK || room_at(output.len(), at) < text.len() {
+    if output.len() <= at {
+        return;
+    }
+    if text.len() < BLOCK || output.len() - at < text.len() {
         store_part(output, at, text);
         return;
     }
     store_blocks(output, at, text);
+}
+
+// Stores spaces for which there is room.
+fn store_spaces(output: &mut [u8], at: usize, count: usize)
+    requires { ⌜ at + count ≤ length (now output) ⌝ }
+    ensures { λ _. ⌜ now (output .exit) ≡ sets (now (output .entry)) at (replicate count Byte.space) ⌝ }
+{
+    let mut i = 0;
+    while i < count {
+        output[at + i] = b' ';
+        i += 1;
+    }
+}
+
+// Stores as many of them as there is room for.
+fn store_spaces_part(output: &mut [u8], at: usize, count: usize)
+    ensures { λ _. ⌜ now (output .exit) ≡ sets (now (output .entry)) at (replicate count Byte.space) ⌝ }
+{
+    if output.len() <= at {
+        return;
+    }
+    let room = output.len() - at;
+    if room < count {
+        store_spaces(output, at, room);
+        return;
+    }
+    store_spaces(output, at, count);
 }
 
 // One byte.
@@ -118,4 +142,12 @@ pub fn put_text(output: &mut [u8], at: usize, text: &[u8]) -> usize
 {
     store_text(output, at, text);
     count_on(at, text.len())
+}
+
+// Spaces.
+pub fn put_spaces(output: &mut [u8], at: usize, count: usize) -> usize
+    ensures { λ r. ⌜ Put (now (output .entry)) (now (output .exit)) at r (replicate count Byte.space) ⌝ }
+{
+    store_spaces_part(output, at, count);
+    count_on(at, count)
 }

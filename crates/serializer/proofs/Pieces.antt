@@ -1,5 +1,5 @@
 -- Pieces written one after another.
-use Prim.Native.Nat.{ℕ, _+_, _-_, _*_, _^_, _≤_, _<_}
+use Prim.Native.Nat.{ℕ, zero, suc, _+_, _-_, _*_, _^_, _≤_, _<_}
 use native.Mathlib.Nat.{add-zero}
 use native.Mathlib.Numerals.{add-one}
 use native.Mathlib.Omega.{arith}
@@ -15,6 +15,7 @@ use Rattle.syntax.specs.Byte as Byte
 use Rattle.syntax.specs.Bytes.{ascii}
 use Rattle.syntax.specs.Marks.{Mark}
 use Rattle.syntax.specs.Serializer.{Piece, lastOf, _⊕_, empty, indentWidth, literal, newline, indented, star, if, blankLine, comment, freeComment}
+use Rattle.output.specs.Put.{Put}
 use Rattle.serializer.specs.declared.writer.TextWriter.{TextWriter}
 use Rattle.serializer.specs.Writer.{textAt, bytes, Room, Wrote}
 use Rattle.serializer.specs.Comment.{lineOf}
@@ -37,6 +38,11 @@ wrote-none {w = w} = record { stored = refl; end = sym (add-zero (w .at)); endin
 -- the output stays as long as it is
 pub wrote-length : {o o′ : List ℕ} {w w′ : TextWriter} {p : Piece} → Wrote o o′ w w′ p → length o′ ≡ length o
 wrote-length {o} {w = w} {p = p} h = ap length (h .stored) ∙ length-sets o (w .at) (textAt w p)
+
+-- bytes that were put, and the writer past them
+pub wrote-put : {o o′ : List ℕ} {w w′ : TextWriter} {a : ℕ} (t : List ℕ) → Put o o′ (w .at) a t
+    → w′ ≡ (record { at = w .at + length t; last = lastOf (w .last) t; indent = w .indent }) → Wrote o o′ w w′ (bytes t)
+wrote-put t e f = record { stored = e .stored; end = ap (λ z. z .at) f; ending = ap (λ z. z .last) f; level = ap (λ z. z .indent) f }
 
 -- another piece with the same bytes here
 pub wrote-as : {o o′ : List ℕ} {w w′ : TextWriter} {p : Piece} (q : Piece) → textAt w p ≡ textAt w q → Wrote o o′ w w′ p → Wrote o o′ w w′ q
@@ -68,14 +74,24 @@ pub room-before : (w : TextWriter) (p q : Piece) → Room w (p ⊕ q) → Room w
 unfolding _⊕_
 room-before w p q r = omega (arith, length-append (textAt w p) (q (w .indent) (lastOf (w .last) (textAt w p))))
 
--- one level more of indent
-pub wrote-level : {o o₁ o₂ : List ℕ} {w w₁ w₂ : TextWriter} (n : ℕ) → Wrote o o₁ w w₁ (bytes (replicate (indentWidth * n) Byte.space))
-    → Wrote o₁ o₂ w₁ w₂ (bytes (replicate indentWidth Byte.space)) → Wrote o o₂ w w₂ (bytes (replicate (indentWidth * (n + 1)) Byte.space))
-unfolding _⊕_
-wrote-level n h k =
-    let more : indentWidth * n + indentWidth ≡ indentWidth * (n + 1) = omega arith in
-    let spaces = replicate-append-replicate (indentWidth * n) indentWidth Byte.space ∙ ap (λ m. replicate m Byte.space) more in
-    wrote-as (bytes (replicate (indentWidth * (n + 1)) Byte.space)) spaces (wrote-then h (bytes (replicate indentWidth Byte.space)) k)
+-- the spaces of an indent
+spaces-last : (b n : ℕ) → 1 ≤ n → lastOf b (replicate n Byte.space) ≡ Byte.space
+unfolding lastOf
+spaces-last b zero h = absurd (omega arith)
+spaces-last b (suc zero) h = refl
+spaces-last b (suc (suc n)) h = spaces-last Byte.space (suc n) (omega arith)
+
+pub wrote-spaces : {o o′ : List ℕ} {w w′ : TextWriter} {a : ℕ} → 1 ≤ w .indent → Put o o′ (w .at) a (replicate (indentWidth * w .indent) Byte.space)
+    → w′ ≡ (record { at = w .at + indentWidth * w .indent; last = Byte.space; indent = w .indent })
+    → Wrote o o′ w w′ (bytes (replicate (indentWidth * w .indent) Byte.space))
+wrote-spaces {w = w} h e f =
+    let width = indentWidth * w .indent in
+    record {
+      stored = e .stored;
+      end = ap (λ z. z .at) f ∙ ap (λ n. w .at + n) (sym (length-replicate width Byte.space));
+      ending = ap (λ z. z .last) f ∙ sym (spaces-last (w .last) width (omega arith));
+      level = ap (λ z. z .indent) f;
+    }
 
 -- the bytes of a line end, and of a literal, where the writer stands
 module _ (w : TextWriter) where

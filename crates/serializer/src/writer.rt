@@ -8,6 +8,7 @@ ghost use Rattle.syntax.specs.Serializer.{lastOf, literal, newline, star, inden
 ghost use Rattle.serializer.specs.Writer.{begun, bytes, Room, Wrote};
 use output::text::put;
 use output::text::put_bytes;
+use output::text::put_spaces;
 use output::text::put_text;
 
 // The bytes that the last byte is compared with.
@@ -15,8 +16,10 @@ const LINE_FEED: usize = 10;
 
 const CARRIAGE_RETURN: usize = 13;
 
-// A level of indent.
-const INDENT: [u8; 4] = *b"    ";
+const SPACE: usize = 32;
+
+// The spaces of a level of indent.
+const INDENT_WIDTH: usize = 4;
 
 // How many bytes have been written, the last of them (0 at the start), and the indent level. The byte is as wide as the others:
 // the writer is copied at every call, and faster without padding.
@@ -85,9 +88,29 @@ impl TextWriter {
         requires { ⌜ self .at + 1 < 2 ^ 63 ⌝ }
         ensures { λ r. ⌜ Wrote (now (output .entry)) (now (output .exit)) self r (bytes (byte ∷ [])) ⌝ }
     {
+        let at = self.at;
+        put(output, at, byte);
         TextWriter {
-            at: put(output, self.at, byte),
+            at: at + 1,
             last: byte as usize,
+            indent: self.indent,
+        }
+    }
+
+    // Past bytes that are put. Their count fits, so the sum is told without output's test of that.
+    fn after(self, item: &[u8]) -> Self
+        requires { ⌜ self .at + length (now item) < 2 ^ 63 ⌝ }
+        ensures { λ r. ⌜
+            r ≡ (record {
+              at = self .at + length (now (item .entry));
+              last = lastOf (self .last) (now (item .entry));
+              indent = self .indent;
+            })
+            ⌝ }
+    {
+        TextWriter {
+            at: self.at + item.len(),
+            last: last_of(self.last, item),
             indent: self.indent,
         }
     }
@@ -98,11 +121,9 @@ impl TextWriter {
             Wrote (now (output .entry)) (now (output .exit)) self r (bytes (now (item .entry)))
             ⌝ }
     {
-        TextWriter {
-            at: put_bytes(output, self.at, item),
-            last: last_of(self.last, item),
-            indent: self.indent,
-        }
+        let at = self.at;
+        put_bytes(output, at, item);
+        self.after(item)
     }
 
     fn write_indent(self, output: &mut [u8]) -> Self
@@ -112,13 +133,18 @@ impl TextWriter {
             (bytes (replicate (indentWidth * self .indent) Byte.space))
             ⌝ }
     {
-        let mut w = self;
-        let mut i = 0;
-        while i < self.indent {
-            w = w.write_bytes(output, &INDENT);
-            i += 1;
+        let indent = self.indent;
+        if indent == 0 {
+            return self;
         }
-        w
+        let at = self.at;
+        let width = INDENT_WIDTH * indent;
+        put_spaces(output, at, width);
+        TextWriter {
+            at: at + width,
+            last: SPACE,
+            indent,
+        }
     }
 
     // The indent, where a line begins.
@@ -158,11 +184,9 @@ impl TextWriter {
         ensures { λ r. ⌜ Wrote (now (output .entry)) (now (output .exit)) self r (literal (now (text .entry))) ⌝ }
     {
         let w = self.begin_line(output);
-        TextWriter {
-            at: put_text(output, w.at, text),
-            last: last_of(w.last, text),
-            indent: w.indent,
-        }
+        let at = w.at;
+        put_text(output, at, text);
+        w.after(text)
     }
 
     // The Rust's write_char_into_indent with '*', after a line end: the last space of the indent is replaced.

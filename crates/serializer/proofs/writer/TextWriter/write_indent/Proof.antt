@@ -1,63 +1,34 @@
--- `TextWriter::write_indent` meets its contract: in the loop the levels so far have been written.
-use Prim.Native.Nat.{_*_, _-_, _≤_}
+-- `TextWriter::write_indent` meets its contract.
+use Prim.Native.Nat.{_*_}
 use native.Mathlib.Omega.{arith}
-use mathlib.Core.Path.{_≡_, refl}
-use lib.ListN.{replicate, length-replicate}
+use mathlib.Core.Path.{refl, sym, ap}
+use lib.ListN.{replicate}
+use borrow.Author.Needs.{needs}
 use Rattle.syntax.specs.Byte as Byte
 use Rattle.syntax.specs.Serializer.{indentWidth}
-use Rattle.serializer.specs.Writer.{bytes, Wrote}
-use Rattle.serializer.proofs.Pieces.{wrote-none, wrote-length, wrote-level}
+use Rattle.serializer.specs.Writer.{bytes}
+use Rattle.serializer.proofs.Pieces.{wrote-none, wrote-as, wrote-spaces}
 use Rattle.serializer.proofs.writer.TextWriter.write_indent.Statement.{statement}
 use Rattle.serializer.proofs.writer.TextWriter.write_indent.Tie as tie
 
-abbrev Inv-loop : tie.InvT-loop
-Inv-loop self output₀ w₀ i₀ t5 output w i =
-    (i ≤ self .indent) × Wrote output₀ output self w (bytes (replicate (indentWidth * i) Byte.space))
+returns : tie.Need-returns
+returns c = wrote-as (bytes (replicate (indentWidth * c .before .before .args .self .indent) Byte.space)) (ap (λ n. replicate (indentWidth * n) Byte.space) (sym (c .if1 .taken))) wrote-none
 
-abbrev μ-loop : tie.MeasureT-loop
-μ-loop self output₀ w₀ i₀ t5 output w i = self .indent - i
+mul-width : tie.Need-mul-width
+mul-width c = search needs
 
-loop-holds : tie.Need-loop-holds Inv-loop μ-loop
-loop-holds c = (omega arith, wrote-none)
+put-spaces-requires : tie.Need-put-spaces-requires
+put-spaces-requires c κs = search needs
 
-slice-aggregate-write-bytes : tie.Need-slice-aggregate-write-bytes Inv-loop μ-loop
-slice-aggregate-write-bytes c = refl
+add-t7 : tie.Need-add-t7
+add-t7 c = search needs
 
-write-bytes-requires : tie.Need-write-bytes-requires Inv-loop μ-loop
-write-bytes-requires c κs =
-    let loop = c .before .before .before .before .loop in
-    omega (arith, c .before .before .before .before .before .before .pre, loop .inv .1 .end, length-replicate (indentWidth * loop .i) Byte.space)
+same-length : tie.Need-same-length
+same-length c = search needs
 
-add-i : tie.Need-add-i Inv-loop μ-loop
-add-i c = omega arith
-
-loop-less : tie.Need-loop-less Inv-loop μ-loop
-loop-less c = omega arith
-
-loop-again : tie.Need-loop-again Inv-loop μ-loop
-loop-again c =
-    let loop = c .before .before .before .before .before .before .before .loop in
-    (omega arith, wrote-level (loop .i) (loop .inv .1) (c .before .before .write-bytes .ensures))
-
-same-length : tie.Need-same-length Inv-loop μ-loop
-same-length c = wrote-length (c .before .before .loop .inv .1)
-
-returns : tie.Need-returns Inv-loop μ-loop
-returns c =
-    let e : c .before .before .loop .i ≡ c .before .before .before .before .args .self .indent = omega arith in
-    rw e at (c .before .before .loop .inv .1)
+returns-2 : tie.Need-returns-2
+returns-2 c = wrote-spaces (omega arith) (c .before .before .put-spaces .ensures) refl
 
 pub write-indent-spec : {M : Type 1} → statement M
 write-indent-spec =
-    tie.close
-    (tie.spec
-    Inv-loop
-    μ-loop
-    loop-holds
-    slice-aggregate-write-bytes
-    write-bytes-requires
-    add-i
-    loop-less
-    loop-again
-    same-length
-    returns)
+    tie.close (tie.spec returns mul-width put-spaces-requires add-t7 same-length returns-2)
