@@ -14,7 +14,7 @@ use Rattle.syntax.specs.Layout.{count, marksIn}
 use Rattle.syntax.specs.Serializer.{Piece, nodes, resource, serialize}
 use Rattle.syntax.specs.Tests.{refusal}
 use Rattle.syntax.specs.Writing.{textAnswer, writeAnswer, outputAfter}
-use Rattle.laws.specs.Tests.{passes, refusal-keeps}
+use Rattle.laws.specs.Tests.{Passes, passes, refusal-keeps}
 use Rattle.laws.specs.Sets.{sets-nothing, sets-first}
 use Rattle.laws.specs.Text.Length.{text-short}
 use Rattle.tree.specs.declared.test.Tested.the-variants.{Refused, Passed}
@@ -23,7 +23,7 @@ use Rattle.tree.proofs.Sizes.{sizes, no-mark}
 use Rattle.tree.proofs.Tests.{refusal-of, none-of}
 use Rattle.serializer.specs.declared.writer.TextWriter.{TextWriter}
 use Rattle.serializer.specs.Writer.{begun, Room, Wrote}
-use Rattle.serializer.specs.Call.{Writable, DidWriteInto, DidWrite}
+use Rattle.serializer.specs.Call.{DidWriteInto, DidWrite}
 
 -- the writing of a tree that is well formed
 module _ (s t : List ℕ) (junk : Bool) where
@@ -33,7 +33,7 @@ module _ (s t : List ℕ) (junk : Bool) where
   abbrev text : List ℕ
   text = serialize s junk (marksIn t)
 
-  pub roomy : Writable s t → Room begun piece
+  pub roomy : Passes s t → Room begun piece
   unfolding serialize
   roomy z =
       let fit = sizes t (z .sizes) in
@@ -76,5 +76,5 @@ module _ (s t o : List ℕ) (junk : Bool) where
   unfolding writeAnswer outputAfter
   passed e o′ r d = let q = none-of (refusal s t) e in record { answers = rw (q, writeAnswer) (d .answers); output = rw (q, writeAnswer) (d .output) }
 
-pub writable : (s t : List ℕ) → Passed ≡ testedOf (refusal s t) → Writable s t
-writable s t e = let p = passes s t (none-of (refusal s t) e) in record { short = p .short; sizes = p .sizes; shape = p .shape }
+pub passing : (s t : List ℕ) → Passed ≡ testedOf (refusal s t) → Passes s t
+passing s t e = passes s t (none-of (refusal s t) e)

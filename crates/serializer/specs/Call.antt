@@ -1,24 +1,12 @@
 -- What the contracts say of the writing call, and of the writing under it.
-use Prim.Native.Nat.{ℕ, _≤_}
+use Prim.Native.Nat.{ℕ}
 use mathlib.Core.Path.{_≡_}
-use mathlib.Core.Bool.{Bool, true}
+use mathlib.Core.Bool.{Bool}
 use mathlib.Core.List.{List}
-use mathlib.Core.Option.{none}
 use lib.ListN.{length}
-use Rattle.utf8.specs.Utf8.{isBoundary}
 use Rattle.syntax.specs.declared.answer.Answer.{Answer}
 use Rattle.syntax.specs.Answer.{sliceAfter}
-use Rattle.syntax.specs.Limits.{maxLength, maxOpen}
-use Rattle.syntax.specs.Layout.{marksIn}
-use Rattle.syntax.specs.Shape.{verdict}
-use Rattle.syntax.specs.Tests.{sizesFit}
 use Rattle.syntax.specs.Writing.{textAnswer, writeAnswer, outputAfter}
-
--- the source is short enough, and the tree is well formed over it
-pub record Writable (s t : List ℕ) : Type 0 where
-  pub short : length s ≤ maxLength
-  pub sizes : sizesFit t ≡ true
-  pub shape : verdict (isBoundary s) maxOpen (marksIn t) ≡ none
 
 -- the writing where no earlier test refuses: its answer, and every byte of the output
 pub record DidWriteInto (text o o′ : List ℕ) (r : Answer) : Type 0 where

@@ -1,7 +1,7 @@
 -- `write::write` meets its contract: the tests refuse, or hand on.
 use borrow.Author.Needs.{needs}
 use mathlib.Core.Path.{sym, _∙_}
-use Rattle.serializer.proofs.Outcome.{refused, passed, writable}
+use Rattle.serializer.proofs.Outcome.{refused, passed, passing}
 use Rattle.serializer.proofs.write.write.Statement.{statement}
 use Rattle.serializer.proofs.write.write.Tie as tie
 
@@ -18,7 +18,7 @@ enum-told : tie.Need-enum-told
 enum-told c = search needs
 
 write-into-requires : tie.Need-write-into-requires
-write-into-requires c κs = writable _ _ (sym (c .before .enum-told .given .1) ∙ c .before .before .before .test-tree .ensures)
+write-into-requires c κs = passing _ _ (sym (c .before .enum-told .given .1) ∙ c .before .before .before .test-tree .ensures)
 
 same-length : tie.Need-same-length
 same-length c = search needs
