@@ -355,7 +355,9 @@ fn is_number_start(source: &[u8], at: usize) -> bool
 
 fn get_key(source: &[u8], at: usize, tree: &mut [u32], cap: usize, n: usize) -> Read
     requires { ⌜ Room (now source) (now tree) cap at n 0 ⌝ }
-    ensures { λ r. ⌜ Did reading cap at n (now (tree .entry)) (now (tree .exit)) r (keyText (drop at (now (source .entry)))) ⌝ }
+    ensures { λ r. ⌜
+        Did reading cap at n (now (tree .entry)) (now (tree .exit)) r (keyText (drop at (now (source .entry))))
+        ⌝ }
 {
     if is_number_start(source, at) {
         let end = get_number_literal(source, at);

@@ -786,7 +786,9 @@ fn is_name_at(
 fn same_bytes(source: &[u8], a: usize, b: usize, c: usize, d: usize) -> bool
     requires { ⌜ (a ≤ b) × (b ≤ length (now source)) ⌝ }
     requires { ⌜ (c ≤ d) × (d ≤ length (now source)) ⌝ }
-    ensures { λ r. ⌜ r ≡ sameBytes (take (b - a) (drop a (now (source .entry)))) (take (d - c) (drop c (now (source .entry)))) ⌝ }
+    ensures { λ r. ⌜
+        r ≡ sameBytes (take (b - a) (drop a (now (source .entry)))) (take (d - c) (drop c (now (source .entry))))
+        ⌝ }
 {
     if b - a != d - c {
         return false;

@@ -138,7 +138,9 @@ fn first_width(source: &[u8], at: usize) -> usize
 
 pub fn skip_unicode_escape_sequence(source: &[u8], at: usize, length: usize) -> Place
     requires { ⌜ Inside (now source) at ⌝ }
-    ensures { λ r. ⌜ Found (now (source .entry)) at (skipUnicodeEscapeSequence length (drop at (now (source .entry)))) r ⌝ }
+    ensures { λ r. ⌜
+        Found (now (source .entry)) at (skipUnicodeEscapeSequence length (drop at (now (source .entry)))) r
+        ⌝ }
 {
     let end = skip_hexdigits(source, at, length);
     if end - at == length {
@@ -188,7 +190,9 @@ pub fn skip_blank(source: &[u8], at: usize) -> usize
 
 pub fn skip_blank_block(source: &[u8], at: usize) -> BlankBlock
     requires { ⌜ at ≤ length (now source) ⌝ }
-    ensures { λ r. ⌜ Went (now (source .entry)) at (skipBlankBlock (drop at (now (source .entry)))) (r .count) (r .end) ⌝ }
+    ensures { λ r. ⌜
+        Went (now (source .entry)) at (skipBlankBlock (drop at (now (source .entry)))) (r .count) (r .end)
+        ⌝ }
 {
     let mut end = at;
     let mut count = 0;
@@ -283,7 +287,9 @@ pub fn get_identifier_unchecked(source: &[u8], at: usize) -> usize
 // The end of an identifier; its marks, which `kind` names, are the caller's to write.
 pub fn get_identifier(source: &[u8], at: usize) -> Place
     requires { ⌜ Inside (now source) at ⌝ }
-    ensures { λ r. ⌜ ((kind : ℕ) → Found (now (source .entry)) at (getIdentifier kind (drop at (now (source .entry)))) r) ⌝ }
+    ensures { λ r. ⌜
+        ((kind : ℕ) → Found (now (source .entry)) at (getIdentifier kind (drop at (now (source .entry)))) r)
+        ⌝ }
 {
     if !is_identifier_start(source, at) {
         return Place::Bad(error(ErrorKind::ExpectedCharRange(LETTERS), at), at);

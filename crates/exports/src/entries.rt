@@ -25,8 +25,14 @@ pub extern "C" fn bevelumber_next_entry(
     stop: &mut u64,
 ) -> u32
     ensures { λ r. ⌜ r ≡ numberOf (nextAnswer (now (source .entry)) at (length (now (tree .entry)))) ⌝ }
-    ensures { λ _. ⌜ now (start .exit) ≡ valueOf (length (now (source .entry))) (nextAnswer (now (source .entry)) at (length (now (tree .entry)))) ⌝ }
-    ensures { λ _. ⌜ now (stop .exit) ≡ placeAfter (now (source .entry)) at (nextAnswer (now (source .entry)) at (length (now (tree .entry)))) ⌝ }
+    ensures { λ _. ⌜
+        now (start .exit)
+        ≡ valueOf (length (now (source .entry))) (nextAnswer (now (source .entry)) at (length (now (tree .entry))))
+        ⌝ }
+    ensures { λ _. ⌜
+        now (stop .exit)
+        ≡ placeAfter (now (source .entry)) at (nextAnswer (now (source .entry)) at (length (now (tree .entry))))
+        ⌝ }
     ensures { λ _. ⌜ NextTree (now (source .entry)) at (now (tree .entry)) (now (tree .exit)) ⌝ }
 {
     let asked = next_entry(source, at as usize, tree);

@@ -20,10 +20,17 @@ pub extern "C" fn bevelumber_read(
     errors: &mut [u32],
     returned: &mut u64,
 ) -> u32
-    ensures { λ r. ⌜ r ≡ numberOf (readAnswer (now (source .entry)) (length (now (tree .entry))) (length (now (errors .entry)))) ⌝ }
-    ensures { λ _. ⌜ now (returned .exit) ≡ valueOf (readAnswer (now (source .entry)) (length (now (tree .entry))) (length (now (errors .entry)))) ⌝ }
+    ensures { λ r. ⌜
+        r ≡ numberOf (readAnswer (now (source .entry)) (length (now (tree .entry))) (length (now (errors .entry))))
+        ⌝ }
+    ensures { λ _. ⌜
+        now (returned .exit)
+        ≡ valueOf (readAnswer (now (source .entry)) (length (now (tree .entry))) (length (now (errors .entry))))
+        ⌝ }
     ensures { λ _. ⌜ now (tree .exit) ≡ treeAfter (now (source .entry)) (now (tree .entry)) (now (errors .entry)) ⌝ }
-    ensures { λ _. ⌜ now (errors .exit) ≡ errorsAfter (now (source .entry)) (now (tree .entry)) (now (errors .entry)) ⌝ }
+    ensures { λ _. ⌜
+        now (errors .exit) ≡ errorsAfter (now (source .entry)) (now (tree .entry)) (now (errors .entry))
+        ⌝ }
 {
     let reading = read(source, tree, errors);
     *returned = value(reading);
@@ -39,9 +46,16 @@ pub extern "C" fn bevelumber_write(
     with_junk: bool,
     returned: &mut u64,
 ) -> u32
-    ensures { λ r. ⌜ r ≡ numberOf (writeAnswer (now (source .entry)) (now (tree .entry)) (length (now (output .entry))) «with_junk») ⌝ }
-    ensures { λ _. ⌜ now (returned .exit) ≡ valueOf (writeAnswer (now (source .entry)) (now (tree .entry)) (length (now (output .entry))) «with_junk») ⌝ }
-    ensures { λ _. ⌜ now (output .exit) ≡ outputAfter (now (source .entry)) (now (tree .entry)) (now (output .entry)) «with_junk» ⌝ }
+    ensures { λ r. ⌜
+        r ≡ numberOf (writeAnswer (now (source .entry)) (now (tree .entry)) (length (now (output .entry))) «with_junk»)
+        ⌝ }
+    ensures { λ _. ⌜
+        now (returned .exit)
+        ≡ valueOf (writeAnswer (now (source .entry)) (now (tree .entry)) (length (now (output .entry))) «with_junk»)
+        ⌝ }
+    ensures { λ _. ⌜
+        now (output .exit) ≡ outputAfter (now (source .entry)) (now (tree .entry)) (now (output .entry)) «with_junk»
+        ⌝ }
 {
     let writing = write(source, tree, output, with_junk);
     *returned = value(writing);

@@ -12,7 +12,10 @@ use syntax::answer::number;
 use syntax::answer::value;
 
 fn normalize(source: &[u8], tree: &mut [u32], errors: &mut [u32], output: &mut [u8]) -> Answer
-    ensures { λ r. ⌜ Normalized (now (source .entry)) (now (tree .entry)) (now (errors .entry)) (now (output .entry)) (now (output .exit)) r ⌝ }
+    ensures { λ r. ⌜
+        Normalized (now (source .entry)) (now (tree .entry)) (now (errors .entry)) (now (output .entry))
+        (now (output .exit)) r
+        ⌝ }
 {
     let answer = read(source, tree, errors);
     if let Answer::Accepted(_) = answer {

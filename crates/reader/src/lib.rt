@@ -25,7 +25,11 @@ impl<'a> Reader<'a> {
 
     // The entry after the place, read with a lent tree, in which it leaves scratch. It takes the time of that entry.
     pub fn next(&mut self, tree: &mut [u32]) -> Next
-        ensures { λ r. ⌜ (r ≡ nextAnswer (now (now (self .entry) .source)) (now (self .entry) .at) (length (now (tree .entry)))) × (now (self .exit) ≡ moved (now (self .entry)) (length (now (tree .entry)))) × NextTree (now (now (self .entry) .source)) (now (self .entry) .at) (now (tree .entry)) (now (tree .exit)) ⌝ }
+        ensures { λ r. ⌜
+            (r ≡ nextAnswer (now (now (self .entry) .source)) (now (self .entry) .at) (length (now (tree .entry))))
+            × (now (self .exit) ≡ moved (now (self .entry)) (length (now (tree .entry))))
+            × NextTree (now (now (self .entry) .source)) (now (self .entry) .at) (now (tree .entry)) (now (tree .exit))
+            ⌝ }
     {
         let asked = next_entry(self.source, self.at, tree);
         self.at = asked.at;
@@ -35,7 +39,10 @@ impl<'a> Reader<'a> {
 
 // The entry after a place, for callers that hold no reader. They start at `first_place`.
 pub fn entry_after(source: &[u8], at: usize, tree: &mut [u32]) -> Next
-    ensures { λ r. ⌜ (r ≡ nextAnswer (now (source .entry)) at (length (now (tree .entry)))) × NextTree (now (source .entry)) at (now (tree .entry)) (now (tree .exit)) ⌝ }
+    ensures { λ r. ⌜
+        (r ≡ nextAnswer (now (source .entry)) at (length (now (tree .entry))))
+        × NextTree (now (source .entry)) at (now (tree .entry)) (now (tree .exit))
+        ⌝ }
 {
     let mut reader = Reader { source, at };
     reader.next(tree)

@@ -24,7 +24,10 @@ impl Serializer {
         requires { ⌜ sizesFit (now tree) ≡ true ⌝ }
         requires { ⌜ TextAt (isBoundary (now source)) (marksIn (now tree)) (self .mark + 1) ⌝ }
         requires { ⌜ Room (self .writer) (naming (now source) (nodeAt (marksIn (now tree)) (self .mark + 1))) ⌝ }
-        ensures { λ r. ⌜ Went (now (output .entry)) (now (output .exit)) self r (naming (now (source .entry)) (nodeAt (marksIn (now (tree .entry))) (self .mark + 1))) (self .mark + 3) ⌝ }
+        ensures { λ r. ⌜
+            Went (now (output .entry)) (now (output .exit)) self r
+            (naming (now (source .entry)) (nodeAt (marksIn (now (tree .entry))) (self .mark + 1))) (self .mark + 3)
+            ⌝ }
     {
         let entered = self.next();
         let named = entered.serialize_text(source, tree, output);
@@ -37,7 +40,9 @@ impl Serializer {
     // An attribute, on a line of its own.
     fn serialize_attribute(self, source: &[u8], tree: &[u32], output: &mut [u8]) -> Self
         requires { ⌜ Ready (now source) (now tree) self (Kind.attribute ∷ []) (attribute (now source)) ⌝ }
-        ensures { λ r. ⌜ Done (now (tree .entry)) (now (output .entry)) (now (output .exit)) self r (attribute (now (source .entry))) ⌝ }
+        ensures { λ r. ⌜
+            Done (now (tree .entry)) (now (output .entry)) (now (output .exit)) self r (attribute (now (source .entry)))
+            ⌝ }
     {
         let line = self.writer.newline(output);
         let dotted = Serializer {
@@ -52,7 +57,10 @@ impl Serializer {
     // The attributes of a message or of a term, up to its end.
     fn serialize_attributes(self, source: &[u8], tree: &[u32], output: &mut [u8]) -> Self
         requires { ⌜ ReadyFor (now source) (now tree) self 2 (attributes (now source)) ⌝ }
-        ensures { λ r. ⌜ DoneIn (now (tree .entry)) (now (output .entry)) (now (output .exit)) self r (attributes (now (source .entry))) ⌝ }
+        ensures { λ r. ⌜
+            DoneIn (now (tree .entry)) (now (output .entry)) (now (output .exit)) self r
+            (attributes (now (source .entry)))
+            ⌝ }
     {
         let mut written = Serializer {
             writer: self.writer.indent(),
@@ -70,7 +78,10 @@ impl Serializer {
     // The value of a message or of a term, if there is one.
     fn serialize_value(self, source: &[u8], tree: &[u32], output: &mut [u8]) -> Self
         requires { ⌜ ReadyFor (now source) (now tree) self 1 (values (now source)) ⌝ }
-        ensures { λ r. ⌜ Wrote (now (output .entry)) (now (output .exit)) (self .writer) (r .writer) (values (now (source .entry)) (nodes (innerAt (marksIn (now (tree .entry))) (self .mark)))) ⌝ }
+        ensures { λ r. ⌜
+            Wrote (now (output .entry)) (now (output .exit)) (self .writer) (r .writer)
+            (values (now (source .entry)) (nodes (innerAt (marksIn (now (tree .entry))) (self .mark))))
+            ⌝ }
         ensures { λ r. ⌜ Valued (now (source .entry)) (now (tree .entry)) (self .mark) (r .mark) ⌝ }
     {
         if kind_at(tree, self.mark) != PATTERN {
@@ -82,7 +93,9 @@ impl Serializer {
     // A message; or a term, after its dash. A comment that is attached is an entry of its own.
     pub fn serialize_message(self, source: &[u8], tree: &[u32], output: &mut [u8]) -> Self
         requires { ⌜ Ready (now source) (now tree) self named (messageIn (now source)) ⌝ }
-        ensures { λ r. ⌜ Done (now (tree .entry)) (now (output .entry)) (now (output .exit)) self r (messageIn (now (source .entry))) ⌝ }
+        ensures { λ r. ⌜
+            Done (now (tree .entry)) (now (output .entry)) (now (output .exit)) self r (messageIn (now (source .entry)))
+            ⌝ }
     {
         let named = self.serialize_name(source, tree, output);
         let valued = named.serialize_value(source, tree, output);
@@ -95,7 +108,9 @@ impl Serializer {
 
     pub fn serialize_term(self, source: &[u8], tree: &[u32], output: &mut [u8]) -> Self
         requires { ⌜ Ready (now source) (now tree) self (Kind.term ∷ []) (termIn (now source)) ⌝ }
-        ensures { λ r. ⌜ Done (now (tree .entry)) (now (output .entry)) (now (output .exit)) self r (termIn (now (source .entry))) ⌝ }
+        ensures { λ r. ⌜
+            Done (now (tree .entry)) (now (output .entry)) (now (output .exit)) self r (termIn (now (source .entry)))
+            ⌝ }
     {
         let dashed = Serializer {
             writer: self.writer.write_literal(output, b"-"),

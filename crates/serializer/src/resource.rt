@@ -29,7 +29,10 @@ impl Serializer {
     // Junk, which is passed over where it is not asked for.
     fn serialize_junk(self, source: &[u8], tree: &[u32], output: &mut [u8], with_junk: bool) -> Self
         requires { ⌜ Ready (now source) (now tree) self (Kind.junk ∷ []) (junkIn (now source) «with_junk») ⌝ }
-        ensures { λ r. ⌜ Done (now (tree .entry)) (now (output .entry)) (now (output .exit)) self r (junkIn (now (source .entry)) «with_junk») ⌝ }
+        ensures { λ r. ⌜
+            Done (now (tree .entry)) (now (output .entry)) (now (output .exit)) self r
+            (junkIn (now (source .entry)) «with_junk»)
+            ⌝ }
     {
         if with_junk {
             return self.serialize_text(source, tree, output);
@@ -51,7 +54,10 @@ impl Serializer {
         wrote: bool,
     ) -> Self
         requires { ⌜ Ready (now source) (now tree) self entries (entry (now source) «with_junk» wrote) ⌝ }
-        ensures { λ r. ⌜ Done (now (tree .entry)) (now (output .entry)) (now (output .exit)) self r (entry (now (source .entry)) «with_junk» wrote) ⌝ }
+        ensures { λ r. ⌜
+            Done (now (tree .entry)) (now (output .entry)) (now (output .exit)) self r
+            (entry (now (source .entry)) «with_junk» wrote)
+            ⌝ }
     {
         match kind_at(tree, self.mark) {
             MESSAGE => self.serialize_message(source, tree, output),
@@ -85,7 +91,10 @@ pub fn serialize_resource(
     requires { ⌜ sizesFit (now tree) ≡ true ⌝ }
     requires { ⌜ verdict (isBoundary (now source)) maxOpen (marksIn (now tree)) ≡ none ⌝ }
     requires { ⌜ Room begun (resource (now source) «with_junk» false (nodes (marksIn (now tree)))) ⌝ }
-    ensures { λ r. ⌜ Wrote (now (output .entry)) (now (output .exit)) begun r (resource (now (source .entry)) «with_junk» false (nodes (marksIn (now (tree .entry))))) ⌝ }
+    ensures { λ r. ⌜
+        Wrote (now (output .entry)) (now (output .exit)) begun r
+        (resource (now (source .entry)) «with_junk» false (nodes (marksIn (now (tree .entry)))))
+        ⌝ }
 {
     let count = tree[0] as usize;
     let mut serializer = Serializer {

@@ -12,12 +12,15 @@ ghost use Rattle.syntax.specs.Bytes.{ascii};
 ghost use Rattle.syntax.specs.Layout.{marksIn};
 ghost use Rattle.syntax.specs.Tests.{sizesFit};
 ghost use Rattle.syntax.specs.Shape.{inline};
-ghost use Rattle.syntax.specs.Serializer.{Node, nodes, if, literal, newline, star, blankLine, hasNewline, isSelect, multilineElement, isMultiline, leadingDot, name, comment, freeComment};
+ghost use Rattle.syntax.specs.Serializer.{Node, nodes, if, literal, newline, star, blankLine, hasNewline, isSelect};
+ghost use Rattle.syntax.specs.Serializer.{multilineElement, isMultiline, leadingDot, name, comment, freeComment};
 ghost use Rattle.laws.specs.Text.{elementOf, expressionOf, variantOf, inlineOf};
 ghost use Rattle.serializer.specs.Writer.{Room, Wrote};
 ghost use Rattle.tree.specs.Walk.{nodeAt, after, At, NodeAt, TextAt, OneAt, elements, expressions, variants, references};
 ghost use Rattle.serializer.specs.Comment.{CommentAt, lineOf};
-ghost use Rattle.serializer.specs.Serialize.{oneIf, lower, Ready, Went, Done, Begun, patternIn, selectIn, argumentsIn, patternStart, openingBraces, closingBraces, bracesOf, sigil, quoted, referenceOf, keyAt, argumentName, Named};
+ghost use Rattle.serializer.specs.Serialize.{oneIf, lower, Ready, Went, Done, Begun, patternIn, selectIn};
+ghost use Rattle.serializer.specs.Serialize.{argumentsIn, patternStart, openingBraces, closingBraces, bracesOf};
+ghost use Rattle.serializer.specs.Serialize.{sigil, quoted, referenceOf, keyAt, argumentName, Named};
 use crate::walk::kind_at;
 use crate::walk::text_at;
 use crate::writer::TextWriter;
@@ -111,7 +114,10 @@ fn has_newline(text: &[u8]) -> bool
 fn is_select_expr(tree: &[u32], mark: usize) -> bool
     requires { ⌜ sizesFit (now tree) ≡ true ⌝ }
     requires { ⌜ NodeAt (marksIn (now tree)) mark ⌝ }
-    ensures { λ r. ⌜ ((source : List ℕ) (n : ℕ) (more : List Node) → length (nodeAt (marksIn (now (tree .entry))) mark .inner) < n → r ≡ isSelect source n (nodeAt (marksIn (now (tree .entry))) mark ∷ more)) ⌝ }
+    ensures { λ r. ⌜
+        ((source : List ℕ) (n : ℕ) (more : List Node) → length (nodeAt (marksIn (now (tree .entry))) mark .inner) < n
+        → r ≡ isSelect source n (nodeAt (marksIn (now (tree .entry))) mark ∷ more))
+        ⌝ }
 {
     match kind_at(tree, mark) {
         SELECT => true,
@@ -155,7 +161,9 @@ fn is_multiline_element(source: &[u8], tree: &[u32], mark: usize) -> bool
 fn is_multiline(source: &[u8], tree: &[u32], mark: usize) -> bool
     requires { ⌜ sizesFit (now tree) ≡ true ⌝ }
     requires { ⌜ At (isBoundary (now source)) (marksIn (now tree)) mark Kind.pattern ⌝ }
-    ensures { λ r. ⌜ r ≡ isMultiline (now (source .entry)) (nodes (nodeAt (marksIn (now (tree .entry))) mark .inner)) ⌝ }
+    ensures { λ r. ⌜
+        r ≡ isMultiline (now (source .entry)) (nodes (nodeAt (marksIn (now (tree .entry))) mark .inner))
+        ⌝ }
 {
     let mut next = mark + 1;
     while kind_at(tree, next) < CLOSING {
@@ -170,7 +178,11 @@ fn is_multiline(source: &[u8], tree: &[u32], mark: usize) -> bool
 fn starts_on_new_line(source: &[u8], tree: &[u32], mark: usize) -> bool
     requires { ⌜ sizesFit (now tree) ≡ true ⌝ }
     requires { ⌜ At (isBoundary (now source)) (marksIn (now tree)) mark Kind.pattern ⌝ }
-    ensures { λ r. ⌜ r ≡ (not (leadingDot (now (source .entry)) (nodes (nodeAt (marksIn (now (tree .entry))) mark .inner))) && isMultiline (now (source .entry)) (nodes (nodeAt (marksIn (now (tree .entry))) mark .inner))) ⌝ }
+    ensures { λ r. ⌜
+        r
+        ≡ (not (leadingDot (now (source .entry)) (nodes (nodeAt (marksIn (now (tree .entry))) mark .inner)))
+        && isMultiline (now (source .entry)) (nodes (nodeAt (marksIn (now (tree .entry))) mark .inner)))
+        ⌝ }
 {
     if has_leading_text_dot(source, tree, mark) {
         return false;
@@ -202,7 +214,9 @@ fn serialize_comment_line(
     line: &[u8],
 ) -> TextWriter
     requires { ⌜ Room w (lineOf (now prefix) (now line)) ⌝ }
-    ensures { λ r. ⌜ Wrote (now (output .entry)) (now (output .exit)) w r (lineOf (now (prefix .entry)) (now (line .entry))) ⌝ }
+    ensures { λ r. ⌜
+        Wrote (now (output .entry)) (now (output .exit)) w r (lineOf (now (prefix .entry)) (now (line .entry)))
+        ⌝ }
 {
     let begun = w.write_literal(output, prefix);
     if is_blank_line(line) {
@@ -218,7 +232,9 @@ fn serialize_comment_line(
 // The comma before an argument that is not the first.
 fn separate(writer: TextWriter, output: &mut [u8], argument_written: bool) -> TextWriter
     requires { ⌜ Room writer (if «argument_written» (literal (ascii ", "))) ⌝ }
-    ensures { λ r. ⌜ Wrote (now (output .entry)) (now (output .exit)) writer r (if «argument_written» (literal (ascii ", "))) ⌝ }
+    ensures { λ r. ⌜
+        Wrote (now (output .entry)) (now (output .exit)) writer r (if «argument_written» (literal (ascii ", ")))
+        ⌝ }
 {
     if argument_written {
         writer.write_literal(output, b", ")
@@ -258,8 +274,14 @@ impl Serializer {
     ) -> Self
         requires { ⌜ sizesFit (now tree) ≡ true ⌝ }
         requires { ⌜ CommentAt (isBoundary (now source)) (marksIn (now tree)) (self .mark) ⌝ }
-        requires { ⌜ Room (self .writer) (comment (now source) (now prefix) (nodeAt (marksIn (now tree)) (self .mark) .inner)) ⌝ }
-        ensures { λ r. ⌜ Wrote (now (output .entry)) (now (output .exit)) (self .writer) (r .writer) (comment (now (source .entry)) (now (prefix .entry)) (nodeAt (marksIn (now (tree .entry))) (self .mark) .inner)) ⌝ }
+        requires { ⌜
+            Room (self .writer) (comment (now source) (now prefix) (nodeAt (marksIn (now tree)) (self .mark) .inner))
+            ⌝ }
+        ensures { λ r. ⌜
+            Wrote (now (output .entry)) (now (output .exit)) (self .writer) (r .writer)
+            (comment (now (source .entry)) (now (prefix .entry))
+            (nodeAt (marksIn (now (tree .entry))) (self .mark) .inner))
+            ⌝ }
         ensures { λ r. ⌜ r .mark ≡ after (marksIn (now (tree .entry))) (self .mark) ⌝ }
     {
         let mut writer = self.writer;
@@ -285,8 +307,16 @@ impl Serializer {
     ) -> Self
         requires { ⌜ sizesFit (now tree) ≡ true ⌝ }
         requires { ⌜ CommentAt (isBoundary (now source)) (marksIn (now tree)) (self .mark) ⌝ }
-        requires { ⌜ Room (self .writer) (freeComment (now source) «wrote_non_junk_entry» (now prefix) (nodeAt (marksIn (now tree)) (self .mark) .inner)) ⌝ }
-        ensures { λ r. ⌜ Wrote (now (output .entry)) (now (output .exit)) (self .writer) (r .writer) (freeComment (now (source .entry)) «wrote_non_junk_entry» (now (prefix .entry)) (nodeAt (marksIn (now (tree .entry))) (self .mark) .inner)) ⌝ }
+        requires { ⌜
+            Room (self .writer)
+            (freeComment (now source) «wrote_non_junk_entry» (now prefix)
+            (nodeAt (marksIn (now tree)) (self .mark) .inner))
+            ⌝ }
+        ensures { λ r. ⌜
+            Wrote (now (output .entry)) (now (output .exit)) (self .writer) (r .writer)
+            (freeComment (now (source .entry)) «wrote_non_junk_entry» (now (prefix .entry))
+            (nodeAt (marksIn (now (tree .entry))) (self .mark) .inner))
+            ⌝ }
         ensures { λ r. ⌜ r .mark ≡ after (marksIn (now (tree .entry))) (self .mark) ⌝ }
     {
         let writer = newline_after_entry(self.writer, output, wrote_non_junk_entry);
@@ -318,7 +348,9 @@ impl Serializer {
         requires { ⌜ sizesFit (now tree) ≡ true ⌝ }
         requires { ⌜ TextAt (isBoundary (now source)) (marksIn (now tree)) (self .mark) ⌝ }
         requires { ⌜ Room (self .writer) (name (now source) (nodeAt (marksIn (now tree)) (self .mark))) ⌝ }
-        ensures { λ r. ⌜ Done (now (tree .entry)) (now (output .entry)) (now (output .exit)) self r (name (now (source .entry))) ⌝ }
+        ensures { λ r. ⌜
+            Done (now (tree .entry)) (now (output .entry)) (now (output .exit)) self r (name (now (source .entry)))
+            ⌝ }
     {
         let mark = self.mark;
         let text = text_at(source, tree, mark);
@@ -332,7 +364,10 @@ impl Serializer {
     fn begin_placeable(self, output: &mut [u8], kind: u32) -> Self
         requires { ⌜ Room (self .writer) (literal (openingBraces kind)) ⌝ }
         requires { ⌜ self .mark < 2 ^ 63 ⌝ }
-        ensures { λ r. ⌜ Went (now (output .entry)) (now (output .exit)) self r (literal (openingBraces kind)) (self .mark + bracesOf kind) ⌝ }
+        ensures { λ r. ⌜
+            Went (now (output .entry)) (now (output .exit)) self r (literal (openingBraces kind))
+            (self .mark + bracesOf kind)
+            ⌝ }
     {
         // Placeables around each other stand without blanks between the braces.
         if kind == PLACEABLE {
@@ -350,7 +385,10 @@ impl Serializer {
     fn end_placeable(self, output: &mut [u8], kind: u32) -> Self
         requires { ⌜ Room (self .writer) (literal (closingBraces kind)) ⌝ }
         requires { ⌜ self .mark < 2 ^ 63 ⌝ }
-        ensures { λ r. ⌜ Went (now (output .entry)) (now (output .exit)) self r (literal (closingBraces kind)) (self .mark + bracesOf kind) ⌝ }
+        ensures { λ r. ⌜
+            Went (now (output .entry)) (now (output .exit)) self r (literal (closingBraces kind))
+            (self .mark + bracesOf kind)
+            ⌝ }
     {
         if kind == PLACEABLE {
             return Serializer {
@@ -373,7 +411,9 @@ impl Serializer {
 
     fn serialize_string_literal(self, source: &[u8], tree: &[u32], output: &mut [u8]) -> Self
         requires { ⌜ Ready (now source) (now tree) self (Kind.string ∷ []) (quoted (now source)) ⌝ }
-        ensures { λ r. ⌜ Done (now (tree .entry)) (now (output .entry)) (now (output .exit)) self r (quoted (now (source .entry))) ⌝ }
+        ensures { λ r. ⌜
+            Done (now (tree .entry)) (now (output .entry)) (now (output .exit)) self r (quoted (now (source .entry)))
+            ⌝ }
     {
         let quoted = Serializer {
             writer: self.writer.write_literal(output, b"\""),
@@ -389,7 +429,10 @@ impl Serializer {
     // A reference up to its arguments: its sigil, its name, and the name of the attribute if there is one.
     fn serialize_reference(self, source: &[u8], tree: &[u32], output: &mut [u8]) -> Self
         requires { ⌜ Ready (now source) (now tree) self references (referenceOf (now source)) ⌝ }
-        ensures { λ r. ⌜ Wrote (now (output .entry)) (now (output .exit)) (self .writer) (r .writer) (referenceOf (now (source .entry)) (nodeAt (marksIn (now (tree .entry))) (self .mark))) ⌝ }
+        ensures { λ r. ⌜
+            Wrote (now (output .entry)) (now (output .exit)) (self .writer) (r .writer)
+            (referenceOf (now (source .entry)) (nodeAt (marksIn (now (tree .entry))) (self .mark)))
+            ⌝ }
         ensures { λ r. ⌜ Named (now (source .entry)) (now (tree .entry)) (self .mark) (r .mark) ⌝ }
     {
         let kind = kind_at(tree, self.mark);
@@ -414,7 +457,10 @@ impl Serializer {
         requires { ⌜ OneAt (isBoundary (now source)) variants (marksIn (now tree)) (self .mark) ⌝ }
         requires { ⌜ 1 ≤ self .writer .indent ⌝ }
         requires { ⌜ Room (self .writer) (keyAt (now source) (marksIn (now tree)) (self .mark)) ⌝ }
-        ensures { λ r. ⌜ Went (now (output .entry)) (now (output .exit)) self r (keyAt (now (source .entry)) (marksIn (now (tree .entry))) (self .mark)) (self .mark + 3) ⌝ }
+        ensures { λ r. ⌜
+            Went (now (output .entry)) (now (output .exit)) self r
+            (keyAt (now (source .entry)) (marksIn (now (tree .entry))) (self .mark)) (self .mark + 3)
+            ⌝ }
     {
         let default = kind_at(tree, self.mark) == DEFAULT_VARIANT;
         let begun = mark_default(self.writer, output, default);
@@ -434,7 +480,11 @@ impl Serializer {
         requires { ⌜ sizesFit (now tree) ≡ true ⌝ }
         requires { ⌜ At (isBoundary (now source)) (marksIn (now tree)) (self .mark) Kind.namedArgument ⌝ }
         requires { ⌜ Room (self .writer) (argumentName (now source) (nodeAt (marksIn (now tree)) (self .mark + 1))) ⌝ }
-        ensures { λ r. ⌜ Went (now (output .entry)) (now (output .exit)) self r (argumentName (now (source .entry)) (nodeAt (marksIn (now (tree .entry))) (self .mark + 1))) (self .mark + 3) ⌝ }
+        ensures { λ r. ⌜
+            Went (now (output .entry)) (now (output .exit)) self r
+            (argumentName (now (source .entry)) (nodeAt (marksIn (now (tree .entry))) (self .mark + 1)))
+            (self .mark + 3)
+            ⌝ }
     {
         let entered = self.next();
         let named = entered.serialize_text(source, tree, output);
@@ -481,9 +531,17 @@ impl Serializer {
     // The name of an argument, if it is a named one; the value is next.
     fn begin_argument(self, source: &[u8], tree: &[u32], output: &mut [u8], named: bool) -> Self
         requires { ⌜ sizesFit (now tree) ≡ true ⌝ }
-        requires { ⌜ (named ≡ true → At (isBoundary (now source)) (marksIn (now tree)) (self .mark) Kind.namedArgument) ⌝ }
-        requires { ⌜ Room (self .writer) (if named (argumentName (now source) (nodeAt (marksIn (now tree)) (self .mark + 1)))) ⌝ }
-        ensures { λ r. ⌜ Went (now (output .entry)) (now (output .exit)) self r (if named (argumentName (now (source .entry)) (nodeAt (marksIn (now (tree .entry))) (self .mark + 1)))) (self .mark + 3 * oneIf named) ⌝ }
+        requires { ⌜
+            (named ≡ true → At (isBoundary (now source)) (marksIn (now tree)) (self .mark) Kind.namedArgument)
+            ⌝ }
+        requires { ⌜
+            Room (self .writer) (if named (argumentName (now source) (nodeAt (marksIn (now tree)) (self .mark + 1))))
+            ⌝ }
+        ensures { λ r. ⌜
+            Went (now (output .entry)) (now (output .exit)) self r
+            (if named (argumentName (now (source .entry)) (nodeAt (marksIn (now (tree .entry))) (self .mark + 1))))
+            (self .mark + 3 * oneIf named)
+            ⌝ }
     {
         if named {
             return self.serialize_argument_name(source, tree, output);
@@ -504,7 +562,9 @@ impl Serializer {
 
     pub fn serialize_pattern(self, source: &[u8], tree: &[u32], output: &mut [u8]) -> Self
         requires { ⌜ Ready (now source) (now tree) self (Kind.pattern ∷ []) (patternIn (now source)) ⌝ }
-        ensures { λ r. ⌜ Done (now (tree .entry)) (now (output .entry)) (now (output .exit)) self r (patternIn (now (source .entry))) ⌝ }
+        ensures { λ r. ⌜
+            Done (now (tree .entry)) (now (output .entry)) (now (output .exit)) self r (patternIn (now (source .entry)))
+            ⌝ }
     {
         let start_on_newline = starts_on_new_line(source, tree, self.mark);
         let mut s = self.begin_pattern(output, start_on_newline);
@@ -516,7 +576,9 @@ impl Serializer {
 
     fn serialize_element(self, source: &[u8], tree: &[u32], output: &mut [u8]) -> Self
         requires { ⌜ Ready (now source) (now tree) self elements (elementOf (now source)) ⌝ }
-        ensures { λ r. ⌜ Done (now (tree .entry)) (now (output .entry)) (now (output .exit)) self r (elementOf (now (source .entry))) ⌝ }
+        ensures { λ r. ⌜
+            Done (now (tree .entry)) (now (output .entry)) (now (output .exit)) self r (elementOf (now (source .entry)))
+            ⌝ }
     {
         if kind_at(tree, self.mark) == TEXT {
             return self.serialize_text(source, tree, output);
@@ -529,7 +591,10 @@ impl Serializer {
 
     fn serialize_expression(self, source: &[u8], tree: &[u32], output: &mut [u8]) -> Self
         requires { ⌜ Ready (now source) (now tree) self expressions (expressionOf (now source)) ⌝ }
-        ensures { λ r. ⌜ Done (now (tree .entry)) (now (output .entry)) (now (output .exit)) self r (expressionOf (now (source .entry))) ⌝ }
+        ensures { λ r. ⌜
+            Done (now (tree .entry)) (now (output .entry)) (now (output .exit)) self r
+            (expressionOf (now (source .entry)))
+            ⌝ }
     {
         if kind_at(tree, self.mark) == SELECT {
             return self.serialize_select_expression(source, tree, output);
@@ -539,7 +604,9 @@ impl Serializer {
 
     fn serialize_inline_expression(self, source: &[u8], tree: &[u32], output: &mut [u8]) -> Self
         requires { ⌜ Ready (now source) (now tree) self inline (inlineOf (now source)) ⌝ }
-        ensures { λ r. ⌜ Done (now (tree .entry)) (now (output .entry)) (now (output .exit)) self r (inlineOf (now (source .entry))) ⌝ }
+        ensures { λ r. ⌜
+            Done (now (tree .entry)) (now (output .entry)) (now (output .exit)) self r (inlineOf (now (source .entry)))
+            ⌝ }
     {
         let kind = kind_at(tree, self.mark);
         if kind == STRING {
@@ -569,7 +636,9 @@ impl Serializer {
 
     fn serialize_select_expression(self, source: &[u8], tree: &[u32], output: &mut [u8]) -> Self
         requires { ⌜ Ready (now source) (now tree) self (Kind.select ∷ []) (selectIn (now source)) ⌝ }
-        ensures { λ r. ⌜ Done (now (tree .entry)) (now (output .entry)) (now (output .exit)) self r (selectIn (now (source .entry))) ⌝ }
+        ensures { λ r. ⌜
+            Done (now (tree .entry)) (now (output .entry)) (now (output .exit)) self r (selectIn (now (source .entry)))
+            ⌝ }
     {
         let entered = self.next();
         let selector = entered.serialize_inline_expression(source, tree, output);
@@ -597,7 +666,9 @@ impl Serializer {
     fn serialize_variant(self, source: &[u8], tree: &[u32], output: &mut [u8]) -> Self
         requires { ⌜ Ready (now source) (now tree) self variants (variantOf (now source)) ⌝ }
         requires { ⌜ 1 ≤ self .writer .indent ⌝ }
-        ensures { λ r. ⌜ Done (now (tree .entry)) (now (output .entry)) (now (output .exit)) self r (variantOf (now (source .entry))) ⌝ }
+        ensures { λ r. ⌜
+            Done (now (tree .entry)) (now (output .entry)) (now (output .exit)) self r (variantOf (now (source .entry)))
+            ⌝ }
     {
         let keyed = self.serialize_variant_key(source, tree, output);
         let written = keyed.serialize_pattern(source, tree, output);
@@ -606,7 +677,10 @@ impl Serializer {
 
     fn serialize_call_arguments(self, source: &[u8], tree: &[u32], output: &mut [u8]) -> Self
         requires { ⌜ Ready (now source) (now tree) self (Kind.arguments ∷ []) (argumentsIn (now source)) ⌝ }
-        ensures { λ r. ⌜ Done (now (tree .entry)) (now (output .entry)) (now (output .exit)) self r (argumentsIn (now (source .entry))) ⌝ }
+        ensures { λ r. ⌜
+            Done (now (tree .entry)) (now (output .entry)) (now (output .exit)) self r
+            (argumentsIn (now (source .entry)))
+            ⌝ }
     {
         let mut s = Serializer {
             writer: self.writer.write_literal(output, b"("),

@@ -85,7 +85,10 @@ fn enter(kinds: &mut [u8], states: &mut [u8], o: Open, child: u8, next: u8) -> S
     requires { ⌜ Fits (now kinds) (now states) o ⌝ }
     requires { ⌜ isText child ≡ false ⌝ }
     requires { ⌜ step (o .kind) (o .state) child ≡ some next ⌝ }
-    ensures { λ r. ⌜ outcome (now (kinds .exit)) (now (states .exit)) r ≡ enter (o .left) (o .kind) (o .state) (framesIn (now (kinds .entry)) (now (states .entry)) (o .depth)) child ⌝ }
+    ensures { λ r. ⌜
+        outcome (now (kinds .exit)) (now (states .exit)) r
+        ≡ enter (o .left) (o .kind) (o .state) (framesIn (now (kinds .entry)) (now (states .entry)) (o .depth)) child
+        ⌝ }
 {
     let left = o.left;
     if left < needs(child) {
@@ -108,7 +111,11 @@ fn leave(models: &Models, kinds: &[u8], states: &[u8], o: Open, kind: u32, place
     requires { ⌜ Room (now kinds) (now states) ⌝ }
     requires { ⌜ Fits (now kinds) (now states) o ⌝ }
     requires { ⌜ namedArgument < kind ⌝ }
-    ensures { λ r. ⌜ ((boundary : ℕ → Bool) → outcome (now (kinds .entry)) (now (states .entry)) r ≡ stepMark boundary (stateOf (now (kinds .entry)) (now (states .entry)) (State.Between o)) (markOf kind place)) ⌝ }
+    ensures { λ r. ⌜
+        ((boundary : ℕ → Bool)
+        → outcome (now (kinds .entry)) (now (states .entry)) r
+        ≡ stepMark boundary (stateOf (now (kinds .entry)) (now (states .entry)) (State.Between o)) (markOf kind place))
+        ⌝ }
 {
     let closed = o.kind;
     if kind != CLOSING + closed as u32 {
@@ -137,7 +144,11 @@ fn leave(models: &Models, kinds: &[u8], states: &[u8], o: Open, kind: u32, place
 fn start(source: &[u8], o: Open, child: u8, next: u8, place: u32) -> Step
     requires { ⌜ isText child ≡ true ⌝ }
     requires { ⌜ step (o .kind) (o .state) child ≡ some next ⌝ }
-    ensures { λ r. ⌜ ((kinds states : List ℕ) → outcome kinds states r ≡ stepMark (isBoundary (now (source .entry))) (stateOf kinds states (State.Between o)) (markOf child place)) ⌝ }
+    ensures { λ r. ⌜
+        ((kinds states : List ℕ)
+        → outcome kinds states r
+        ≡ stepMark (isBoundary (now (source .entry))) (stateOf kinds states (State.Between o)) (markOf child place))
+        ⌝ }
 {
     if utf8::is_boundary(source, place as usize) {
         Step::On(State::Within(
@@ -158,7 +169,12 @@ fn start(source: &[u8], o: Open, child: u8, next: u8, place: u32) -> Step
 // Ends the T child of the kind `text` that starts at `start`.
 fn stop(source: &[u8], text: u8, start: u32, o: Open, kind: u32, end: u32) -> Step
     requires { ⌜ isText text ≡ true ⌝ }
-    ensures { λ r. ⌜ ((kinds states : List ℕ) → outcome kinds states r ≡ stepMark (isBoundary (now (source .entry))) (stateOf kinds states (State.Within text start o)) (markOf kind end)) ⌝ }
+    ensures { λ r. ⌜
+        ((kinds states : List ℕ)
+        → outcome kinds states r
+        ≡ stepMark (isBoundary (now (source .entry))) (stateOf kinds states (State.Within text start o))
+        (markOf kind end))
+        ⌝ }
 {
     if kind != CLOSING + text as u32 {
         return Step::Refused;
@@ -186,7 +202,11 @@ fn step_between(
     requires { ⌜ Right (now models) ⌝ }
     requires { ⌜ Room (now kinds) (now states) ⌝ }
     requires { ⌜ Fits (now kinds) (now states) o ⌝ }
-    ensures { λ r. ⌜ outcome (now (kinds .exit)) (now (states .exit)) r ≡ stepMark (isBoundary (now (source .entry))) (stateOf (now (kinds .entry)) (now (states .entry)) (State.Between o)) (markOf kind place) ⌝ }
+    ensures { λ r. ⌜
+        outcome (now (kinds .exit)) (now (states .exit)) r
+        ≡ stepMark (isBoundary (now (source .entry)))
+        (stateOf (now (kinds .entry)) (now (states .entry)) (State.Between o)) (markOf kind place)
+        ⌝ }
 {
     if NAMED_ARGUMENT < kind {
         return leave(models, &*kinds, &*states, o, kind, place);
@@ -218,7 +238,11 @@ fn step_mark(
     requires { ⌜ Right (now models) ⌝ }
     requires { ⌜ Room (now kinds) (now states) ⌝ }
     requires { ⌜ Reached (isBoundary (now source)) (now kinds) (now states) s ⌝ }
-    ensures { λ r. ⌜ outcome (now (kinds .exit)) (now (states .exit)) r ≡ stepMark (isBoundary (now (source .entry))) (stateOf (now (kinds .entry)) (now (states .entry)) s) (markOf kind place) ⌝ }
+    ensures { λ r. ⌜
+        outcome (now (kinds .exit)) (now (states .exit)) r
+        ≡ stepMark (isBoundary (now (source .entry))) (stateOf (now (kinds .entry)) (now (states .entry)) s)
+        (markOf kind place)
+        ⌝ }
 {
     match s {
         State::Between(o) => step_between(source, models, kinds, states, o, kind, place),

@@ -63,7 +63,9 @@ fn are_stored(words: &[u32], stored: &[u8]) -> bool
 // Whether an array has the n stored words, and zeros behind them.
 fn is_array(words: &[u32], stored: &[u8], n: usize) -> bool
     requires { ⌜ (length (now stored) ≡ 2 * n) × (n ≤ length (now words)) ⌝ }
-    ensures { λ r. ⌜ Tells r (now (words .entry) ≡ array (length (now (words .entry))) (shorts (now (stored .entry)))) ⌝ }
+    ensures { λ r. ⌜
+        Tells r (now (words .entry) ≡ array (length (now (words .entry))) (shorts (now (stored .entry))))
+        ⌝ }
 {
     if !are_stored(&words[..n], stored) {
         return false;
@@ -74,7 +76,11 @@ fn is_array(words: &[u32], stored: &[u8], n: usize) -> bool
 // Whether a slice is as acceptance leaves it.
 fn is_laid_out(slice: &[u32], a: Arrays, first: &[u8], second: &[u8]) -> bool
     requires { ⌜ Stores a (now first) (now second) ⌝ }
-    ensures { λ r. ⌜ Tells r (now (slice .entry) ≡ laid a (now (first .entry)) (now (second .entry)) ++ drop (laidLength a) (filled (length (now (slice .entry))))) ⌝ }
+    ensures { λ r. ⌜
+        Tells r
+        (now (slice .entry) ≡ laid a (now (first .entry)) (now (second .entry))
+        ++ drop (laidLength a) (filled (length (now (slice .entry)))))
+        ⌝ }
 {
     let middle = 2 + a.capacity;
     let end = middle + a.size;
@@ -112,7 +118,10 @@ fn is_zeroed(slice: &[u32], n: usize) -> bool
 // Whether a slice that was filled is as the call that gave this answer leaves it.
 pub fn is_left(answer: Answer, slice: &[u32], a: Arrays, first: &[u8], second: &[u8]) -> bool
     requires { ⌜ Stores a (now first) (now second) ⌝ }
-    ensures { λ r. ⌜ Tells r (now (slice .entry) ≡ left answer a (now (first .entry)) (now (second .entry)) (length (now (slice .entry)))) ⌝ }
+    ensures { λ r. ⌜
+        Tells r
+        (now (slice .entry) ≡ left answer a (now (first .entry)) (now (second .entry)) (length (now (slice .entry))))
+        ⌝ }
 {
     match number(answer) {
         0 => is_laid_out(slice, a, first, second),

@@ -26,7 +26,10 @@ pub enum Turn {
 
 // Reads a source into slices that are filled first.
 fn read_filled(source: &[u8], tree: &mut [u32], errors: &mut [u32]) -> Answer
-    ensures { λ r. ⌜ ReadFilled (now (source .entry)) (length (now (tree .entry))) (length (now (errors .entry))) (now (tree .exit)) (now (errors .exit)) r ⌝ }
+    ensures { λ r. ⌜
+        ReadFilled (now (source .entry)) (length (now (tree .entry))) (length (now (errors .entry))) (now (tree .exit))
+        (now (errors .exit)) r
+        ⌝ }
 {
     fill(tree, FILLING);
     fill(errors, FILLING);
@@ -49,7 +52,12 @@ pub fn is_answer(answer: Answer, n: u32, v: u64) -> bool
 // Whether the tree of a source of n bytes is the case's, word for word.
 fn is_tree(case: Case, answer: Answer, n: usize, listing: &[u8], tree: &[u32]) -> bool
     requires { ⌜ Lists case n (now listing) ⌝ }
-    ensures { λ r. ⌜ Tells r (now (tree .entry) ≡ left answer (treeArrays case n) (kindsIn case (now (listing .entry))) (placesIn case (now (listing .entry))) (length (now (tree .entry)))) ⌝ }
+    ensures { λ r. ⌜
+        Tells r
+        (now (tree .entry)
+        ≡ left answer (treeArrays case n) (kindsIn case (now (listing .entry))) (placesIn case (now (listing .entry)))
+        (length (now (tree .entry))))
+        ⌝ }
 {
     let arrays = Arrays {
         count: case.marks,
@@ -71,7 +79,12 @@ fn is_tree(case: Case, answer: Answer, n: usize, listing: &[u8], tree: &[u32]) -
 // The same for the list of errors.
 fn is_list(case: Case, answer: Answer, n: usize, listing: &[u8], errors: &[u32]) -> bool
     requires { ⌜ Lists case n (now listing) ⌝ }
-    ensures { λ r. ⌜ Tells r (now (errors .entry) ≡ left answer (errorArrays case n) (errorsIn case (now (listing .entry))) (groupsIn case (now (listing .entry))) (length (now (errors .entry)))) ⌝ }
+    ensures { λ r. ⌜
+        Tells r
+        (now (errors .entry)
+        ≡ left answer (errorArrays case n) (errorsIn case (now (listing .entry))) (groupsIn case (now (listing .entry)))
+        (length (now (errors .entry))))
+        ⌝ }
 {
     let arrays = Arrays {
         count: case.faults,
@@ -93,7 +106,11 @@ fn is_list(case: Case, answer: Answer, n: usize, listing: &[u8], errors: &[u32])
 // Whether the reading call answers as the case has it, and leaves both slices so.
 fn agrees(case: Case, source: &[u8], listing: &[u8], tree: &mut [u32], errors: &mut [u32]) -> bool
     requires { ⌜ Lists case (length (now source)) (now listing) ⌝ }
-    ensures { λ r. ⌜ Tells r (Agrees case (now (source .entry)) (now (listing .entry)) (length (now (tree .entry))) (length (now (errors .entry)))) ⌝ }
+    ensures { λ r. ⌜
+        Tells r
+        (Agrees case (now (source .entry)) (now (listing .entry)) (length (now (tree .entry)))
+        (length (now (errors .entry))))
+        ⌝ }
 {
     let answer = read_filled(source, tree, errors);
     if !is_answer(answer, case.number, case.value) {

@@ -57,7 +57,11 @@ fn are_same(bytes: &[u8], text: &[u8]) -> bool
 
 // Whether an output that was filled has this text, and is unchanged past it.
 fn is_text(output: &[u8], text: &[u8]) -> bool
-    ensures { λ r. ⌜ Tells r (now (output .entry) ≡ now (text .entry) ++ drop (length (now (text .entry))) (filledBytes (length (now (output .entry))))) ⌝ }
+    ensures { λ r. ⌜
+        Tells r
+        (now (output .entry) ≡ now (text .entry)
+        ++ drop (length (now (text .entry))) (filledBytes (length (now (output .entry)))))
+        ⌝ }
 {
     let n = text.len();
     if output.len() < n {
@@ -78,7 +82,10 @@ fn write_filled(
     output: &mut [u8],
 ) -> Answer
     requires { ⌜ Holds case (now listing) (length (now tree)) ⌝ }
-    ensures { λ r. ⌜ WroteFilled case (now (source .entry)) (now (listing .entry)) (length (now (output .entry))) (now (output .exit)) r ⌝ }
+    ensures { λ r. ⌜
+        WroteFilled case (now (source .entry)) (now (listing .entry)) (length (now (output .entry)))
+        (now (output .exit)) r
+        ⌝ }
 {
     lay_tree(case, listing, tree);
     fill_bytes(output);
@@ -94,7 +101,9 @@ fn agrees_text(
     output: &mut [u8],
 ) -> bool
     requires { ⌜ Holds case (now listing) (length (now tree)) ⌝ }
-    ensures { λ r. ⌜ Tells r (AgreesText case (now (source .entry)) (now (listing .entry)) (length (now (output .entry)))) ⌝ }
+    ensures { λ r. ⌜
+        Tells r (AgreesText case (now (source .entry)) (now (listing .entry)) (length (now (output .entry))))
+        ⌝ }
 {
     let answer = write_filled(case, source, listing, tree, output);
     if !is_answer(answer, case.number, case.value) {
@@ -157,7 +166,9 @@ fn replay_text(
     tree: &mut [u32],
     output: &mut [u8],
 ) -> bool
-    requires { ⌜ FitsText case (length (now source)) (length (now listing)) (length (now tree)) (length (now output)) ⌝ }
+    requires { ⌜
+        FitsText case (length (now source)) (length (now listing)) (length (now tree)) (length (now output))
+        ⌝ }
     ensures { λ r. ⌜ Rewritten case (now (source .entry)) (now (source .exit)) (now (listing .entry)) r ⌝ }
 {
     let length = case.length;
