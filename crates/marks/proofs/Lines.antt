@@ -72,11 +72,13 @@ reading-few t e =
     let first = line (0 ∷ count t ∷ count e ∷ []) in
     let marks = rows-few (markRow t) (2 * fieldRoom) (λ i. line-few _ _) (count t) in
     let errors = rows-few (errorRow e) (7 * fieldRoom) (λ i. line-few _ _) (count e) in
-    omega (arith, line-few 0 (count t ∷ count e ∷ []), marks, errors, length-append first (lines (ms ++ es)), ap length (lines-then ms es), length-append (lines ms) (lines es))
+    let rest = ap length (lines-then ms es) ∙ length-append (lines ms) (lines es) in
+    omega (arith, line-few 0 (count t ∷ count e ∷ []), length-append first (lines (ms ++ es)))
 
 -- all lines
-pub put-reading : {o o₁ o₂ o₃ o₄ : List ℕ} {a a₁ a₂ a₃ a₄ : ℕ} (t e : List ℕ) {n k : ℕ} → length o < 2 ^ 64 → n ≡ getD t 0 0 → k ≡ getD e 0 0
-    → Put o o₁ a a₁ (decimal 0 ++ (Byte.space ∷ [])) → Put o₁ o₂ a₁ a₂ (line (n ∷ k ∷ [])) → Put o₂ o₃ a₂ a₃ (lines (rows (markRow t) (count t)))
+pub put-reading : {o o₁ o₂ o₃ o₄ : List ℕ} {a a₁ a₂ a₃ a₄ : ℕ} (t e : List ℕ) {n k : ℕ} → length o < 2 ^ 64
+    → n ≡ getD t 0 0 → k ≡ getD e 0 0 → Put o o₁ a a₁ (decimal 0 ++ (Byte.space ∷ [])) → Put o₁ o₂ a₁ a₂ (line (n ∷ k ∷ []))
+    → Put o₂ o₃ a₂ a₃ (lines (rows (markRow t) (count t)))
     → Put o₃ o₄ a₃ a₄ (lines (rows (errorRow e) (count e))) → Put o o₄ a a₄ (lines (readRows t e))
 unfolding readRows lines count
 put-reading t e s p q f g h l =

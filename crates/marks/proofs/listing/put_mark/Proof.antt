@@ -24,11 +24,15 @@ word-requires-2 c κs = search needs
 
 add-word-2 : tie.Need-add-word-2
 unfolding capacity
-add-word-2 c = omega (arith, c .before .before .word .ensures, c .before .before .before .before .before .pre .0 .words, c .before .before .before .before .before .pre .0 .counted, c .before .before .before .before .before .pre .1)
+add-word-2 c =
+    let pre = c .before .before .before .before .before .pre in
+    omega (arith, c .before .before .word .ensures, pre .0 .words, pre .0 .counted, pre .1)
 
 word-requires-3 : tie.Need-word-requires-3
 unfolding capacity
-word-requires-3 c κs = omega (arith, c .before .before .word .ensures, c .before .before .before .before .before .pre .0 .words, c .before .before .before .before .before .pre .0 .counted, c .before .before .before .before .before .pre .1)
+word-requires-3 c κs =
+    let pre = c .before .before .before .before .before .pre in
+    omega (arith, c .before .before .word .ensures, pre .0 .words, pre .0 .counted, pre .1)
 
 put-pair-requires : tie.Need-put-pair-requires
 put-pair-requires c κs = search needs
@@ -39,8 +43,12 @@ same-length c = search needs
 returns : tie.Need-returns
 returns c =
     let start = c .before .before .before .before .before .before .before .before .before .args in
+    let room = c .before .before .before .before .before .before .word in
+    let kind = c .before .before .before .before .word2 in
+    let place = c .before .before .before .word3 in
     put-as (c .before .before .put-pair .ensures)
-    (ap line (mark-row (start .tree .now) (start .i) (c .before .before .before .before .before .before .word .result) (c .before .before .before .before .word2 .result) (c .before .before .before .word3 .result) (c .before .before .before .before .before .before .word .ensures) (c .before .before .before .before .word2 .ensures) (c .before .before .before .word3 .ensures)))
+    (ap line
+    (mark-row (start .tree .now) (start .i) (room .result) (kind .result) (place .result) (room .ensures) (kind .ensures) (place .ensures)))
 
 pub put-mark-spec : {M : Type 1} → statement M
 put-mark-spec =

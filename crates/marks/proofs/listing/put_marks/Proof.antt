@@ -12,7 +12,8 @@ use Rattle.marks.proofs.listing.put_marks.Statement.{statement}
 use Rattle.marks.proofs.listing.put_marks.Tie as tie
 
 abbrev Inv-loop : tie.InvT-loop
-Inv-loop tree output₀ at n next₀ i₀ output next i = (n ≡ count tree) × ((i ≤ n) × Put output₀ output at next (lines (rows (markRow tree) i)))
+Inv-loop tree output₀ at n next₀ i₀ output next i =
+    (n ≡ count tree) × ((i ≤ n) × Put output₀ output at next (lines (rows (markRow tree) i)))
 
 abbrev μ-loop : tie.MeasureT-loop
 μ-loop tree output₀ at n next₀ i₀ output next i = n - i
@@ -25,7 +26,8 @@ unfolding count
 loop-holds c = (c .word .ensures, (omega arith, put-no-row _ (omega arith)))
 
 put-mark-requires : tie.Need-put-mark-requires Inv-loop μ-loop
-put-mark-requires c κs = (c .before .before .before .before .before .before .pre, omega (arith, c .before .loop-test .taken, c .before .before .loop .inv .0))
+put-mark-requires c κs =
+    (c .before .before .before .before .before .before .pre, omega (arith, c .before .loop-test .taken, c .before .before .loop .inv .0))
 
 add-i : tie.Need-add-i Inv-loop μ-loop
 add-i c = omega (arith, c .before .before .before .before .loop-test .taken)
@@ -36,7 +38,8 @@ loop-less c = omega (arith, c .before .before .before .before .loop-test .taken)
 loop-again : tie.Need-loop-again Inv-loop μ-loop
 loop-again c =
     let inv = c .before .before .before .before .before .loop .inv in
-    (inv .0, (omega (arith, c .before .before .before .before .loop-test .taken), put-row _ _ (omega arith) (inv .1 .1) (c .before .before .put-mark .ensures)))
+    let row = put-row _ _ (omega arith) (inv .1 .1) (c .before .before .put-mark .ensures) in
+    (inv .0, (omega (arith, c .before .before .before .before .loop-test .taken), row))
 
 same-length : tie.Need-same-length Inv-loop μ-loop
 same-length c = put-length (c .before .loop .inv .1 .1)
@@ -44,7 +47,8 @@ same-length c = put-length (c .before .loop .inv .1 .1)
 returns : tie.Need-returns Inv-loop μ-loop
 returns c =
     let inv = c .before .loop .inv in
-    let e : c .before .loop .i ≡ count (c .before .before .before .before .before .args .tree .now) = omega (arith, inv .0, inv .1 .0, c .loop-test .left) in
+    let n = count (c .before .before .before .before .before .args .tree .now) in
+    let e : c .before .loop .i ≡ n = omega (arith, inv .0, inv .1 .0, c .loop-test .left) in
     rw e at (inv .1 .1)
 
 pub put-marks-spec : {M : Type 1} → statement M

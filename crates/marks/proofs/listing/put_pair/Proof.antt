@@ -18,7 +18,8 @@ same-length c = search needs
 returns : tie.Need-returns
 returns c =
     let start = c .before .before .before .before .before .before .before .before .before .args in
-    put-first (start .x) (start .y) [] (omega arith) (c .before .before .before .before .before .before .put-field .ensures) (put-last (start .y) (c .before .before .put-field2 .ensures))
+    let first = c .before .before .before .before .before .before .put-field .ensures in
+    put-first (start .x) (start .y) [] (omega arith) first (put-last (start .y) (c .before .before .put-field2 .ensures))
 
 pub put-pair-spec : {M : Type 1} → statement M
 put-pair-spec = tie.close (tie.spec put-field-requires put-field-requires-2 same-length returns)

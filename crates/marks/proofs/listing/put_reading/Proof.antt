@@ -28,7 +28,11 @@ same-length c = search needs
 
 returns : tie.Need-returns
 returns c =
-    put-reading _ _ (omega arith) (c .before .before .before .before .before .before .before .before .before .before .before .before .word .ensures) (c .before .before .before .before .before .before .before .before .before .before .before .word2 .ensures) (c .before .before .before .before .before .before .before .before .before .before .before .before .before .before .before .before .put-field .ensures) (c .before .before .before .before .before .before .before .before .before .before .put-pair .ensures) (c .before .before .before .before .before .before .put-marks .ensures) (c .before .before .put-errors .ensures)
+    let accepted = c .before .before .before .before .before .before .before .before .before .before .before .before .before .before .before .before .put-field .ensures in
+    let marks = c .before .before .before .before .before .before .before .before .before .before .before .before .word .ensures in
+    let errors = c .before .before .before .before .before .before .before .before .before .before .before .word2 .ensures in
+    let counts = c .before .before .before .before .before .before .before .before .before .before .put-pair .ensures in
+    put-reading _ _ (omega arith) marks errors accepted counts (c .before .before .before .before .before .before .put-marks .ensures) (c .before .before .put-errors .ensures)
 
 pub put-reading-spec : {M : Type 1} → statement M
 put-reading-spec =
