@@ -54,7 +54,8 @@ pub mark-row : (t : List ℕ) (i c k p : ℕ) → c ≡ getD t 1 0 → k ≡ get
 unfolding markRow capacity
 mark-row t i c k p e f g = cc
 
-pub error-row : (e : List ℕ) (i c n : ℕ) {k x y : ℕ} → c ≡ getD e 1 0 → n ≡ 2 + c + 6 * i → k ≡ getD e (2 + i) 0 → x ≡ getD e (n + 4) 0 → y ≡ getD e (n + 5) 0
+pub error-row : (e : List ℕ) (i c n : ℕ) {k x y : ℕ} → c ≡ getD e 1 0 → n ≡ 2 + c + 6 * i → k ≡ getD e (2 + i) 0
+    → x ≡ getD e (n + 4) 0 → y ≡ getD e (n + 5) 0
     → (k ∷ getD e n 0 ∷ getD e (n + 1) 0 ∷ getD e (n + 2) 0 ∷ getD e (n + 2 + 1) 0 ∷ x ∷ y ∷ []) ≡ errorRow e i
 unfolding errorRow capacity
 error-row e i c n a b f g h = let z : n + 2 + 1 ≡ n + 3 = omega arith in cc

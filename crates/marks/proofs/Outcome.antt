@@ -56,15 +56,21 @@ module _ {s t e out : List ℕ} (l : Lent s t e out) where
   formed : firstIllFormed s ≡ none → answer ≡ answerOf (parse maxOpen s)
   unfolding readAnswer
   formed q =
-      rw
-      (short, readAnswer, q, le-ltb (length t) (treeLayout (length s)) (omega (arith, l .source, l .tree)), le-ltb (length e) (errorLayout (length s)) (omega (arith, l .source, l .errors)))
+      rw (
+        short,
+        readAnswer,
+        q,
+        le-ltb (length t) (treeLayout (length s)) (omega (arith, l .source, l .tree)),
+        le-ltb (length e) (errorLayout (length s)) (omega (arith, l .source, l .errors)),
+      )
 
   ill-formed : (k : ℕ) → firstIllFormed s ≡ some k → answer ≡ NotUtf8 k
   unfolding readAnswer
   ill-formed k q = rw (short, readAnswer, q)
 
   -- a refusal is a line of its number and value
-  pub refusal : {t′ e′ : List ℕ} {a : Answer} → DidRead s t t′ e e′ a → ((v : ℕ) → a ≡ Accepted v → ⊥) → line (numberOf a ∷ valueOf a ∷ []) ≡ printed s
+  pub refusal : {t′ e′ : List ℕ} {a : Answer} → DidRead s t t′ e e′ a → ((v : ℕ) → a ≡ Accepted v → ⊥)
+      → line (numberOf a ∷ valueOf a ∷ []) ≡ printed s
   refusal {a = a} h other = by (firstIllFormed s) refl
     where
       deep : (o : Reading) → parse maxOpen s ≡ o → firstIllFormed s ≡ none → line (numberOf a ∷ valueOf a ∷ []) ≡ printed s
@@ -84,14 +90,17 @@ module _ {s t e out : List ℕ} (l : Lent s t e out) where
     where
       read-value : (o : Reading) → parse maxOpen s ≡ o → firstIllFormed s ≡ none → answer ≡ Accepted 0
       read-value (read ms es) p f = unfold answerOf in (formed f ∙ ap answerOf p)
-      read-value (refused k) p f = unfold answerOf in (let g : TooDeep k ≡ Accepted v = sym (formed f ∙ ap answerOf p) ∙ h in let z : _≡_ {A = ℕ} 0 1 = cc in absurd (omega arith))
+      read-value (refused k) p f = unfold answerOf in
+          (let g : TooDeep k ≡ Accepted v = sym (formed f ∙ ap answerOf p) ∙ h in let z : _≡_ {A = ℕ} 0 1 = cc in
+          absurd (omega arith))
 
       by : (o : Option ℕ) → firstIllFormed s ≡ o → answer ≡ Accepted 0
       by none f = read-value (parse maxOpen s) refl f
       by (some k) f = let g : NotUtf8 k ≡ Accepted v = sym (ill-formed k f) ∙ h in let z : _≡_ {A = ℕ} 0 1 = cc in absurd (omega arith)
 
   -- what an accepted reading leaves
-  pub acceptance : {t′ e′ : List ℕ} {a : Answer} {v : ℕ} → DidRead s t t′ e e′ a → a ≡ Accepted v → length t′ ≡ length t → length e′ ≡ length e → Ready s t′ e′ out
+  pub acceptance : {t′ e′ : List ℕ} {a : Answer} {v : ℕ} → DidRead s t t′ e e′ a → a ≡ Accepted v → length t′ ≡ length t
+      → length e′ ≡ length e → Ready s t′ e′ out
   acceptance {t′} {e′} {v = v} h z a b =
       let d = read-of s t e (zero-value v (sym (h .answers) ∙ z)) in
       let p = h .tree ∙ d .tree in
@@ -118,4 +127,9 @@ module _ {s t e out : List ℕ} (l : Lent s t e out) where
 pub zeros : {s : List ℕ} (a b c : ℕ) → length s ≤ maxSource → treeLayout maxSource ≤ a → errorLayout maxSource ≤ b → outputRoom ≤ c
     → Lent s (replicate a 0) (replicate b 0) (replicate c 0)
 zeros a b c h i j k =
-    record { source = h; tree = omega (arith, length-replicate {A = ℕ} a 0); errors = omega (arith, length-replicate {A = ℕ} b 0); output = omega (arith, length-replicate {A = ℕ} c 0) }
+    record {
+      source = h;
+      tree = omega (arith, length-replicate {A = ℕ} a 0);
+      errors = omega (arith, length-replicate {A = ℕ} b 0);
+      output = omega (arith, length-replicate {A = ℕ} c 0);
+    }

@@ -54,7 +54,8 @@ module _ (c : ℕ) (ms : List Mark) (rest : List ℕ) (h : length ms ≤ c) wher
       row : (i : ℕ) → i < length ms → markRow t i ≡ markLine (getD ms i (plain 0))
       row i l =
           unfold markRow markLine kinds places count capacity treeWords in
-          (ap₂ (λ (a b : ℕ). a ∷ b ∷ []) (part-at t (map kindOf ms) (length ms) 2 i (tree-kinds c ms rest) l ∙ map-at kindOf (plain 0) ms i l)
+          (ap₂ (λ (a b : ℕ). a ∷ b ∷ [])
+          (part-at t (map kindOf ms) (length ms) 2 i (tree-kinds c ms rest) l ∙ map-at kindOf (plain 0) ms i l)
           (part-at t (map placeOf ms) (length ms) (2 + c) i (tree-places c ms rest h) l ∙ map-at placeOf (plain 0) ms i l))
 
 -- a word of a list of groups
@@ -94,7 +95,9 @@ module _ (c : ℕ) (es : List Error) (rest : List ℕ) (h : length es ≤ c) whe
       at i l j k =
           unfold groupsIn count capacity errorWords in
           (let z : 2 + c + 6 * i + j ≡ 2 + c + (6 * i + j) = omega arith in
-          ap (λ n. getD w n 0) z ∙ part-at w (groups es) (6 * length es) (2 + c) (6 * i + j) (error-groups c es rest h) (omega arith) ∙ group-at es i j l k)
+          ap (λ n. getD w n 0) z
+          ∙ part-at w (groups es) (6 * length es) (2 + c) (6 * i + j) (error-groups c es rest h) (omega arith)
+          ∙ group-at es i j l k)
 
       row : (i : ℕ) → i < length es → errorRow w i ≡ errorLine (getD es i none)
       row i l =

@@ -47,7 +47,8 @@ sets-repeat-room l i b n m e h =
     (ap (λ k. sets l i (replicate k b)) (sym more)
     ∙ ap (λ t. sets l i t) (sym (replicate-append-replicate n (m - n) b))
     ∙ sym (sets-append l i (replicate n b) (replicate (m - n) b))
-    ∙ sets-past (sets l i (replicate n b)) (i + length (replicate n b)) (replicate (m - n) b) (omega (arith, length-sets l i (replicate n b), length-replicate n b)))
+    ∙ sets-past (sets l i (replicate n b)) (i + length (replicate n b)) (replicate (m - n) b)
+    (omega (arith, length-sets l i (replicate n b), length-replicate n b)))
 
 -- the first n, and then all from the kth on again
 set-sets : (l : List ℕ) (i a j : ℕ) (xs : List ℕ) → i < j → set (sets l j xs) i a ≡ sets (set l i a) j xs

@@ -40,7 +40,9 @@ comment-plain k c =
 pub comment-child : (k q j r : ℕ) → isComment k ≡ true → step k q j ≡ some r → (j ≡ Kind.commentLine) × (r ≡ start)
 unfolding isComment among models
 comment-child k q j r c s =
-    let t = otherwise (not (isComment k)) (eqb j Kind.commentLine && eqb r start) (rule (λ k q j r. not (isComment k) || (eqb j Kind.commentLine && eqb r start)) refl k q j r s) (ap not c) in
+    let t =
+    otherwise (not (isComment k)) (eqb j Kind.commentLine && eqb r start)
+    (rule (λ k q j r. not (isComment k) || (eqb j Kind.commentLine && eqb r start)) refl k q j r s) (ap not c) in
     let b = and-eq-true-iff (eqb j Kind.commentLine) (eqb r start) .0 t in
     (eqb-true j Kind.commentLine (b .0), eqb-true r start (b .1))
 
@@ -56,10 +58,12 @@ module _ (source tree prefix : List ℕ) where
     pub kind : ℕ
     pub lines : isComment kind ≡ true
     pub here : Inside (isBoundary source) (marksIn tree) m kind start
-    pub way : Going o₀ o w₀ w (comment source prefix (innerAt (marksIn tree) m₀)) (map (commentLine source prefix) (nodes (innerAt (marksIn tree) m)))
+    pub way : Going o₀ o w₀ w (comment source prefix (innerAt (marksIn tree) m₀))
+        (map (commentLine source prefix) (nodes (innerAt (marksIn tree) m)))
     pub till : m + length (innerAt (marksIn tree) m) ≡ m₀ + length (innerAt (marksIn tree) m₀)
 
-  pub lines-first : (o : List ℕ) (w : TextWriter) (i : ℕ) → CommentAt (isBoundary source) (marksIn tree) i → Room w (comment source prefix (nodeAt (marksIn tree) i .inner)) → Lines o o w w (i + 1) (i + 1)
+  pub lines-first : (o : List ℕ) (w : TextWriter) (i : ℕ) → CommentAt (isBoundary source) (marksIn tree) i
+      → Room w (comment source prefix (nodeAt (marksIn tree) i .inner)) → Lines o o w w (i + 1) (i + 1)
   unfolding comment
   lines-first o w i a r =
       let e = enter (a .at) (comment-plain (a .kind) (a .comment)) in
@@ -75,16 +79,24 @@ module _ (source tree prefix : List ℕ) where
   pub record Turn (o₀ o : List ℕ) (w₀ w : TextWriter) (m₀ m : ℕ) : Type 0 where
     pub text : TextAt (isBoundary source) (marksIn tree) m
     pub room : Room w (lineOf prefix (textOf source (nodeAt (marksIn tree) m)))
-    pub on : (o′ : List ℕ) (w′ : TextWriter) → Wrote o o′ w w′ (lineOf prefix (textOf source (nodeAt (marksIn tree) m))) → Lines o₀ o′ w₀ w′ m₀ (m + 2)
+    pub on : (o′ : List ℕ) (w′ : TextWriter) → Wrote o o′ w w′ (lineOf prefix (textOf source (nodeAt (marksIn tree) m)))
+        → Lines o₀ o′ w₀ w′ m₀ (m + 2)
 
   module _ {o₀ o : List ℕ} {w₀ w : TextWriter} {m₀ m : ℕ} (s : Lines o₀ o w₀ w m₀ m) where
-    turn-from : (j r : ℕ) → j ≡ Kind.commentLine → r ≡ start → At (isBoundary source) (marksIn tree) m j → Inside (isBoundary source) (marksIn tree) (after (marksIn tree) m) (s .kind) r
-        → nodes (innerAt (marksIn tree) m) ≡ nodeAt (marksIn tree) m ∷ nodes (innerAt (marksIn tree) (after (marksIn tree) m)) → m + length (innerAt (marksIn tree) m) ≡ after (marksIn tree) m + length (innerAt (marksIn tree) (after (marksIn tree) m)) → Turn o₀ o w₀ w m₀ m
+    turn-from : (j r : ℕ) → j ≡ Kind.commentLine → r ≡ start → At (isBoundary source) (marksIn tree) m j
+        → Inside (isBoundary source) (marksIn tree) (after (marksIn tree) m) (s .kind) r
+        → nodes (innerAt (marksIn tree) m) ≡ nodeAt (marksIn tree) m
+        ∷ nodes (innerAt (marksIn tree) (after (marksIn tree) m))
+        → m + length (innerAt (marksIn tree) m)
+        ≡ after (marksIn tree) m + length (innerAt (marksIn tree) (after (marksIn tree) m))
+        → Turn o₀ o w₀ w m₀ m
     unfolding Kind.isText commentLine lineOf blankLine
     turn-from j r e f a n ns l =
         let t : Kind.isText j ≡ true = rw e in
         let p : after (marksIn tree) m ≡ m + 2 = text-after a t in
-        let g : Going o₀ o w₀ w (comment source prefix (innerAt (marksIn tree) m₀)) (lineOf prefix (textOf source (nodeAt (marksIn tree) m)) ∷ map (commentLine source prefix) (nodes (innerAt (marksIn tree) (after (marksIn tree) m)))) =
+        let g : Going o₀ o w₀ w (comment source prefix (innerAt (marksIn tree) m₀))
+        (lineOf prefix (textOf source (nodeAt (marksIn tree) m))
+        ∷ map (commentLine source prefix) (nodes (innerAt (marksIn tree) (after (marksIn tree) m)))) =
         rw ns at (s .way)
         in
         record {
@@ -108,15 +120,20 @@ module _ (source tree prefix : List ℕ) where
         go (goes j r t a n ns l) = let b = comment-child (s .kind) start j r (s .lines) t in turn-from j r (b .0) (b .1) a n ns l
 
     -- the last mark
-    lines-end : (kindAt (marksIn tree) m ≡ Kind.commentLine → ⊥) → Wrote o₀ o w₀ w (comment source prefix (innerAt (marksIn tree) m₀)) × (m ≡ m₀ + length (innerAt (marksIn tree) m₀))
+    lines-end : (kindAt (marksIn tree) m ≡ Kind.commentLine → ⊥)
+        → Wrote o₀ o w₀ w (comment source prefix (innerAt (marksIn tree) m₀))
+        × (m ≡ m₀ + length (innerAt (marksIn tree) m₀))
     unfolding nodes nodesFrom
     lines-end k = go (next (s .here))
       where
-        go : Next (isBoundary source) (marksIn tree) m (s .kind) start → Wrote o₀ o w₀ w (comment source prefix (innerAt (marksIn tree) m₀)) × (m ≡ m₀ + length (innerAt (marksIn tree) m₀))
+        go : Next (isBoundary source) (marksIn tree) m (s .kind) start
+            → Wrote o₀ o w₀ w (comment source prefix (innerAt (marksIn tree) m₀))
+            × (m ≡ m₀ + length (innerAt (marksIn tree) m₀))
         go (ends c z f) = (gone (rw z at (s .way)), omega (arith, s .till, ap length z))
         go (goes j r t a n ns l) = absurd (k (at-kind a ∙ comment-child (s .kind) start j r (s .lines) t .0))
 
-  pub lines-done : {o₀ o : List ℕ} {w₀ w : TextWriter} {m : ℕ} (i : ℕ) → CommentAt (isBoundary source) (marksIn tree) i → Lines o₀ o w₀ w (i + 1) m → (kindAt (marksIn tree) m ≡ Kind.commentLine → ⊥)
+  pub lines-done : {o₀ o : List ℕ} {w₀ w : TextWriter} {m : ℕ} (i : ℕ) → CommentAt (isBoundary source) (marksIn tree) i
+      → Lines o₀ o w₀ w (i + 1) m → (kindAt (marksIn tree) m ≡ Kind.commentLine → ⊥)
       → Wrote o₀ o w₀ w (comment source prefix (nodeAt (marksIn tree) i .inner)) × (m + 1 ≡ after (marksIn tree) i)
   lines-done i a s k =
       let e = enter (a .at) (comment-plain (a .kind) (a .comment)) in

@@ -13,7 +13,8 @@ use Rattle.syntax.specs.Layout.{marksIn}
 use Rattle.syntax.specs.Marks.{Mark, node}
 use Rattle.syntax.specs.Shape.{named, among}
 use Rattle.syntax.specs.Tests.{sizesFit}
-use Rattle.syntax.specs.Serializer.{Node, nodesFrom, nodes, _⊕_, empty, literal, newline, indented, each, first, isEmpty, ofKind, name, attribute, attributes}
+use Rattle.syntax.specs.Serializer.{Node, nodesFrom, nodes, _⊕_, empty, literal, newline, indented, each, first}
+use Rattle.syntax.specs.Serializer.{isEmpty, ofKind, name, attribute, attributes}
 use Rattle.laws.specs.Text.{attribute-is, message-is}
 use Rattle.serializer.specs.declared.serializer.Serializer.{Serializer}
 use Rattle.serializer.specs.declared.writer.TextWriter.{TextWriter}
@@ -21,7 +22,8 @@ use Rattle.serializer.specs.Writer.{Wrote}
 use Rattle.tree.specs.Walk.{kindAt, nodeAt, after, innerAt, OneAt, Inside}
 use Rattle.serializer.specs.Serialize.{patternIn, raise, lower, Ready, Done}
 use Rattle.serializer.specs.Message.{naming, values, messageIn, termIn, ReadyFor, Valued}
-use Rattle.serializer.proofs.Pieces.{Row, two, then-assoc, then-empty, Going, going, room-first, going-on, gone, room-within, wrote-within}
+use Rattle.serializer.proofs.Pieces.{Row, two, then-assoc, then-empty, Going, going, room-first, going-on, gone}
+use Rattle.serializer.proofs.Pieces.{room-within, wrote-within}
 use Rattle.tree.proofs.Walk.{Next, ends, goes, next, at-kind, node-kind}
 use Rattle.serializer.proofs.Comments.{each-row}
 use Rattle.tree.proofs.Children.{only, keeps, omits}
@@ -34,7 +36,8 @@ naming-row source n = two (name source n) (literal (ascii " ="))
 
 -- an attribute
 pub attribute-row : {boundary : ℕ → Bool} {ms : List Mark} {i : ℕ} (source : List ℕ) → Pair boundary ms i (Kind.pattern ∷ [])
-    → Row (attribute source (nodeAt ms i)) (newline ∷ literal (ascii ".") ∷ naming source (nodeAt ms (i + 1)) ∷ patternIn source (nodeAt ms (i + 3)) ∷ [])
+    → Row (attribute source (nodeAt ms i))
+    (newline ∷ literal (ascii ".") ∷ naming source (nodeAt ms (i + 1)) ∷ patternIn source (nodeAt ms (i + 3)) ∷ [])
 unfolding Kind.isText naming first ofKind
 attribute-row {ms = ms} {i} source p =
     let x = nodeAt ms (i + 1) in
@@ -43,15 +46,19 @@ attribute-row {ms = ms} {i} source p =
     let e = literal (ascii " =") in
     let v = patternIn source y in
     let ps : ofKind source (λ k. eqb k Kind.pattern) (x ∷ y ∷ []) ≡ y ∷ [] =
-    omits source Kind.pattern x (y ∷ []) (text-other Kind.pattern (p .key) refl) ∙ keeps source Kind.pattern y [] (node-kind (p .value .at) ∙ only (p .value))
+    omits source Kind.pattern x (y ∷ []) (text-other Kind.pattern (p .key) refl)
+    ∙ keeps source Kind.pattern y [] (node-kind (p .value .at) ∙ only (p .value))
     in
     record {
       same =
           attribute-is source (nodeAt ms i)
-          ∙ rw (p .both, ps) (ap (λ z. newline ⊕ literal (ascii ".") ⊕ z) (sym (then-assoc n e v) ∙ ap (λ z. (n ⊕ e) ⊕ z) (sym (then-empty v))));
+          ∙ rw (p .both, ps)
+          (ap (λ z. newline ⊕ literal (ascii ".") ⊕ z)
+          (sym (then-assoc n e v) ∙ ap (λ z. (n ⊕ e) ⊕ z) (sym (then-empty v))));
     }
 
-pub attribute-parts : {boundary : ℕ → Bool} {ms : List Mark} {i : ℕ} → OneAt boundary (Kind.attribute ∷ []) ms i → Pair boundary ms i (Kind.pattern ∷ [])
+pub attribute-parts : {boundary : ℕ → Bool} {ms : List Mark} {i : ℕ} → OneAt boundary (Kind.attribute ∷ []) ms i
+    → Pair boundary ms i (Kind.pattern ∷ [])
 attribute-parts a = attribute-pair (rw (only a) at (a .at))
 
 module _ (source tree : List ℕ) {i : ℕ} (k : ℕ) (one : among k named ≡ true) (h : Inside (isBoundary source) (marksIn tree) i k 1) where
@@ -59,7 +66,15 @@ module _ (source tree : List ℕ) {i : ℕ} (k : ℕ) (one : among k named ≡ t
   ms = marksIn tree
 
   pub unvalued : (kindAt ms i ≡ Kind.pattern → ⊥) → Valued source tree i i
-  unvalued other = let n = no-value k one h other in record { kind = k; one = one; here = n; left = attributes-only k one source n .1; till = refl; later = omega arith }
+  unvalued other = let n = no-value k one h other in
+      record {
+        kind = k;
+        one = one;
+        here = n;
+        left = attributes-only k one source n .1;
+        till = refl;
+        later = omega arith;
+      }
 
   pub no-values : (kindAt ms i ≡ Kind.pattern → ⊥) → values source (nodes (innerAt ms i)) ≡ empty
   unfolding values each
@@ -83,7 +98,9 @@ module _ (source tree : List ℕ) {i : ℕ} (k : ℕ) (one : among k named ≡ t
           let b = attributes-only k one source o₂ in
           record {
             there = record { kind = j; one = rw p; at = a };
-            same = rw (ns, values, keeps source Kind.pattern (nodeAt ms i) (nodes (innerAt ms (after ms i))) n, b .0) (then-empty (patternIn source (nodeAt ms i)));
+            same =
+                rw (ns, values, keeps source Kind.pattern (nodeAt ms i) (nodes (innerAt ms (after ms i))) n, b .0)
+                (then-empty (patternIn source (nodeAt ms i)));
             on = record {
               kind = k;
               one = one;
@@ -96,7 +113,9 @@ module _ (source tree : List ℕ) {i : ℕ} (k : ℕ) (one : among k named ≡ t
 
 -- a message, or a term after its dash
 pub message-row : {boundary : ℕ → Bool} {ms : List Mark} {i : ℕ} (source : List ℕ) → Head boundary ms i
-    → Row (messageIn source (nodeAt ms i)) (naming source (nodeAt ms (i + 1)) ∷ values source (nodes (innerAt ms (i + 3))) ∷ attributes source (ofKind source (λ k. eqb k Kind.attribute) (nodes (innerAt ms (i + 3)))) ∷ newline ∷ [])
+    → Row (messageIn source (nodeAt ms i))
+    (naming source (nodeAt ms (i + 1)) ∷ values source (nodes (innerAt ms (i + 3)))
+    ∷ attributes source (ofKind source (λ k. eqb k Kind.attribute) (nodes (innerAt ms (i + 3)))) ∷ newline ∷ [])
 unfolding Kind.isText naming values first
 message-row {ms = ms} {i} source h =
     let ns = nodes (innerAt ms (i + 3)) in
@@ -108,7 +127,11 @@ message-row {ms = ms} {i} source h =
     record {
       same =
           message-is source (nodeAt ms i .inner)
-          ∙ rw (h .split, omits source Kind.pattern x ns (text-other Kind.pattern (h .key) refl), omits source Kind.attribute x ns (text-other Kind.attribute (h .key) refl))
+          ∙ rw (
+            h .split,
+            omits source Kind.pattern x ns (text-other Kind.pattern (h .key) refl),
+            omits source Kind.attribute x ns (text-other Kind.attribute (h .key) refl),
+          )
           (sym (then-assoc n e (v ⊕ rest ⊕ newline)) ∙ ap (λ z. (n ⊕ e) ⊕ v ⊕ rest ⊕ z) (sym (then-empty newline)));
     }
 
@@ -134,10 +157,12 @@ module _ (source tree : List ℕ) where
     pub one : among kind named ≡ true
     pub here : Inside (isBoundary source) (marksIn tree) (s .mark) kind 2
     pub shallow : s .writer .indent ≤ s .mark
-    pub way : Going o₀ o w₀ (s .writer) (each (attribute source) (nodes (innerAt (marksIn tree) m₀))) (map (attribute source) (nodes (innerAt (marksIn tree) (s .mark))))
+    pub way : Going o₀ o w₀ (s .writer) (each (attribute source) (nodes (innerAt (marksIn tree) m₀)))
+        (map (attribute source) (nodes (innerAt (marksIn tree) (s .mark))))
     pub till : s .mark + length (innerAt (marksIn tree) (s .mark)) ≡ m₀ + length (innerAt (marksIn tree) m₀)
 
-  pub attributes-first : (o : List ℕ) (s : Serializer) → ReadyFor source tree s 2 (attributes source) → Attributes o o (raise true (s .writer)) (s .mark) (record { writer = raise true (s .writer); mark = s .mark })
+  pub attributes-first : (o : List ℕ) (s : Serializer) → ReadyFor source tree s 2 (attributes source)
+      → Attributes o o (raise true (s .writer)) (s .mark) (record { writer = raise true (s .writer); mark = s .mark })
   attributes-first o s h =
       let ns = nodes (innerAt (marksIn tree) (s .mark)) in
       record {
@@ -145,7 +170,9 @@ module _ (source tree : List ℕ) where
         one = h .one;
         here = h .here;
         shallow = h .shallow;
-        way = going o (raise true (s .writer)) (record { same = each-row (attribute source) ns }) (room-within true (s .writer) (each (attribute source) ns) (rw (attributes-each source ns) at (h .room)));
+        way =
+            going o (raise true (s .writer)) (record { same = each-row (attribute source) ns })
+            (room-within true (s .writer) (each (attribute source) ns) (rw (attributes-each source ns) at (h .room)));
         till = refl;
       }
 
@@ -165,10 +192,19 @@ module _ (source tree : List ℕ) where
         go : Next (isBoundary source) ms (s .mark) (h .kind) 2 → AttributeNext
         go (ends c z f) = absurd (omega arith)
         go (goes j r t a n ns l) =
-            let g : Going o₀ o w₀ (s .writer) (each (attribute source) (nodes (innerAt ms m₀))) (attribute source (nodeAt ms (s .mark)) ∷ map (attribute source) (nodes (innerAt ms (after ms (s .mark))))) = rw ns at (h .way) in
+            let g : Going o₀ o w₀ (s .writer) (each (attribute source) (nodes (innerAt ms m₀)))
+            (attribute source (nodeAt ms (s .mark))
+            ∷ map (attribute source) (nodes (innerAt ms (after ms (s .mark))))) =
+            rw ns at (h .way) in
             let n₂ : Inside (isBoundary source) ms (after ms (s .mark)) (h .kind) 2 = rw (third (h .kind) (h .one) j r t .1) at n in
             record {
-              ready = λ fit. record { fit = fit; node = record { kind = j; one = rw (sym (at-kind a) ∙ e); at = a }; shallow = h .shallow; room = room-first g };
+              ready =
+                  λ fit. record {
+                    fit = fit;
+                    node = record { kind = j; one = rw (sym (at-kind a) ∙ e); at = a };
+                    shallow = h .shallow;
+                    room = room-first g;
+                  };
               on = λ o′ s′ d.
                   record {
                     kind = h .kind;
@@ -193,5 +229,8 @@ module _ (source tree : List ℕ) where
         go (ends c z f) = record { wrote = gone (rw z at (h .way)); end = omega (arith, h .till, ap length z) }
         go (goes j r t a n ns l) = absurd (e (at-kind a ∙ third (h .kind) (h .one) j r t .0))
 
-  pub attributes-wrote : {o₀ o : List ℕ} {w w′ : TextWriter} (m : ℕ) → Wrote o₀ o (raise true w) w′ (each (attribute source) (nodes (innerAt (marksIn tree) m))) → Wrote o₀ o w (lower true w′) (attributes source (nodes (innerAt (marksIn tree) m)))
-  attributes-wrote {w = w} m h = let ns = nodes (innerAt (marksIn tree) m) in rw (attributes-each source ns) (wrote-within true w (each (attribute source) ns) h)
+  pub attributes-wrote : {o₀ o : List ℕ} {w w′ : TextWriter} (m : ℕ)
+      → Wrote o₀ o (raise true w) w′ (each (attribute source) (nodes (innerAt (marksIn tree) m)))
+      → Wrote o₀ o w (lower true w′) (attributes source (nodes (innerAt (marksIn tree) m)))
+  attributes-wrote {w = w} m h = let ns = nodes (innerAt (marksIn tree) m) in
+      rw (attributes-each source ns) (wrote-within true w (each (attribute source) ns) h)

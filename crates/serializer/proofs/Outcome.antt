@@ -56,12 +56,16 @@ module _ (s t : List ℕ) (junk : Bool) where
         record { answers = rw (q, textAnswer) (ap OutputTooShort all-counted); output = rw (q, textAnswer) none-stored }
 
     -- and the second, over all of it
-    pub with-room : (o′ : List ℕ) (w′ : TextWriter) → w .at ≤ length (n ++ o) → Wrote (n ++ o) o′ begun w′ piece → DidWriteInto text o o′ (Accepted (w .at))
+    pub with-room : (o′ : List ℕ) (w′ : TextWriter) → w .at ≤ length (n ++ o) → Wrote (n ++ o) o′ begun w′ piece
+        → DidWriteInto text o o′ (Accepted (w .at))
     unfolding serialize textAnswer sliceAfter effectOf sliceBy
     with-room o′ w′ h f =
         let l : length text ≤ length o = omega (arith, ap length none-stored, all-counted) in
         let q = le-ltb (length o) (length text) l in
-        record { answers = rw (q, textAnswer) (ap Accepted all-counted); output = rw (q, textAnswer) (f .stored ∙ ap (λ m. sets m 0 text) none-stored ∙ sets-first o text l) }
+        record {
+          answers = rw (q, textAnswer) (ap Accepted all-counted);
+          output = rw (q, textAnswer) (f .stored ∙ ap (λ m. sets m 0 text) none-stored ∙ sets-first o text l);
+        }
 
 -- the tests before the writing: the call answers the refusal that they give, and changes nothing; or it writes
 module _ (s t o : List ℕ) (junk : Bool) where
@@ -72,9 +76,11 @@ module _ (s t o : List ℕ) (junk : Bool) where
       let u = refusal-keeps s t r q in
       record { answers = rw (q, writeAnswer); output = rw (q, writeAnswer) (rw u) }
 
-  pub passed : Passed ≡ testedOf (refusal s t) → (o′ : List ℕ) (r : Answer) → DidWriteInto (serialize s junk (marksIn t)) o o′ r → DidWrite s t o o′ junk r
+  pub passed : Passed ≡ testedOf (refusal s t) → (o′ : List ℕ) (r : Answer)
+      → DidWriteInto (serialize s junk (marksIn t)) o o′ r → DidWrite s t o o′ junk r
   unfolding writeAnswer outputAfter
-  passed e o′ r d = let q = none-of (refusal s t) e in record { answers = rw (q, writeAnswer) (d .answers); output = rw (q, writeAnswer) (d .output) }
+  passed e o′ r d = let q = none-of (refusal s t) e in
+      record { answers = rw (q, writeAnswer) (d .answers); output = rw (q, writeAnswer) (d .output) }
 
 pub passing : (s t : List ℕ) → Passed ≡ testedOf (refusal s t) → Passes s t
 passing s t e = passes s t (none-of (refusal s t) e)

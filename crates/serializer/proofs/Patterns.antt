@@ -32,7 +32,11 @@ module _ {boundary : ℕ → Bool} {ms : List Mark} {i j : ℕ} (a : At boundary
   unfolding isSelect
   select-other x y source zero more h = absurd (omega arith)
   select-other x y source (suc n) more h =
-      rw (ne-eqb (nodeAt ms i .kind) Kind.select (λ e. x (sym (node-kind a) ∙ e)), ne-eqb (nodeAt ms i .kind) Kind.placeable (λ e. y (sym (node-kind a) ∙ e)), isSelect)
+      rw (
+        ne-eqb (nodeAt ms i .kind) Kind.select (λ e. x (sym (node-kind a) ∙ e)),
+        ne-eqb (nodeAt ms i .kind) Kind.placeable (λ e. y (sym (node-kind a) ∙ e)),
+        isSelect,
+      )
 
   -- into a placeable
   pub record Within : Type 0 where
@@ -48,7 +52,13 @@ module _ {boundary : ℕ → Bool} {ms : List Mark} {i j : ℕ} (a : At boundary
       same v f source zero more h = absurd (omega arith)
       same v f source (suc n) more h =
           let x = node-kind a ∙ e in
-          rw (ne-eqb (nodeAt ms i .kind) Kind.select (λ z. omega arith), eq-eqb (nodeAt ms i .kind) Kind.placeable x, isSelect, ← m .inner, ns)
+          rw (
+            ne-eqb (nodeAt ms i .kind) Kind.select (λ z. omega arith),
+            eq-eqb (nodeAt ms i .kind) Kind.placeable x,
+            isSelect,
+            ← m .inner,
+            ns,
+          )
           (f source n (nodes (innerAt ms (after ms (i + 1)))) (omega (arith, l, ap length (m .inner))))
 
   pub select-within : j ≡ Kind.placeable → Within
@@ -70,7 +80,8 @@ module _ {boundary : ℕ → Bool} {ms : List Mark} {i : ℕ} (a : At boundary m
     where
       go : Next boundary ms (i + 1) Kind.pattern start → leadingDot source (nodes (innerAt ms (i + 1))) ≡ false
       go (ends c z f) = rw z
-      go (goes j r s b n ns l) = rw (ns, leadingDot, ne-eqb (nodeAt ms (i + 1) .kind) Kind.text (λ e. h (at-kind b ∙ sym (node-kind b) ∙ e)))
+      go (goes j r s b n ns l) =
+          rw (ns, leadingDot, ne-eqb (nodeAt ms (i + 1) .kind) Kind.text (λ e. h (at-kind b ∙ sym (node-kind b) ∙ e)))
 
   pub record Leading (source : List ℕ) : Type 0 where
     pub text : TextAt boundary ms (i + 1)
@@ -105,9 +116,12 @@ module _ {boundary : ℕ → Bool} {ms : List Mark} {i : ℕ} (e : OneAt boundar
       byCase (eqb (e .kind) Kind.placeable) (λ z. eqb-true (e .kind) Kind.placeable z)
       (λ z. clash (e .one) (rw (ne-eqb (e .kind) Kind.text (λ k. h (at-kind (e .at) ∙ k)), z)))
 
-  pub multiline-text : (source : List ℕ) → kindAt ms i ≡ Kind.text → multilineElement source (nodeAt ms i) ≡ hasNewline [] (textOf source (nodeAt ms i))
+  pub multiline-text : (source : List ℕ) → kindAt ms i ≡ Kind.text
+      → multilineElement source (nodeAt ms i) ≡ hasNewline [] (textOf source (nodeAt ms i))
   unfolding multilineElement
-  multiline-text source h = rw (eq-eqb (nodeAt ms i .kind) Kind.text (node-kind (e .at) ∙ sym (at-kind (e .at)) ∙ h), multilineElement) (newline-any source (textOf source (nodeAt ms i)))
+  multiline-text source h =
+      rw (eq-eqb (nodeAt ms i .kind) Kind.text (node-kind (e .at) ∙ sym (at-kind (e .at)) ∙ h), multilineElement)
+      (newline-any source (textOf source (nodeAt ms i)))
 
   -- a placeable, and the expression in it
   pub record Placed : Type 0 where
@@ -120,7 +134,11 @@ module _ {boundary : ℕ → Bool} {ms : List Mark} {i : ℕ} (e : OneAt boundar
       let k = element-placeable h in
       let a : At boundary ms i Kind.placeable = rw k at (e .at) in
       let m = enter a refl in
-      let f : Follows boundary ms (i + 1) Kind.placeable _ 1 = must (Kind.select ∷ Kind.string ∷ Kind.number ∷ Kind.variable ∷ Kind.function ∷ Kind.messageReference ∷ Kind.termReference ∷ Kind.placeable ∷ []) 1 refl refl (m .first) in
+      let f : Follows boundary ms (i + 1) Kind.placeable _ 1 =
+      must
+      (Kind.select ∷ Kind.string ∷ Kind.number ∷ Kind.variable ∷ Kind.function ∷ Kind.messageReference
+      ∷ Kind.termReference ∷ Kind.placeable ∷ []) 1 refl refl
+      (m .first) in
       record {
         there = record { boundary = boundary; kind = f .child .kind; at = f .child .at };
         same = λ source v s.
@@ -134,11 +152,14 @@ module _ {boundary : ℕ → Bool} {ms : List Mark} {i : ℕ} (n : Open boundary
   unfolding models among
   element-next l = goes-on elements refl n l
 
-  pub multiline-first : (source : List ℕ) (l : kindAt ms i < Kind.closing 0) → multilineElement source (nodeAt ms i) ≡ true → isMultiline source (nodes (innerAt ms i)) ≡ true
+  pub multiline-first : (source : List ℕ) (l : kindAt ms i < Kind.closing 0)
+      → multilineElement source (nodeAt ms i) ≡ true → isMultiline source (nodes (innerAt ms i)) ≡ true
   unfolding isMultiline
   multiline-first source l h = rw (element-next l .follows .split, isMultiline, h)
 
-  pub multiline-later : (source : List ℕ) (l : kindAt ms i < Kind.closing 0) → multilineElement source (nodeAt ms i) ≡ false → isMultiline source (nodes (innerAt ms i)) ≡ isMultiline source (nodes (innerAt ms (after ms i)))
+  pub multiline-later : (source : List ℕ) (l : kindAt ms i < Kind.closing 0)
+      → multilineElement source (nodeAt ms i) ≡ false
+      → isMultiline source (nodes (innerAt ms i)) ≡ isMultiline source (nodes (innerAt ms (after ms i)))
   unfolding isMultiline
   multiline-later source l h = rw (element-next l .follows .split, isMultiline, h)
 

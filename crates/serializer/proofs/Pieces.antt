@@ -14,7 +14,8 @@ use Rattle.laws.specs.Sets.{sets-append, sets-last}
 use Rattle.syntax.specs.Byte as Byte
 use Rattle.syntax.specs.Bytes.{ascii}
 use Rattle.syntax.specs.Marks.{Mark}
-use Rattle.syntax.specs.Serializer.{Piece, lastOf, _⊕_, empty, indentWidth, literal, newline, indented, star, if, blankLine, comment, freeComment}
+use Rattle.syntax.specs.Serializer.{Piece, lastOf, _⊕_, empty, indentWidth, literal, newline, indented, star, if}
+use Rattle.syntax.specs.Serializer.{blankLine, comment, freeComment}
 use Rattle.output.specs.Put.{Put}
 use Rattle.serializer.specs.declared.writer.TextWriter.{TextWriter}
 use Rattle.serializer.specs.Writer.{textAt, bytes, Room, Wrote}
@@ -47,7 +48,12 @@ wrote-put t e f = record { stored = e .stored; end = ap (λ z. z .at) f; ending 
 -- another piece with the same bytes here
 pub wrote-as : {o o′ : List ℕ} {w w′ : TextWriter} {p : Piece} (q : Piece) → textAt w p ≡ textAt w q → Wrote o o′ w w′ p → Wrote o o′ w w′ q
 wrote-as {o} {w = w} q e h =
-    record { stored = h .stored ∙ ap (λ t. sets o (w .at) t) e; end = h .end ∙ ap (λ t. w .at + length t) e; ending = h .ending ∙ ap (λ t. lastOf (w .last) t) e; level = h .level }
+    record {
+      stored = h .stored ∙ ap (λ t. sets o (w .at) t) e;
+      end = h .end ∙ ap (λ t. w .at + length t) e;
+      ending = h .ending ∙ ap (λ t. lastOf (w .last) t) e;
+      level = h .level;
+    }
 
 -- a piece, and then another
 module _ {o o₁ : List ℕ} {w w₁ : TextWriter} {p : Piece} (h : Wrote o o₁ w w₁ p) (q : Piece) where
@@ -81,7 +87,8 @@ spaces-last b zero h = absurd (omega arith)
 spaces-last b (suc zero) h = refl
 spaces-last b (suc (suc n)) h = spaces-last Byte.space (suc n) (omega arith)
 
-pub wrote-spaces : {o o′ : List ℕ} {w w′ : TextWriter} {a : ℕ} → 1 ≤ w .indent → Put o o′ (w .at) a (replicate (indentWidth * w .indent) Byte.space)
+pub wrote-spaces : {o o′ : List ℕ} {w w′ : TextWriter} {a : ℕ} → 1 ≤ w .indent
+    → Put o o′ (w .at) a (replicate (indentWidth * w .indent) Byte.space)
     → w′ ≡ (record { at = w .at + indentWidth * w .indent; last = Byte.space; indent = w .indent })
     → Wrote o o′ w w′ (bytes (replicate (indentWidth * w .indent) Byte.space))
 wrote-spaces {w = w} h e f =
@@ -116,7 +123,9 @@ module _ (w : TextWriter) where
   unfolding literal _⊕_
   literal-split t = split (eqb (w .last) Byte.lineFeed)
     where
-      split : (b : Bool) → (elim b [ true ↦ replicate (indentWidth * w .indent) Byte.space ++ [] | false ↦ [] ] ++ t) ≡ elim b [ true ↦ replicate (indentWidth * w .indent) Byte.space ++ t | false ↦ t ]
+      split : (b : Bool)
+          → (elim b [ true ↦ replicate (indentWidth * w .indent) Byte.space ++ [] | false ↦ [] ] ++ t)
+          ≡ elim b [ true ↦ replicate (indentWidth * w .indent) Byte.space ++ t | false ↦ t ]
       split true = ap (λ r. r ++ t) (append-nil (replicate (indentWidth * w .indent) Byte.space))
       split false = refl
 
@@ -126,28 +135,39 @@ module _ (w : TextWriter) where
   pub room-literal : {o o₁ : List ℕ} {w₁ : TextWriter} (t : List ℕ) → Wrote o o₁ w w₁ (literal []) → Room w (literal t) → Room w₁ (bytes t)
   room-literal t h r = room-after h (bytes t) (rw (literal-split t) r)
 
-  pub wrote-literal : {o o₁ o₂ : List ℕ} {w₁ w₂ : TextWriter} (t : List ℕ) → Wrote o o₁ w w₁ (literal []) → Wrote o₁ o₂ w₁ w₂ (bytes t) → Wrote o o₂ w w₂ (literal t)
+  pub wrote-literal : {o o₁ o₂ : List ℕ} {w₁ w₂ : TextWriter} (t : List ℕ) → Wrote o o₁ w w₁ (literal [])
+      → Wrote o₁ o₂ w₁ w₂ (bytes t) → Wrote o o₂ w w₂ (literal t)
   wrote-literal t h k = wrote-as (literal t) (literal-split t) (wrote-then h (bytes t) k)
 
   star-length : 1 ≤ w .indent → length (textAt w star) ≡ indentWidth * w .indent
   unfolding star
-  star-length h = rw (length-append (replicate (indentWidth * w .indent - 1) Byte.space) (Byte.star ∷ []), length-replicate (indentWidth * w .indent - 1) Byte.space) (omega arith)
+  star-length h =
+      rw (
+        length-append (replicate (indentWidth * w .indent - 1) Byte.space) (Byte.star ∷ []),
+        length-replicate (indentWidth * w .indent - 1) Byte.space,
+      )
+      (omega arith)
 
   pub room-star : 1 ≤ w .indent → Room w star → w .at + indentWidth * w .indent < 2 ^ 63
   room-star h r = omega (arith, star-length h)
 
   -- the star in the place of the last space
-  pub wrote-star : {o o₁ o₂ : List ℕ} {w₁ w₂ w₃ : TextWriter} → 1 ≤ w .indent → Wrote o o₁ w w₁ (bytes (replicate (indentWidth * w .indent) Byte.space))
+  pub wrote-star : {o o₁ o₂ : List ℕ} {w₁ w₂ w₃ : TextWriter} → 1 ≤ w .indent
+      → Wrote o o₁ w w₁ (bytes (replicate (indentWidth * w .indent) Byte.space))
       → w₂ .at ≡ w₁ .at - 1 → w₂ .indent ≡ w₁ .indent → Wrote o₁ o₂ w₂ w₃ (bytes (Byte.star ∷ [])) → Wrote o o₂ w w₃ star
   unfolding star lastOf
   wrote-star {o} {w₂ = w₂} h a e i b =
       let m = indentWidth * w .indent - 1 in
       let n : indentWidth * w .indent ≡ m + 1 = omega arith in
-      let spaces : replicate (indentWidth * w .indent) Byte.space ≡ replicate m Byte.space ++ (Byte.space ∷ []) = ap (λ k. replicate k Byte.space) n ∙ sym (replicate-append-replicate m 1 Byte.space) in
+      let spaces : replicate (indentWidth * w .indent) Byte.space ≡ replicate m Byte.space
+      ++ (Byte.space ∷ []) = ap (λ k. replicate k Byte.space) n ∙ sym (replicate-append-replicate m 1 Byte.space) in
       let long : length (replicate m Byte.space) ≡ m = length-replicate m Byte.space in
-      let place : w₂ .at ≡ w .at + length (replicate m Byte.space) = omega (arith, a .end, length-replicate (indentWidth * w .indent) Byte.space) in
+      let place : w₂ .at
+      ≡ w .at + length (replicate m Byte.space) =
+      omega (arith, a .end, length-replicate (indentWidth * w .indent) Byte.space) in
       record {
-        stored = b .stored ∙ ap₂ (λ r k. set r k Byte.star) (a .stored ∙ ap (λ t. sets o (w .at) t) spaces) place ∙ sets-last o (w .at) (replicate m Byte.space) Byte.space Byte.star;
+        stored = b .stored ∙ ap₂ (λ r k. set r k Byte.star) (a .stored ∙ ap (λ t. sets o (w .at) t) spaces) place
+            ∙ sets-last o (w .at) (replicate m Byte.space) Byte.space Byte.star;
         end = omega (arith, b .end, star-length h);
         ending = b .ending ∙ sym (lastOf-append (w .last) (replicate m Byte.space) (Byte.star ∷ []));
         level = b .level ∙ i ∙ a .level;
@@ -203,7 +223,8 @@ row-append : (ps qs : List Piece) → row (ps ++ qs) ≡ (row ps ⊕ row qs)
 row-append [] qs = sym (empty-then (row qs))
 row-append (p ∷ ps) qs = ap (λ r. p ⊕ r) (row-append ps qs) ∙ sym (then-assoc p (row ps) (row qs))
 
-pub going-as : {o₀ o : List ℕ} {w₀ w : TextWriter} {whole p : Piece} {qs rest : List Piece} → Row p qs → Going o₀ o w₀ w whole (p ∷ rest) → Going o₀ o w₀ w whole (qs ++ rest)
+pub going-as : {o₀ o : List ℕ} {w₀ w : TextWriter} {whole p : Piece} {qs rest : List Piece} → Row p qs
+    → Going o₀ o w₀ w whole (p ∷ rest) → Going o₀ o w₀ w whole (qs ++ rest)
 going-as {p = p} {qs} {rest} e g =
     let same : (p ⊕ row rest) ≡ row (qs ++ rest) = ap (λ r. r ⊕ row rest) (e .same) ∙ sym (row-append qs rest) in
     record { room = rw same at (g .room); done = λ o′ w′ h. g .done o′ w′ (rw same h) }
@@ -244,20 +265,28 @@ module _ (b : Bool) (w : TextWriter) (p : Piece) where
   pub wrote-within : {o o′ : List ℕ} {w′ : TextWriter} → Wrote o o′ (raise b w) w′ p → Wrote o o′ w (lower b w′) (within b p)
   wrote-within {o} h =
       let e = sym (within-text b w p) in
-      record { stored = h .stored ∙ ap (λ t. sets o (w .at) t) e; end = h .end ∙ ap (λ t. w .at + length t) e; ending = h .ending ∙ ap (λ t. lastOf (w .last) t) e; level = omega (arith, h .level) }
+      record {
+        stored = h .stored ∙ ap (λ t. sets o (w .at) t) e;
+        end = h .end ∙ ap (λ t. w .at + length t) e;
+        ending = h .ending ∙ ap (λ t. lastOf (w .last) t) e;
+        level = omega (arith, h .level);
+      }
 
 -- a comment's line, blank or not
 pub line-blank : (prefix t : List ℕ) → blankLine [] t ≡ true → Row (lineOf prefix t) (literal prefix ∷ newline ∷ [])
 unfolding lineOf if
 line-blank prefix t e = record { same = rw (e, lineOf) (ap (λ p. literal prefix ⊕ p) (empty-then newline ∙ sym (then-empty newline))) }
 
-pub line-full : (prefix t : List ℕ) → blankLine [] t ≡ false → Row (lineOf prefix t) (literal prefix ∷ literal (ascii " ") ∷ literal t ∷ newline ∷ [])
+pub line-full : (prefix t : List ℕ) → blankLine [] t ≡ false
+    → Row (lineOf prefix t) (literal prefix ∷ literal (ascii " ") ∷ literal t ∷ newline ∷ [])
 unfolding lineOf if
 line-full prefix t e =
     record {
       same =
           rw (e, lineOf)
-          (ap (λ p. literal prefix ⊕ p) (then-assoc (literal (ascii " ")) (literal t) newline ∙ ap (λ p. literal (ascii " ") ⊕ literal t ⊕ p) (sym (then-empty newline))));
+          (ap (λ p. literal prefix ⊕ p)
+          (then-assoc (literal (ascii " ")) (literal t) newline
+          ∙ ap (λ p. literal (ascii " ") ⊕ literal t ⊕ p) (sym (then-empty newline))));
     }
 
 pub line-room : (w : TextWriter) (prefix t : List ℕ) → Room w (lineOf prefix t) → Room w (literal prefix)
@@ -265,6 +294,7 @@ unfolding lineOf
 line-room w prefix t r = room-before w (literal prefix) (if (not (blankLine [] t)) (literal (ascii " ") ⊕ literal t) ⊕ newline) r
 
 -- a free comment
-pub free-row : (source : List ℕ) (wrote : Bool) (prefix : List ℕ) (ms : List Mark) → Row (freeComment source wrote prefix ms) (if wrote newline ∷ comment source prefix ms ∷ newline ∷ [])
+pub free-row : (source : List ℕ) (wrote : Bool) (prefix : List ℕ) (ms : List Mark)
+    → Row (freeComment source wrote prefix ms) (if wrote newline ∷ comment source prefix ms ∷ newline ∷ [])
 unfolding freeComment
 free-row source wrote prefix ms = record { same = ap (λ p. if wrote newline ⊕ comment source prefix ms ⊕ p) (sym (then-empty newline)) }

@@ -66,14 +66,17 @@ pub record Begun (source tree : List ℕ) (i : ℕ) : Type 0 where
   pub first : TextAt (isBoundary source) (marksIn tree) (i + 1)
   pub behind : after (marksIn tree) (i + 1) ≡ i + 3
   pub on : Inside (isBoundary source) (marksIn tree) (i + 3) kind 1
-  pub parts : Row (referenceOf source (nodeAt (marksIn tree) i)) (sigil (kindAt (marksIn tree) i) ∷ name source (nodeAt (marksIn tree) (i + 1)) ∷ attributeName source (nodes (innerAt (marksIn tree) (i + 3))) ∷ [])
+  pub parts : Row (referenceOf source (nodeAt (marksIn tree) i))
+      (sigil (kindAt (marksIn tree) i) ∷ name source (nodeAt (marksIn tree) (i + 1))
+      ∷ attributeName source (nodes (innerAt (marksIn tree) (i + 3))) ∷ [])
   pub left : calls source (nodes (nodeAt (marksIn tree) i .inner)) ≡ calls source (nodes (innerAt (marksIn tree) (i + 3)))
   pub till : i + 3 + length (innerAt (marksIn tree) (i + 3)) + 1 ≡ after (marksIn tree) i
 
 -- and after the attribute's
 pub record Further (source tree : List ℕ) (i : ℕ) : Type 0 where
   pub second : TextAt (isBoundary source) (marksIn tree) (i + 3)
-  pub parts : Row (attributeName source (nodes (innerAt (marksIn tree) (i + 3)))) (literal (ascii ".") ∷ name source (nodeAt (marksIn tree) (i + 3)) ∷ [])
+  pub parts : Row (attributeName source (nodes (innerAt (marksIn tree) (i + 3))))
+      (literal (ascii ".") ∷ name source (nodeAt (marksIn tree) (i + 3)) ∷ [])
   pub rest : Named source tree i (after (marksIn tree) (i + 3))
 
 module _ (source tree : List ℕ) (i : ℕ) where
@@ -85,7 +88,8 @@ module _ (source tree : List ℕ) (i : ℕ) where
       let f = first-name (a .one) (m .first) in
       let t = text-one (f .child) refl in
       let behind : after ms (i + 1) ≡ i + 3 = text-after (t .at) (t .isText) ∙ omega arith in
-      let all : nodes (nodeAt ms i .inner) ≡ nodeAt ms (i + 1) ∷ nodes (innerAt ms (i + 3)) = ap nodes (sym (m .inner)) ∙ f .split ∙ ap (λ j. nodeAt ms (i + 1) ∷ nodes (innerAt ms j)) behind in
+      let all : nodes (nodeAt ms i .inner) ≡ nodeAt ms (i + 1) ∷ nodes (innerAt ms (i + 3)) = ap nodes (sym (m .inner))
+      ∙ f .split ∙ ap (λ j. nodeAt ms (i + 1) ∷ nodes (innerAt ms j)) behind in
       let k : nodeAt ms (i + 1) .kind ≡ Kind.identifier = node-kind (f .child .at) ∙ only (f .child) in
       record {
         kind = a .kind;
@@ -94,20 +98,35 @@ module _ (source tree : List ℕ) (i : ℕ) where
         behind = behind;
         on = rw behind at (f .on);
         parts =
-            row-same (ap (λ ns. sigil (nodeAt ms i .kind) ⊕ reference source (names source ns)) all ∙ ap (λ ns. sigil (nodeAt ms i .kind) ⊕ reference source ns) (keeps source Kind.identifier (nodeAt ms (i + 1)) (nodes (innerAt ms (i + 3))) k) ∙ ap (λ j. sigil j ⊕ name source (nodeAt ms (i + 1)) ⊕ attributeName source (nodes (innerAt ms (i + 3)))) (node-kind (a .at) ∙ sym (at-kind (a .at))))
+            row-same
+            (ap (λ ns. sigil (nodeAt ms i .kind) ⊕ reference source (names source ns)) all
+            ∙ ap (λ ns. sigil (nodeAt ms i .kind) ⊕ reference source ns)
+            (keeps source Kind.identifier (nodeAt ms (i + 1)) (nodes (innerAt ms (i + 3))) k)
+            ∙ ap
+            (λ j. sigil j ⊕ name source (nodeAt ms (i + 1)) ⊕ attributeName source (nodes (innerAt ms (i + 3))))
+            (node-kind (a .at) ∙ sym (at-kind (a .at))))
             (three (sigil (kindAt ms i)) (name source (nodeAt ms (i + 1))) (attributeName source (nodes (innerAt ms (i + 3)))));
-        left = ap (λ ns. calls source ns) all ∙ omits source Kind.arguments (nodeAt ms (i + 1)) (nodes (innerAt ms (i + 3))) (λ z. omega arith);
+        left = ap (λ ns. calls source ns) all
+            ∙ omits source Kind.arguments (nodeAt ms (i + 1)) (nodes (innerAt ms (i + 3))) (λ z. omega arith);
         till = omega (arith, m .behind, f .till, ap (λ j. length (innerAt ms j)) behind);
       }
 
 module _ {source tree : List ℕ} {i : ℕ} (b : Begun source tree i) where
   -- the attribute's name is not there
-  pub no-further : (kindAt (marksIn tree) (i + 3) ≡ Kind.identifier → ⊥) → Row (attributeName source (nodes (innerAt (marksIn tree) (i + 3)))) [] × Named source tree i (i + 3)
+  pub no-further : (kindAt (marksIn tree) (i + 3) ≡ Kind.identifier → ⊥)
+      → Row (attributeName source (nodes (innerAt (marksIn tree) (i + 3)))) [] × Named source tree i (i + 3)
   unfolding each
   no-further x =
       let c = call-here (b .one) (omega arith) (b .on) x in (
         record { same = ap (λ ns. each (λ a. literal (ascii ".") ⊕ name source a) ns) (call-names source c) },
-        record { kind = b .kind; at = record { state = 1; least = omega arith; here = b .on }; call = c; left = b .left ∙ call-left source c; till = b .till; later = omega arith },
+        record {
+          kind = b .kind;
+          at = record { state = 1; least = omega arith; here = b .on };
+          call = c;
+          left = b .left ∙ call-left source c;
+          till = b .till;
+          later = omega arith;
+        },
       )
 
   -- or it is
@@ -123,14 +142,21 @@ module _ {source tree : List ℕ} {i : ℕ} (b : Begun source tree i) where
       record {
         second = t;
         parts =
-            row-same (ap (λ ns. attributeName source ns) (f .split) ∙ ap (λ ns. each (λ a. literal (ascii ".") ⊕ name source a) ns) (keeps source Kind.identifier (nodeAt ms (i + 3)) (nodes (innerAt ms m)) k ∙ ap (λ ns. nodeAt ms (i + 3) ∷ ns) (call-names source c)) ∙ then-empty (literal (ascii ".") ⊕ name source (nodeAt ms (i + 3))))
+            row-same
+            (ap (λ ns. attributeName source ns) (f .split)
+            ∙ ap (λ ns. each (λ a. literal (ascii ".") ⊕ name source a) ns)
+            (keeps source Kind.identifier (nodeAt ms (i + 3)) (nodes (innerAt ms m)) k
+            ∙ ap (λ ns. nodeAt ms (i + 3) ∷ ns) (call-names source c))
+            ∙ then-empty (literal (ascii ".") ⊕ name source (nodeAt ms (i + 3))))
             (two (literal (ascii ".")) (name source (nodeAt ms (i + 3))));
         rest =
             record {
               kind = b .kind;
               at = record { state = 2; least = omega arith; here = f .on };
               call = c;
-              left = b .left ∙ ap (λ ns. calls source ns) (f .split) ∙ omits source Kind.arguments (nodeAt ms (i + 3)) (nodes (innerAt ms m)) (λ z. omega arith) ∙ call-left source c;
+              left = b .left ∙ ap (λ ns. calls source ns) (f .split)
+                  ∙ omits source Kind.arguments (nodeAt ms (i + 3)) (nodes (innerAt ms m)) (λ z. omega arith)
+                  ∙ call-left source c;
               till = omega (arith, b .till, f .till);
               later = omega (arith, text-after (t .at) (t .isText));
             };

@@ -30,12 +30,14 @@ pub record Rows (source tree : List ℕ) (k q : ℕ) (whole : Piece) (P : List N
   pub later : s₀ .mark ≤ s .mark
 
 -- a child is next, whose piece is f of it
-pub record Turn (source tree : List ℕ) (k q : ℕ) (js : List ℕ) (whole : Piece) (f : Node → Piece) (P : List Node → Piece) (o₀ o : List ℕ) (s₀ s : Serializer) : Type 0 where
+pub record Turn (source tree : List ℕ) (k q : ℕ) (js : List ℕ) (whole : Piece) (f : Node → Piece)
+    (P : List Node → Piece) (o₀ o : List ℕ) (s₀ s : Serializer) : Type 0 where
   pub ready : Ready source tree s js f
   pub on : (o′ : List ℕ) (s′ : Serializer) → Done tree o o′ s s′ f → Rows source tree k q whole P o₀ o′ s₀ s′
 
 module _ {source tree : List ℕ} {k q : ℕ} {P : List Node → Piece} where
-  pub rows-first : (o : List ℕ) (s : Serializer) → ReadyIn source tree s k q P → Rows source tree k q (P (nodes (innerAt (marksIn tree) (s .mark)))) P o o s s
+  pub rows-first : (o : List ℕ) (s : Serializer) → ReadyIn source tree s k q P
+      → Rows source tree k q (P (nodes (innerAt (marksIn tree) (s .mark)))) P o o s s
   rows-first o s r =
       record {
         fit = r .fit;
@@ -52,7 +54,9 @@ module _ {source tree : List ℕ} {k q : ℕ} {P : List Node → Piece} where
     pub rows-count : s .mark < count tree
     rows-count = inside-count tree (sizes tree (r .fit)) (r .at .here)
 
-    pub rows-turn : (js : List ℕ) → Has k q js → (f : Node → Piece) (Q : List Node → Piece) → ((n : Node) (ns : List Node) → P (n ∷ ns) ≡ (f n ⊕ Q ns)) → kindAt (marksIn tree) (s .mark) < Kind.closing 0 → Turn source tree k q js whole f Q o₀ o s₀ s
+    pub rows-turn : (js : List ℕ) → Has k q js → (f : Node → Piece) (Q : List Node → Piece)
+        → ((n : Node) (ns : List Node) → P (n ∷ ns) ≡ (f n ⊕ Q ns)) → kindAt (marksIn tree) (s .mark) < Kind.closing 0
+        → Turn source tree k q js whole f Q o₀ o s₀ s
     unfolding after
     rows-turn js h f Q e l =
         let ms = marksIn tree in
@@ -74,7 +78,8 @@ module _ {source tree : List ℕ} {k q : ℕ} {P : List Node → Piece} where
               };
         }
 
-    pub rows-done : P [] ≡ empty → Kind.closing 0 ≤ kindAt (marksIn tree) (s .mark) → Wrote o₀ o (s₀ .writer) (s .writer) whole × (s .mark ≡ s₀ .mark + length (innerAt (marksIn tree) (s₀ .mark)))
+    pub rows-done : P [] ≡ empty → Kind.closing 0 ≤ kindAt (marksIn tree) (s .mark)
+        → Wrote o₀ o (s₀ .writer) (s .writer) whole × (s .mark ≡ s₀ .mark + length (innerAt (marksIn tree) (s₀ .mark)))
     unfolding nodes nodesFrom
     rows-done e l =
         let z = goes-out (r .at .here) l in

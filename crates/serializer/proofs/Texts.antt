@@ -22,7 +22,8 @@ module _ (t : List ℕ) (i : ℕ) (h : i < length t) where
 
   newline-byte : hasNewline [] (drop i t) ≡ (eqb (getD t i 0) Byte.lineFeed || hasNewline [] (drop (i + 1) t))
   unfolding hasNewline
-  newline-byte = ap (λ r. hasNewline [] r) (drop-cons t i 0 h) ∙ ap (λ k. eqb (getD t i 0) Byte.lineFeed || hasNewline [] (drop k t)) (sym (add-one i))
+  newline-byte = ap (λ r. hasNewline [] r) (drop-cons t i 0 h)
+      ∙ ap (λ k. eqb (getD t i 0) Byte.lineFeed || hasNewline [] (drop k t)) (sym (add-one i))
 
   pub blank-on : blank (getD t i 0) ≡ true → blankLine [] (drop i t) ≡ blankLine [] (drop (i + 1) t)
   blank-on e = blank-byte ∙ ap (λ v. v && blankLine [] (drop (i + 1) t)) e
@@ -53,7 +54,8 @@ or-assoc false b c = refl
 newline-append : (s t : List ℕ) → hasNewline [] (s ++ t) ≡ (hasNewline [] s || hasNewline [] t)
 unfolding hasNewline
 newline-append [] t = refl
-newline-append (b ∷ s) t = ap (λ v. eqb b Byte.lineFeed || v) (newline-append s t) ∙ or-assoc (eqb b Byte.lineFeed) (hasNewline [] s) (hasNewline [] t)
+newline-append (b ∷ s) t = ap (λ v. eqb b Byte.lineFeed || v) (newline-append s t)
+    ∙ or-assoc (eqb b Byte.lineFeed) (hasNewline [] s) (hasNewline [] t)
 
 or-false : (a : Bool) → (a || false) ≡ a
 or-false true = refl
@@ -68,7 +70,9 @@ or-first true b e = e
 or-first false b e = refl
 
 -- one byte more of 16
-pub newline-more : (t : List ℕ) (at i : ℕ) → at + i < length t → hasNewline [] (take (i + 1) (drop at t)) ≡ (hasNewline [] (take i (drop at t)) || eqb (getD t (at + i) 0) Byte.lineFeed)
+pub newline-more : (t : List ℕ) (at i : ℕ) → at + i < length t
+    → hasNewline [] (take (i + 1) (drop at t))
+    ≡ (hasNewline [] (take i (drop at t)) || eqb (getD t (at + i) 0) Byte.lineFeed)
 unfolding hasNewline
 newline-more t at i h =
     ap (λ k. hasNewline [] (take k (drop at t))) (add-one i)
@@ -79,23 +83,37 @@ newline-more t at i h =
 
 module _ (t : List ℕ) (at : ℕ) where
   -- 16 bytes more have none, or one
-  pub newline-past : hasNewline [] (take at t) ≡ false → hasNewline [] (take 16 (drop at t)) ≡ false → hasNewline [] (take (at + 16) t) ≡ false
-  newline-past e f = ap (λ r. hasNewline [] r) (take-add at 16 t) ∙ newline-append (take at t) (take 16 (drop at t)) ∙ ap (λ v. v || hasNewline [] (take 16 (drop at t))) e ∙ f
+  pub newline-past : hasNewline [] (take at t) ≡ false → hasNewline [] (take 16 (drop at t)) ≡ false
+      → hasNewline [] (take (at + 16) t) ≡ false
+  newline-past e f = ap (λ r. hasNewline [] r) (take-add at 16 t) ∙ newline-append (take at t) (take 16 (drop at t))
+      ∙ ap (λ v. v || hasNewline [] (take 16 (drop at t))) e ∙ f
 
   pub newline-within : hasNewline [] (take 16 (drop at t)) ≡ true → hasNewline [] t ≡ true
   newline-within e =
       ap (λ r. hasNewline [] r) (sym (take-append-drop at t))
       ∙ newline-append (take at t) (drop at t)
       ∙ ap (λ v. hasNewline [] (take at t) || v)
-      (ap (λ r. hasNewline [] r) (sym (take-append-drop 16 (drop at t))) ∙ newline-append (take 16 (drop at t)) (drop 16 (drop at t)) ∙ ap (λ v. v || hasNewline [] (drop 16 (drop at t))) e)
+      (ap (λ r. hasNewline [] r) (sym (take-append-drop 16 (drop at t)))
+      ∙ newline-append (take 16 (drop at t)) (drop 16 (drop at t))
+      ∙ ap (λ v. v || hasNewline [] (drop 16 (drop at t))) e)
       ∙ or-true (hasNewline [] (take at t))
 
   -- with none in the first bytes, the last 16 tell
-  pub newline-last : (last : ℕ) → last ≤ at → length t ≡ last + 16 → hasNewline [] (take at t) ≡ false → hasNewline [] (take 16 (drop last t)) ≡ hasNewline [] t
+  pub newline-last : (last : ℕ) → last ≤ at → length t ≡ last + 16 → hasNewline [] (take at t) ≡ false
+      → hasNewline [] (take 16 (drop last t)) ≡ hasNewline [] t
   newline-last last h n e =
-      let none : hasNewline [] (take last t) ≡ false = or-first (hasNewline [] (take last t)) (hasNewline [] (drop last (take at t))) (sym (ap (λ r. hasNewline [] r) (sym (take-append-drop last (take at t)) ∙ ap (λ r. r ++ drop last (take at t)) (take-take last at t h)) ∙ newline-append (take last t) (drop last (take at t))) ∙ e) in
+      let none : hasNewline [] (take last t)
+      ≡ false =
+      or-first (hasNewline [] (take last t)) (hasNewline [] (drop last (take at t)))
+      (sym
+      (ap (λ r. hasNewline [] r)
+      (sym (take-append-drop last (take at t)) ∙ ap (λ r. r ++ drop last (take at t)) (take-take last at t h))
+      ∙ newline-append (take last t) (drop last (take at t)))
+      ∙ e) in
       ap (λ r. hasNewline [] r) (take-all 16 (drop last t) (omega (arith, length-drop last t)))
-      ∙ sym (ap (λ r. hasNewline [] r) (sym (take-append-drop last t)) ∙ newline-append (take last t) (drop last t) ∙ ap (λ v. v || hasNewline [] (drop last t)) none)
+      ∙ sym
+      (ap (λ r. hasNewline [] r) (sym (take-append-drop last t)) ∙ newline-append (take last t) (drop last t)
+      ∙ ap (λ v. v || hasNewline [] (drop last t)) none)
 
 -- the first byte
 pub starts-none : (b : ℕ) (t : List ℕ) → length t ≡ 0 → startsWith b t ≡ false

@@ -32,7 +32,9 @@ use Rattle.tree.proofs.Entries.{Top, top-first, top-next}
 
 -- the piece of an entry, by its kind
 module _ (source : List ℕ) (junk wrote : Bool) (n : Node) where
-  of-kind : {k : ℕ} → n .kind ≡ k → entry source junk wrote n ≡ entry source junk wrote (record { kind = k; opening = n .opening; closing = n .closing; inner = n .inner })
+  of-kind : {k : ℕ} → n .kind ≡ k
+      → entry source junk wrote n
+      ≡ entry source junk wrote (record { kind = k; opening = n .opening; closing = n .closing; inner = n .inner })
   of-kind e = ap (λ k. entry source junk wrote (record { kind = k; opening = n .opening; closing = n .closing; inner = n .inner })) e
 
   entry-message : n .kind ≡ Kind.message → entry source junk wrote n ≡ messageIn source n
@@ -81,7 +83,13 @@ module _ (source tree : List ℕ) (s : Serializer) (junk wrote : Bool) (h : Read
   as-kind : (k : ℕ) (js : List ℕ) (f : Node → Piece) → kind ≡ k → among k js ≡ true → entry source junk wrote this ≡ f this → As js f
   as-kind k js f e a p =
       record {
-        ready = record { fit = h .fit; node = record { kind = h .node .kind; one = rw (sym (at-kind (h .node .at)) ∙ e) a; at = h .node .at }; shallow = h .shallow; room = rw p at (h .room) };
+        ready =
+            record {
+              fit = h .fit;
+              node = record { kind = h .node .kind; one = rw (sym (at-kind (h .node .at)) ∙ e) a; at = h .node .at };
+              shallow = h .shallow;
+              room = rw p at (h .room);
+            };
         done = λ d. record { wrote = rw p (d .wrote); next = d .next };
       }
 
@@ -93,13 +101,24 @@ module _ (source tree : List ℕ) (s : Serializer) (junk wrote : Bool) (h : Read
   unfolding among
   as-term e = as-kind Kind.term (Kind.term ∷ []) (termIn source) e refl (entry-term source junk wrote this (this-kind Kind.term e))
 
-  pub as-junk : (kind ≡ Kind.message → ⊥) → (kind ≡ Kind.term → ⊥) → (kind ≡ Kind.comment → ⊥) → (kind ≡ Kind.groupComment → ⊥) → (kind ≡ Kind.resourceComment → ⊥) → (kind ≡ Kind.attachedComment → ⊥) → As (Kind.junk ∷ []) (junkIn source junk)
+  pub as-junk : (kind ≡ Kind.message → ⊥) → (kind ≡ Kind.term → ⊥) → (kind ≡ Kind.comment → ⊥)
+      → (kind ≡ Kind.groupComment → ⊥) → (kind ≡ Kind.resourceComment → ⊥) → (kind ≡ Kind.attachedComment → ⊥)
+      → As (Kind.junk ∷ []) (junkIn source junk)
   unfolding among
   as-junk x₁ x₂ x₃ x₄ x₅ x₆ =
       let a : among kind entries ≡ true = rw (at-kind (h .node .at)) (h .node .one) in
       let e : kind ≡ Kind.junk =
       byCase (eqb kind Kind.junk) (λ z. eqb-true kind Kind.junk z)
-      (λ z. clash a (rw (ne-eqb kind Kind.message x₁, ne-eqb kind Kind.term x₂, ne-eqb kind Kind.comment x₃, ne-eqb kind Kind.groupComment x₄, ne-eqb kind Kind.resourceComment x₅, ne-eqb kind Kind.attachedComment x₆, z)))
+      (λ z. clash a
+      (rw (
+        ne-eqb kind Kind.message x₁,
+        ne-eqb kind Kind.term x₂,
+        ne-eqb kind Kind.comment x₃,
+        ne-eqb kind Kind.groupComment x₄,
+        ne-eqb kind Kind.resourceComment x₅,
+        ne-eqb kind Kind.attachedComment x₆,
+        z,
+      )))
       in
       as-kind Kind.junk (Kind.junk ∷ []) (junkIn source junk) e refl (entry-junk source junk wrote this (this-kind Kind.junk e))
 
@@ -107,7 +126,8 @@ module _ (source tree : List ℕ) (s : Serializer) (junk wrote : Bool) (h : Read
   pub record AsComment (p : Piece) : Type 0 where
     pub at : CommentAt (isBoundary source) (marksIn tree) (s .mark)
     pub room : Room (s .writer) p
-    pub done : {o o′ : List ℕ} {s′ : Serializer} → Wrote o o′ (s .writer) (s′ .writer) p → s′ .mark ≡ after (marksIn tree) (s .mark) → Done tree o o′ s s′ (entry source junk wrote)
+    pub done : {o o′ : List ℕ} {s′ : Serializer} → Wrote o o′ (s .writer) (s′ .writer) p
+        → s′ .mark ≡ after (marksIn tree) (s .mark) → Done tree o o′ s s′ (entry source junk wrote)
 
   as-lines : (k : ℕ) (p : Piece) → kind ≡ k → isComment k ≡ true → entry source junk wrote this ≡ p → AsComment p
   as-lines k p e c z =
@@ -138,16 +158,25 @@ module _ (source tree : List ℕ) (junk : Bool) where
   pub record Entries (o₀ o : List ℕ) (s : Serializer) (wrote : Bool) : Type 0 where
     pub here : Top (isBoundary source) (marksIn tree) (s .mark)
     pub flat : s .writer .indent ≡ 0
-    pub way : Going o₀ o begun (s .writer) (resource source junk false (nodes (marksIn tree))) (resource source junk wrote (nodes (drop (s .mark) (marksIn tree))) ∷ [])
+    pub way : Going o₀ o begun (s .writer) (resource source junk false (nodes (marksIn tree)))
+        (resource source junk wrote (nodes (drop (s .mark) (marksIn tree))) ∷ [])
 
-  pub entries-first : (o : List ℕ) → verdict (isBoundary source) maxOpen (marksIn tree) ≡ none → Room begun (resource source junk false (nodes (marksIn tree))) → Entries o o (record { writer = begun; mark = 0 }) false
-  entries-first o v r = record { here = top-first (isBoundary source) (marksIn tree) v; flat = refl; way = going o begun (one (resource source junk false (nodes (marksIn tree)))) r }
+  pub entries-first : (o : List ℕ) → verdict (isBoundary source) maxOpen (marksIn tree) ≡ none
+      → Room begun (resource source junk false (nodes (marksIn tree)))
+      → Entries o o (record { writer = begun; mark = 0 }) false
+  entries-first o v r =
+      record {
+        here = top-first (isBoundary source) (marksIn tree) v;
+        flat = refl;
+        way = going o begun (one (resource source junk false (nodes (marksIn tree)))) r;
+      }
 
   module _ {o₀ o : List ℕ} {s : Serializer} {wrote : Bool} (fit : sizesFit tree ≡ true) (h : Entries o₀ o s wrote) where
     -- one more
     pub record EntryNext : Type 0 where
       pub ready : Ready source tree s entries (entry source junk wrote)
-      pub on : {o′ : List ℕ} {s′ : Serializer} (wrote′ : Bool) → Done tree o o′ s s′ (entry source junk wrote) → wrote′ ≡ wroteBy [] wrote (kindAt (marksIn tree) (s .mark)) → Entries o₀ o′ s′ wrote′
+      pub on : {o′ : List ℕ} {s′ : Serializer} (wrote′ : Bool) → Done tree o o′ s s′ (entry source junk wrote)
+          → wrote′ ≡ wroteBy [] wrote (kindAt (marksIn tree) (s .mark)) → Entries o₀ o′ s′ wrote′
 
     pub entry-next : s .mark < count tree → EntryNext
     unfolding resource wroteBy
@@ -162,7 +191,12 @@ module _ (source tree : List ℕ) (junk : Bool) where
         let g : Going o₀ o begun (s .writer) (resource source junk false (nodes ms)) (p ∷ q ∷ []) = going-as (two p q) w in
         record {
           ready = record { fit = fit; node = t .child; shallow = omega (arith, h .flat); room = room-first g };
-          on = λ wrote′ d e. record { here = rw (d .next) (t .on); flat = d .wrote .level ∙ h .flat; way = rw (d .next, e, k) (going-on g (d .wrote)) };
+          on =
+              λ wrote′ d e. record {
+                here = rw (d .next) (t .on);
+                flat = d .wrote .level ∙ h .flat;
+                way = rw (d .next, e, k) (going-on g (d .wrote));
+              };
         }
 
     -- no more

@@ -10,9 +10,14 @@ use Rattle.tree.specs.Walk.{kindAt, nodeAt}
 use Rattle.serializer.specs.Serialize.{keyAt, argumentName}
 use Rattle.serializer.proofs.Pieces.{Row, two, four}
 
-pub key-row : (source : List ℕ) (ms : List Mark) (i : ℕ) → Row (keyAt source ms i) (if (eqb (kindAt ms i) Kind.defaultVariant) star ∷ literal (ascii "[") ∷ name source (nodeAt ms (i + 1)) ∷ literal (ascii "]") ∷ [])
+pub key-row : (source : List ℕ) (ms : List Mark) (i : ℕ)
+    → Row (keyAt source ms i)
+    (if (eqb (kindAt ms i) Kind.defaultVariant) star ∷ literal (ascii "[") ∷ name source (nodeAt ms (i + 1))
+    ∷ literal (ascii "]") ∷ [])
 unfolding keyAt
-key-row source ms i = four (if (eqb (kindAt ms i) Kind.defaultVariant) star) (literal (ascii "[")) (name source (nodeAt ms (i + 1))) (literal (ascii "]"))
+key-row source ms i =
+    four (if (eqb (kindAt ms i) Kind.defaultVariant) star) (literal (ascii "[")) (name source (nodeAt ms (i + 1)))
+    (literal (ascii "]"))
 
 pub name-row : (source : List ℕ) (n : Node) → Row (argumentName source n) (name source n ∷ literal (ascii ": ") ∷ [])
 unfolding argumentName

@@ -73,7 +73,12 @@ unfoldable pub openingBraces : ℕ → List ℕ
 openingBraces k = elim (eqb k Kind.placeable) [ true ↦ ascii "{{ " | false ↦ ascii "{ " ]
 
 unfoldable pub closingBraces : ℕ → List ℕ
-closingBraces k = elim (eqb k Kind.placeable) [ true ↦ ascii " }}" | false ↦ elim (eqb k Kind.select) [ true ↦ ascii "}" | false ↦ ascii " }" ] ]
+closingBraces k =
+    elim
+    (eqb k Kind.placeable) [
+      | true ↦ ascii " }}"
+      | false ↦ elim (eqb k Kind.select) [ true ↦ ascii "}" | false ↦ ascii " }" ]
+    ]
 
 unfoldable pub bracesOf : ℕ → ℕ
 bracesOf k = elim (eqb k Kind.placeable) [ true ↦ 2 | false ↦ 1 ]

@@ -41,10 +41,22 @@ array-share-prefix-buffer : tie.Need-array-share-prefix-buffer
 array-share-prefix-buffer c = search needs
 
 slice-aggregate-print : tie.Need-slice-aggregate-print
-slice-aggregate-print c = sym (length-take-le (c .before .before .before .length .given .0 .0) (c .before .before .before .before .before .before .read-input .last .0) (rw (c .before .before .before .length .given .1) at (c .before .before .before .before .before .before .read-input .ensures)))
+slice-aggregate-print c =
+    sym
+    (length-take-le (c .before .before .before .length .given .0 .0)
+    (c .before .before .before .before .before .before .read-input .last .0)
+    (rw
+    (c .before .before .before .length .given .1) at (c .before .before .before .before .before .before .read-input
+    .ensures)))
 
 print-requires : tie.Need-print-requires
-print-requires c κs = omega (arith, length-take (c .before .before .before .length .given .0 .0) (c .before .before .before .before .before .before .read-input .last .0), c .before .if1 .left)
+print-requires c κs =
+    omega (
+      arith,
+      length-take (c .before .before .before .length .given .0 .0)
+          (c .before .before .before .before .before .before .read-input .last .0),
+      c .before .if1 .left,
+    )
 
 returns-3 : tie.Need-returns-3
 returns-3 c = search needs

@@ -21,7 +21,9 @@ enum-told c = search needs
 put-reading-requires : tie.Need-put-reading-requires
 put-reading-requires c κs =
     let read = c .before .before .before .before .before .before .before .before .before .read in
-    let lent = c .before .before .before .before .before .before .before .before .before .before .before .before .before .before .before .before .pre in
+    let lent =
+    c .before .before .before .before .before .before .before .before .before .before .before .before .before
+    .before .before .before .pre in
     let accepted = c .before .before .before .enum-told .given .1 in
     let ready = acceptance lent (read .ensures) accepted (read .kept .1 .0) (read .kept .1 .1 .0) in
     (ready .marks, ready .errors)
@@ -38,7 +40,9 @@ same-length-3 c = search needs
 returns : tie.Need-returns
 returns c =
     let read = c .before .before .before .before .before .before .before .before .before .before .before .before .read in
-    let lent = c .before .before .before .before .before .before .before .before .before .before .before .before .before .before .before .before .before .before .before .pre in
+    let lent =
+    c .before .before .before .before .before .before .before .before .before .before .before .before .before
+    .before .before .before .before .before .before .pre in
     let accepted = c .before .before .before .before .before .before .enum-told .given .1 in
     let ready = acceptance lent (read .ensures) accepted (read .kept .1 .0) (read .kept .1 .1 .0) in
     reported (ready .room) (omega arith) (put-as (c .before .before .put-reading .ensures) (ready .text))
@@ -66,11 +70,16 @@ same-length-6 c = search needs
 
 returns-2 : tie.Need-returns-2
 returns-2 c =
-    let lent = c .before .before .before .before .before .before .before .before .before .before .before .before .before .before .before .before .before .before .pre in
+    let lent =
+    c .before .before .before .before .before .before .before .before .before .before .before .before .before
+    .before .before .before .before .before .pre in
     let number = c .before .before .before .before .number in
     let value = c .before .before .before .value in
     let pair = ap₂ (λ n v. line (n ∷ v ∷ [])) (number .ensures) (value .ensures) in
-    let text = pair ∙ refusal lent (c .before .before .before .before .before .before .before .before .before .before .before .read .ensures) (not-accepted _ (c .before .before .before .before .before .before .match .keys2)) in
+    let text = pair
+    ∙ refusal lent
+    (c .before .before .before .before .before .before .before .before .before .before .before .read .ensures)
+    (not-accepted _ (c .before .before .before .before .before .before .match .keys2)) in
     let room = line-few (number .result) (value .result ∷ []) in
     reported (omega (arith, lent .output, ap length text)) (omega arith) (put-as (c .before .before .put-pair .ensures) text)
 

@@ -16,7 +16,11 @@ add-group : tie.Need-add-group
 add-group c =
     let start = c .before .before .before in
     let capacity = c .word in
-    omega (arith, group-held (start .args .errors .now) (start .args .i) (capacity .result) (start .pre .0) (start .pre .1) (capacity .ensures))
+    omega (
+      arith,
+      group-held (start .args .errors .now) (start .args .i) (capacity .result) (start .pre .0) (start .pre .1)
+          (capacity .ensures),
+    )
 
 mul-group : tie.Need-mul-group
 mul-group c = search needs
@@ -25,7 +29,11 @@ add-group-2 : tie.Need-add-group-2
 add-group-2 c =
     let start = c .before .before .before in
     let capacity = c .word in
-    omega (arith, group-held (start .args .errors .now) (start .args .i) (capacity .result) (start .pre .0) (start .pre .1) (capacity .ensures))
+    omega (
+      arith,
+      group-held (start .args .errors .now) (start .args .i) (capacity .result) (start .pre .0) (start .pre .1)
+          (capacity .ensures),
+    )
 
 add-word : tie.Need-add-word
 add-word c = search needs
@@ -40,43 +48,87 @@ put-span-requires : tie.Need-put-span-requires
 put-span-requires c κs =
     let start = c .before .before .before .before .before .before .before .before .before in
     let capacity = c .before .before .before .before .before .before .word in
-    omega (arith, group-held (start .args .errors .now) (start .args .i) (capacity .result) (start .pre .0) (start .pre .1) (capacity .ensures))
+    omega (
+      arith,
+      group-held (start .args .errors .now) (start .args .i) (capacity .result) (start .pre .0) (start .pre .1)
+          (capacity .ensures),
+    )
 
 add-put-span : tie.Need-add-put-span
 add-put-span c =
     let start = c .before .before .before .before .before .before .before .before .before .before .before .before in
     let capacity = c .before .before .before .before .before .before .before .before .before .word in
-    omega (arith, group-held (start .args .errors .now) (start .args .i) (capacity .result) (start .pre .0) (start .pre .1) (capacity .ensures))
+    omega (
+      arith,
+      group-held (start .args .errors .now) (start .args .i) (capacity .result) (start .pre .0) (start .pre .1)
+          (capacity .ensures),
+    )
 
 put-span-requires-2 : tie.Need-put-span-requires-2
 put-span-requires-2 c κs =
     let start = c .before .before .before .before .before .before .before .before .before .before .before .before .before in
     let capacity = c .before .before .before .before .before .before .before .before .before .before .word in
-    omega (arith, group-held (start .args .errors .now) (start .args .i) (capacity .result) (start .pre .0) (start .pre .1) (capacity .ensures))
+    omega (
+      arith,
+      group-held (start .args .errors .now) (start .args .i) (capacity .result) (start .pre .0) (start .pre .1)
+          (capacity .ensures),
+    )
 
 add-word-2 : tie.Need-add-word-2
 add-word-2 c =
-    let start = c .before .before .before .before .before .before .before .before .before .before .before .before .before .before .before .before .before in
-    let capacity = c .before .before .before .before .before .before .before .before .before .before .before .before .before .before .word in
-    omega (arith, group-held (start .args .errors .now) (start .args .i) (capacity .result) (start .pre .0) (start .pre .1) (capacity .ensures))
+    let start =
+    c .before .before .before .before .before .before .before .before .before .before .before .before .before
+    .before .before .before .before in
+    let capacity =
+    c .before .before .before .before .before .before .before .before .before .before .before .before .before
+    .before .word in
+    omega (
+      arith,
+      group-held (start .args .errors .now) (start .args .i) (capacity .result) (start .pre .0) (start .pre .1)
+          (capacity .ensures),
+    )
 
 word-requires-3 : tie.Need-word-requires-3
 word-requires-3 c κs =
-    let start = c .before .before .before .before .before .before .before .before .before .before .before .before .before .before .before .before .before in
-    let capacity = c .before .before .before .before .before .before .before .before .before .before .before .before .before .before .word in
-    omega (arith, group-held (start .args .errors .now) (start .args .i) (capacity .result) (start .pre .0) (start .pre .1) (capacity .ensures))
+    let start =
+    c .before .before .before .before .before .before .before .before .before .before .before .before .before
+    .before .before .before .before in
+    let capacity =
+    c .before .before .before .before .before .before .before .before .before .before .before .before .before
+    .before .word in
+    omega (
+      arith,
+      group-held (start .args .errors .now) (start .args .i) (capacity .result) (start .pre .0) (start .pre .1)
+          (capacity .ensures),
+    )
 
 add-word-3 : tie.Need-add-word-3
 add-word-3 c =
-    let start = c .before .before .before .before .before .before .before .before .before .before .before .before .before .before .before .before .before .before in
-    let capacity = c .before .before .before .before .before .before .before .before .before .before .before .before .before .before .before .word in
-    omega (arith, group-held (start .args .errors .now) (start .args .i) (capacity .result) (start .pre .0) (start .pre .1) (capacity .ensures))
+    let start =
+    c .before .before .before .before .before .before .before .before .before .before .before .before .before
+    .before .before .before .before .before in
+    let capacity =
+    c .before .before .before .before .before .before .before .before .before .before .before .before .before
+    .before .before .word in
+    omega (
+      arith,
+      group-held (start .args .errors .now) (start .args .i) (capacity .result) (start .pre .0) (start .pre .1)
+          (capacity .ensures),
+    )
 
 word-requires-4 : tie.Need-word-requires-4
 word-requires-4 c κs =
-    let start = c .before .before .before .before .before .before .before .before .before .before .before .before .before .before .before .before .before .before in
-    let capacity = c .before .before .before .before .before .before .before .before .before .before .before .before .before .before .before .word in
-    omega (arith, group-held (start .args .errors .now) (start .args .i) (capacity .result) (start .pre .0) (start .pre .1) (capacity .ensures))
+    let start =
+    c .before .before .before .before .before .before .before .before .before .before .before .before .before
+    .before .before .before .before .before in
+    let capacity =
+    c .before .before .before .before .before .before .before .before .before .before .before .before .before
+    .before .before .word in
+    omega (
+      arith,
+      group-held (start .args .errors .now) (start .args .i) (capacity .result) (start .pre .0) (start .pre .1)
+          (capacity .ensures),
+    )
 
 put-pair-requires : tie.Need-put-pair-requires
 put-pair-requires c κs = search needs
@@ -86,10 +138,18 @@ same-length c = search needs
 
 returns : tie.Need-returns
 returns c =
-    let start = c .before .before .before .before .before .before .before .before .before .before .before .before .before .before .before .before .before .before .before .before .before .before in
-    let capacity = c .before .before .before .before .before .before .before .before .before .before .before .before .before .before .before .before .before .before .before .word in
-    let first = c .before .before .before .before .before .before .before .before .before .before .before .before .before .before .before .before .before .word2 in
-    let kind = c .before .before .before .before .before .before .before .before .before .before .before .before .before .before .before .before .put-field .ensures in
+    let start =
+    c .before .before .before .before .before .before .before .before .before .before .before .before .before
+    .before .before .before .before .before .before .before .before .before in
+    let capacity =
+    c .before .before .before .before .before .before .before .before .before .before .before .before .before
+    .before .before .before .before .before .before .word in
+    let first =
+    c .before .before .before .before .before .before .before .before .before .before .before .before .before
+    .before .before .before .before .word2 in
+    let kind =
+    c .before .before .before .before .before .before .before .before .before .before .before .before .before
+    .before .before .before .put-field .ensures in
     let position = c .before .before .before .before .before .before .before .before .before .before .before .before .put-span .ensures in
     let junk = c .before .before .before .before .before .before .before .before .put-span2 .ensures in
     let last = put-after _ _ _ _ (omega (arith, put-length kind, put-length position)) junk (c .before .before .put-pair .ensures) in

@@ -28,8 +28,11 @@ same-length c = search needs
 returns : tie.Need-returns
 unfolding span
 returns c =
-    put-as (put-then (omega arith) (c .before .before .before .before .before .before .before .put-field .ensures) (c .before .before .put-field2 .ensures))
-    (ap₂ span (c .before .before .before .before .before .before .before .before .word .ensures) (c .before .before .before .word2 .ensures))
+    put-as
+    (put-then (omega arith) (c .before .before .before .before .before .before .before .put-field .ensures)
+    (c .before .before .put-field2 .ensures))
+    (ap₂ span (c .before .before .before .before .before .before .before .before .word .ensures)
+    (c .before .before .before .word2 .ensures))
 
 pub put-span-spec : {M : Type 1} → statement M
 put-span-spec =

@@ -17,7 +17,15 @@ same-length c = search needs
 
 returns : tie.Need-returns
 returns c =
-    record { stored = c .before .before .before .store-spaces-part .ensures; next = omega (arith, c .count-on .ensures, length-replicate (c .before .before .before .before .before .before .args .count) Byte.space) }
+    record {
+      stored = c .before .before .before .store-spaces-part .ensures;
+      next =
+          omega (
+            arith,
+            c .count-on .ensures,
+            length-replicate (c .before .before .before .before .before .before .args .count) Byte.space,
+          );
+    }
 
 pub put-spaces-spec : {M : Type 1} → statement M
 put-spaces-spec =

@@ -22,7 +22,13 @@ add-output : tie.Need-add-output Inv-loop μ-loop
 add-output c = omega arith
 
 slice-write-output : tie.Need-slice-write-output Inv-loop μ-loop
-slice-write-output c = omega (arith, ap length (c .before .loop .inv .1), length-sets (c .before .before .args .output .now) (c .before .before .args .at) (replicate (c .before .loop .i) Byte.space))
+slice-write-output c =
+    omega (
+      arith,
+      ap length (c .before .loop .inv .1),
+      length-sets (c .before .before .args .output .now) (c .before .before .args .at)
+          (replicate (c .before .loop .i) Byte.space),
+    )
 
 add-i : tie.Need-add-i Inv-loop μ-loop
 add-i c = omega arith
@@ -32,11 +38,16 @@ loop-less c = omega arith
 
 loop-again : tie.Need-loop-again Inv-loop μ-loop
 loop-again c =
-    let start = c .before .before .args in
-    (omega arith, ap (λ r. set r (start .at + c .before .loop .i) Byte.space) (c .before .loop .inv .1) ∙ sets-repeat (start .output .now) (start .at) Byte.space (c .before .loop .i))
+    let start = c .before .before .args in (
+      omega arith,
+      ap (λ r. set r (start .at + c .before .loop .i) Byte.space) (c .before .loop .inv .1)
+          ∙ sets-repeat (start .output .now) (start .at) Byte.space (c .before .loop .i),
+    )
 
 same-length : tie.Need-same-length Inv-loop μ-loop
-same-length c = ap length (c .before .loop .inv .1) ∙ length-sets (c .before .before .args .output .now) (c .before .before .args .at) (replicate (c .before .loop .i) Byte.space)
+same-length c = ap length (c .before .loop .inv .1)
+    ∙ length-sets (c .before .before .args .output .now) (c .before .before .args .at)
+    (replicate (c .before .loop .i) Byte.space)
 
 returns : tie.Need-returns Inv-loop μ-loop
 returns c =

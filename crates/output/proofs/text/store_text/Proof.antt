@@ -30,7 +30,12 @@ store-blocks-requires : tie.Need-store-blocks-requires
 store-blocks-requires c κs =
     let start = c .before .before .before .before .before .before .args in
     let room = length (start .output .now) - start .at in
-    omega (arith, c .before .before .before .if1 .left, c .before .before .if2 .left, ltb-false room (length (start .text .now)) (c .before .if3 .left))
+    omega (
+      arith,
+      c .before .before .before .if1 .left,
+      c .before .before .if2 .left,
+      ltb-false room (length (start .text .now)) (c .before .if3 .left),
+    )
 
 same-length-2 : tie.Need-same-length-2
 same-length-2 c = search needs

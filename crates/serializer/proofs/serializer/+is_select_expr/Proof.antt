@@ -40,7 +40,11 @@ is-select-expr-kind-at-requires : (t : ℕ) → is-select-expr-lts.Need-kind-at-
   is-select-expr-below t,
   is-select-expr.Post,
 ) (is-select-expr-at t) is-select-expr.Post
-is-select-expr-kind-at-requires t c κs = (c .before .pre .1 .0, at-count (c .before .args .tree .now) (sizes (c .before .args .tree .now) (c .before .pre .1 .0)) (c .before .pre .1 .1 .at))
+is-select-expr-kind-at-requires t c κs = (
+  c .before .pre .1 .0,
+  at-count (c .before .args .tree .now) (sizes (c .before .args .tree .now) (c .before .pre .1 .0))
+      (c .before .pre .1 .1 .at),
+)
 
 is-select-expr-add-is-select-expr : (t : ℕ) → is-select-expr-lts.Need-add-is-select-expr (
   kind-at-reads.Asked,
@@ -48,7 +52,14 @@ is-select-expr-add-is-select-expr : (t : ℕ) → is-select-expr-lts.Need-add-is
   is-select-expr-below t,
   is-select-expr.Post,
 ) (is-select-expr-at t) is-select-expr.Post
-is-select-expr-add-is-select-expr t c = omega (arith, (sizes (c .before .before .before .args .tree .now) (c .before .before .before .pre .1 .0)), at-count (c .before .before .before .args .tree .now) (sizes (c .before .before .before .args .tree .now) (c .before .before .before .pre .1 .0)) (c .before .before .before .pre .1 .1 .at))
+is-select-expr-add-is-select-expr t c =
+    omega (
+      arith,
+      (sizes (c .before .before .before .args .tree .now) (c .before .before .before .pre .1 .0)),
+      at-count (c .before .before .before .args .tree .now)
+          (sizes (c .before .before .before .args .tree .now) (c .before .before .before .pre .1 .0))
+          (c .before .before .before .pre .1 .1 .at),
+    )
 
 is-select-expr-is-select-expr-requires : (t : ℕ) → is-select-expr-lts.Need-is-select-expr-requires (
   kind-at-reads.Asked,
@@ -56,8 +67,21 @@ is-select-expr-is-select-expr-requires : (t : ℕ) → is-select-expr-lts.Need-i
   is-select-expr-below t,
   is-select-expr.Post,
 ) (is-select-expr-at t) is-select-expr.Post
-is-select-expr-is-select-expr-requires t c κs =
-    (omega (arith, c .before .before .before .pre .0, at-count (c .before .before .before .args .tree .now) (sizes (c .before .before .before .args .tree .now) (c .before .before .before .pre .1 .0)) (c .before .before .before .pre .1 .1 .at)), (c .before .before .before .pre .1 .0, select-within (c .before .before .before .pre .1 .1 .at) (sym (at-kind (c .before .before .before .pre .1 .1 .at)) ∙ sym (c .before .kind-at .ensures) ∙ c .match .keys2) .there))
+is-select-expr-is-select-expr-requires t c κs = (
+  omega (
+    arith,
+    c .before .before .before .pre .0,
+    at-count (c .before .before .before .args .tree .now)
+        (sizes (c .before .before .before .args .tree .now) (c .before .before .before .pre .1 .0))
+        (c .before .before .before .pre .1 .1 .at),
+  ),
+  (
+    c .before .before .before .pre .1 .0,
+    select-within (c .before .before .before .pre .1 .1 .at)
+        (sym (at-kind (c .before .before .before .pre .1 .1 .at)) ∙ sym (c .before .kind-at .ensures)
+        ∙ c .match .keys2) .there,
+  ),
+)
 
 is-select-expr-returns : (t : ℕ) → is-select-expr-lts.Need-returns (
   kind-at-reads.Asked,
@@ -65,7 +89,9 @@ is-select-expr-returns : (t : ℕ) → is-select-expr-lts.Need-returns (
   is-select-expr-below t,
   is-select-expr.Post,
 ) (is-select-expr-at t) is-select-expr.Post
-is-select-expr-returns t c = select-here (c .before .before .before .pre .1 .1 .at) (sym (at-kind (c .before .before .before .pre .1 .1 .at)) ∙ sym (c .before .kind-at .ensures) ∙ c .match .keys1)
+is-select-expr-returns t c =
+    select-here (c .before .before .before .pre .1 .1 .at)
+    (sym (at-kind (c .before .before .before .pre .1 .1 .at)) ∙ sym (c .before .kind-at .ensures) ∙ c .match .keys1)
 
 is-select-expr-returns-2 : (t : ℕ) → is-select-expr-lts.Need-returns-2 (
   kind-at-reads.Asked,
@@ -74,7 +100,10 @@ is-select-expr-returns-2 : (t : ℕ) → is-select-expr-lts.Need-returns-2 (
   is-select-expr.Post,
 ) (is-select-expr-at t) is-select-expr.Post
 is-select-expr-returns-2 t c =
-    select-within (c .before .before .before .before .pre .1 .1 .at) (sym (at-kind (c .before .before .before .before .pre .1 .1 .at)) ∙ sym (c .before .before .kind-at .ensures) ∙ c .before .match .keys2) .same (c .is-select-expr .result) (c .is-select-expr .ensures)
+    select-within (c .before .before .before .before .pre .1 .1 .at)
+    (sym (at-kind (c .before .before .before .before .pre .1 .1 .at)) ∙ sym (c .before .before .kind-at .ensures)
+    ∙ c .before .match .keys2) .same
+    (c .is-select-expr .result) (c .is-select-expr .ensures)
 
 is-select-expr-returns-3 : (t : ℕ) → is-select-expr-lts.Need-returns-3 (
   kind-at-reads.Asked,

@@ -33,7 +33,10 @@ has-newline-at-requires : tie.Need-has-newline-at-requires Inv-loop μ-loop
 has-newline-at-requires c κs = omega arith
 
 returns-2 : tie.Need-returns-2 Inv-loop μ-loop
-returns-2 c = sym (newline-within (c .before .before .before .before .before .before .args .text .now) (c .before .before .before .loop .at) (sym (c .before .has-newline-at .ensures) ∙ c .if2 .taken))
+returns-2 c =
+    sym
+    (newline-within (c .before .before .before .before .before .before .args .text .now)
+    (c .before .before .before .loop .at) (sym (c .before .has-newline-at .ensures) ∙ c .if2 .taken))
 
 add-at : tie.Need-add-at Inv-loop μ-loop
 add-at c = omega arith
@@ -42,7 +45,15 @@ loop-less : tie.Need-loop-less Inv-loop μ-loop
 loop-less c = omega arith
 
 loop-again : tie.Need-loop-again Inv-loop μ-loop
-loop-again c = (omega arith, (omega arith, newline-past (c .before .before .before .before .before .before .args .text .now) (c .before .before .before .loop .at) (c .before .before .before .loop .inv .1 .1) (sym (c .before .has-newline-at .ensures) ∙ c .if2 .left)))
+loop-again c = (
+  omega arith,
+  (
+    omega arith,
+    newline-past (c .before .before .before .before .before .before .args .text .now)
+        (c .before .before .before .loop .at) (c .before .before .before .loop .inv .1 .1)
+        (sym (c .before .has-newline-at .ensures) ∙ c .if2 .left),
+  ),
+)
 
 has-newline-at-requires-2 : tie.Need-has-newline-at-requires-2 Inv-loop μ-loop
 has-newline-at-requires-2 c κs = omega arith
@@ -50,7 +61,9 @@ has-newline-at-requires-2 c κs = omega arith
 returns-3 : tie.Need-returns-3 Inv-loop μ-loop
 returns-3 c =
     let t = c .before .before .before .before .before .args .text .now in
-    c .has-newline-at2 .ensures ∙ newline-last t (c .before .before .loop .at) (length t - 16) (omega arith) (omega arith) (c .before .before .loop .inv .1 .1)
+    c .has-newline-at2 .ensures
+    ∙ newline-last t (c .before .before .loop .at) (length t - 16) (omega arith) (omega arith)
+    (c .before .before .loop .inv .1 .1)
 
 pub has-newline-spec : {M : Type 1} → statement M
 has-newline-spec =

@@ -37,8 +37,12 @@ loop-less c = omega arith
 loop-again : tie.Need-loop-again Inv-loop μ-loop
 loop-again c =
     let turn = c .before .before in
-    let start = turn .before .args in
-    (omega arith, ap (λ (v : Bool). v || eqb (getD (start .text .now) (start .at + turn .loop .i) 0) Byte.lineFeed) (turn .loop .inv .1) ∙ sym (newline-more (start .text .now) (start .at) (turn .loop .i) (omega arith)))
+    let start = turn .before .args in (
+      omega arith,
+      ap (λ (v : Bool). v || eqb (getD (start .text .now) (start .at + turn .loop .i) 0) Byte.lineFeed)
+          (turn .loop .inv .1)
+          ∙ sym (newline-more (start .text .now) (start .at) (turn .loop .i) (omega arith)),
+    )
 
 returns : tie.Need-returns Inv-loop μ-loop
 returns c =

@@ -23,7 +23,10 @@ shared-slice-read-if1 : tie.Need-shared-slice-read-if1 Inv-loop μ-loop
 shared-slice-read-if1 c = omega arith
 
 returns : tie.Need-returns Inv-loop μ-loop
-returns c = sym (c .before .before .before .loop .inv .1 ∙ newline-off _ _ (c .before .before .loop-test .taken) (eq-eqb _ _ (c .if1 .taken)))
+returns c =
+    sym
+    (c .before .before .before .loop .inv .1
+    ∙ newline-off _ _ (c .before .before .loop-test .taken) (eq-eqb _ _ (c .if1 .taken)))
 
 add-i : tie.Need-add-i Inv-loop μ-loop
 add-i c = omega arith
@@ -32,7 +35,11 @@ loop-less : tie.Need-loop-less Inv-loop μ-loop
 loop-less c = omega arith
 
 loop-again : tie.Need-loop-again Inv-loop μ-loop
-loop-again c = (omega arith, c .before .before .before .loop .inv .1 ∙ newline-on _ _ (c .before .before .loop-test .taken) (ne-eqb _ _ (c .if1 .left)))
+loop-again c = (
+  omega arith,
+  c .before .before .before .loop .inv .1
+      ∙ newline-on _ _ (c .before .before .loop-test .taken) (ne-eqb _ _ (c .if1 .left)),
+)
 
 returns-2 : tie.Need-returns-2 Inv-loop μ-loop
 returns-2 c = sym (c .before .loop .inv .1 ∙ newline-end _ _ (c .loop-test .left))

@@ -27,7 +27,11 @@ matches-fluent-ws-requires : tie.Need-matches-fluent-ws-requires Inv-loop μ-loo
 matches-fluent-ws-requires c κs = search needs
 
 returns : tie.Need-returns Inv-loop μ-loop
-returns c = sym (c .before .before .before .before .loop .inv .1 ∙ blank-off _ _ (c .before .before .before .loop-test .taken) (sym (c .before .matches-fluent-ws .ensures) ∙ not-true _ (c .if1 .taken)))
+returns c =
+    sym
+    (c .before .before .before .before .loop .inv .1
+    ∙ blank-off _ _ (c .before .before .before .loop-test .taken)
+    (sym (c .before .matches-fluent-ws .ensures) ∙ not-true _ (c .if1 .taken)))
 
 add-i : tie.Need-add-i Inv-loop μ-loop
 add-i c = omega arith
@@ -36,7 +40,12 @@ loop-less : tie.Need-loop-less Inv-loop μ-loop
 loop-less c = omega arith
 
 loop-again : tie.Need-loop-again Inv-loop μ-loop
-loop-again c = (omega arith, c .before .before .before .before .loop .inv .1 ∙ blank-on _ _ (c .before .before .before .loop-test .taken) (sym (c .before .matches-fluent-ws .ensures) ∙ not-false _ (c .if1 .left)))
+loop-again c = (
+  omega arith,
+  c .before .before .before .before .loop .inv .1
+      ∙ blank-on _ _ (c .before .before .before .loop-test .taken)
+      (sym (c .before .matches-fluent-ws .ensures) ∙ not-false _ (c .if1 .left)),
+)
 
 returns-2 : tie.Need-returns-2 Inv-loop μ-loop
 returns-2 c = sym (c .before .loop .inv .1 ∙ blank-end _ _ (c .loop-test .left))

@@ -30,7 +30,9 @@ same-length-2 : tie.Need-same-length-2
 same-length-2 c = search needs
 
 returns-2 : tie.Need-returns-2
-returns-2 c = with-room _ _ _ _ _ _ (c .before .before .before .before .before .before .before .serialize-resource .ensures) _ _ (c .before .before .before .before .if1 .left) (c .before .before .serialize-resource2 .ensures)
+returns-2 c =
+    with-room _ _ _ _ _ _ (c .before .before .before .before .before .before .before .serialize-resource .ensures) _ _
+    (c .before .before .before .before .if1 .left) (c .before .before .serialize-resource2 .ensures)
 
 pub write-into-spec : {M : Type 1} → statement M
 write-into-spec =

@@ -21,7 +21,13 @@ same-length c = search needs
 
 returns : tie.Need-returns
 unfolding patternStart
-returns c = rw (c .before .before .before .before .before .before .if1 .taken) (record { line = c .before .before .before .before .newline .result; wrote = c .before .before .before .before .newline .ensures; next = rw (c .before .indent .ensures) refl })
+returns c =
+    rw (c .before .before .before .before .before .before .if1 .taken)
+    (record {
+      line = c .before .before .before .before .newline .result;
+      wrote = c .before .before .before .before .newline .ensures;
+      next = rw (c .before .indent .ensures) refl;
+    })
 
 slice-aggregate-write-literal : tie.Need-slice-aggregate-write-literal
 slice-aggregate-write-literal c = search needs
@@ -38,7 +44,13 @@ same-length-2 c = search needs
 
 returns-2 : tie.Need-returns-2
 unfolding patternStart
-returns-2 c = rw (c .before .before .before .before .before .before .if1 .left) (record { line = c .before .before .before .write-literal .result; wrote = c .before .before .before .write-literal .ensures; next = rw (add-zero (c .before .before .before .write-literal .result .indent)) refl })
+returns-2 c =
+    rw (c .before .before .before .before .before .before .if1 .left)
+    (record {
+      line = c .before .before .before .write-literal .result;
+      wrote = c .before .before .before .write-literal .ensures;
+      next = rw (add-zero (c .before .before .before .write-literal .result .indent)) refl;
+    })
 
 pub begin-pattern-spec : {M : Type 1} → statement M
 begin-pattern-spec =

@@ -22,14 +22,20 @@ same-length c = search needs
 
 returns : tie.Need-returns
 unfolding openingBraces bracesOf
-returns c = rw (c .before .before .before .before .before .before .if1 .taken) (record { wrote = c .before .before .before .write-literal .ensures; next = refl })
+returns c =
+    rw (c .before .before .before .before .before .before .if1 .taken)
+    (record { wrote = c .before .before .before .write-literal .ensures; next = refl })
 
 slice-aggregate-write-literal-2 : tie.Need-slice-aggregate-write-literal-2
 slice-aggregate-write-literal-2 c = search needs
 
 write-literal-requires-2 : tie.Need-write-literal-requires-2
 unfolding openingBraces
-write-literal-requires-2 c κs = rw (ne-eqb _ Kind.placeable (c .before .before .if1 .left), openingBraces) at (c .before .before .before .before .pre .0)
+write-literal-requires-2 c κs =
+    rw (
+      ne-eqb _ Kind.placeable (c .before .before .if1 .left),
+      openingBraces,
+    ) at (c .before .before .before .before .pre .0)
 
 add-t18 : tie.Need-add-t18
 add-t18 c = search needs
@@ -39,7 +45,9 @@ same-length-2 c = search needs
 
 returns-2 : tie.Need-returns-2
 unfolding openingBraces bracesOf
-returns-2 c = rw (ne-eqb _ Kind.placeable (c .before .before .before .before .before .before .if1 .left), openingBraces, bracesOf) (record { wrote = c .before .before .before .write-literal2 .ensures; next = refl })
+returns-2 c =
+    rw (ne-eqb _ Kind.placeable (c .before .before .before .before .before .before .if1 .left), openingBraces, bracesOf)
+    (record { wrote = c .before .before .before .write-literal2 .ensures; next = refl })
 
 pub begin-placeable-spec : {M : Type 1} → statement M
 begin-placeable-spec =

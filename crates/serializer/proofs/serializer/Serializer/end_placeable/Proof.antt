@@ -22,7 +22,9 @@ same-length c = search needs
 
 returns : tie.Need-returns
 unfolding closingBraces bracesOf
-returns c = rw (c .before .before .before .before .before .before .if1 .taken) (record { wrote = c .before .before .before .write-literal .ensures; next = refl })
+returns c =
+    rw (c .before .before .before .before .before .before .if1 .taken)
+    (record { wrote = c .before .before .before .write-literal .ensures; next = refl })
 
 slice-aggregate-write-literal-2 : tie.Need-slice-aggregate-write-literal-2
 slice-aggregate-write-literal-2 c = search needs
@@ -39,14 +41,21 @@ same-length-2 c = search needs
 
 returns-2 : tie.Need-returns-2
 unfolding closingBraces bracesOf
-returns-2 c = rw (c .before .before .before .before .before .before .if2 .taken) (record { wrote = c .before .before .before .write-literal2 .ensures; next = refl })
+returns-2 c =
+    rw (c .before .before .before .before .before .before .if2 .taken)
+    (record { wrote = c .before .before .before .write-literal2 .ensures; next = refl })
 
 slice-aggregate-write-literal-3 : tie.Need-slice-aggregate-write-literal-3
 slice-aggregate-write-literal-3 c = search needs
 
 write-literal-requires-3 : tie.Need-write-literal-requires-3
 unfolding closingBraces
-write-literal-requires-3 c κs = rw (ne-eqb _ Kind.placeable (c .before .before .before .if1 .left), closingBraces, ne-eqb _ Kind.select (c .before .before .if2 .left)) at (c .before .before .before .before .before .pre .0)
+write-literal-requires-3 c κs =
+    rw (
+      ne-eqb _ Kind.placeable (c .before .before .before .if1 .left),
+      closingBraces,
+      ne-eqb _ Kind.select (c .before .before .if2 .left),
+    ) at (c .before .before .before .before .before .pre .0)
 
 add-t25 : tie.Need-add-t25
 add-t25 c = search needs
@@ -56,7 +65,14 @@ same-length-3 c = search needs
 
 returns-3 : tie.Need-returns-3
 unfolding closingBraces bracesOf
-returns-3 c = rw (ne-eqb _ Kind.placeable (c .before .before .before .before .before .before .before .if1 .left), closingBraces, bracesOf, ne-eqb _ Kind.select (c .before .before .before .before .before .before .if2 .left)) (record { wrote = c .before .before .before .write-literal3 .ensures; next = refl })
+returns-3 c =
+    rw (
+      ne-eqb _ Kind.placeable (c .before .before .before .before .before .before .before .if1 .left),
+      closingBraces,
+      bracesOf,
+      ne-eqb _ Kind.select (c .before .before .before .before .before .before .if2 .left),
+    )
+    (record { wrote = c .before .before .before .write-literal3 .ensures; next = refl })
 
 pub end-placeable-spec : {M : Type 1} → statement M
 end-placeable-spec =

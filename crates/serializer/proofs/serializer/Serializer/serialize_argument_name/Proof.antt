@@ -22,8 +22,16 @@ next-requires c κs =
 serialize-text-requires : tie.Need-serialize-text-requires
 serialize-text-requires c κs =
     let tree = c .before .before .before .before .before .args .tree .now in
-    let g0 = going (c .before .before .before .before .before .args .output .now) (c .before .before .before .before .before .args .self .writer) (name-row (c .before .before .before .before .before .args .source .now) (nodeAt (marksIn tree) (c .before .before .before .before .before .args .self .mark + 1))) (c .before .before .before .before .before .pre .1 .1) in
-    rw (c .before .next .ensures) (c .before .before .before .before .before .pre .0, (argument-pair (c .before .before .before .before .before .pre .1 .0) .key, room-first g0))
+    let g0 =
+    going (c .before .before .before .before .before .args .output .now)
+    (c .before .before .before .before .before .args .self .writer)
+    (name-row (c .before .before .before .before .before .args .source .now)
+    (nodeAt (marksIn tree) (c .before .before .before .before .before .args .self .mark + 1)))
+    (c .before .before .before .before .before .pre .1 .1) in
+    rw (c .before .next .ensures) (
+      c .before .before .before .before .before .pre .0,
+      (argument-pair (c .before .before .before .before .before .pre .1 .0) .key, room-first g0),
+    )
 
 slice-aggregate-write-literal : tie.Need-slice-aggregate-write-literal
 slice-aggregate-write-literal c = search needs
@@ -31,8 +39,18 @@ slice-aggregate-write-literal c = search needs
 write-literal-requires : tie.Need-write-literal-requires
 write-literal-requires c κs =
     let tree = c .before .before .before .before .before .before .before .before .before .before .args .tree .now in
-    let g0 = going (c .before .before .before .before .before .before .before .before .before .before .args .output .now) (c .before .before .before .before .before .before .before .before .before .before .args .self .writer) (name-row (c .before .before .before .before .before .before .before .before .before .before .args .source .now) (nodeAt (marksIn tree) (c .before .before .before .before .before .before .before .before .before .before .args .self .mark + 1))) (c .before .before .before .before .before .before .before .before .before .before .pre .1 .1) in
-    let g1 = going-on g0 (rw (c .before .before .before .before .before .before .next .ensures) at (c .before .before .before .before .serialize-text .ensures .wrote)) in
+    let g0 =
+    going (c .before .before .before .before .before .before .before .before .before .before .args .output .now)
+    (c .before .before .before .before .before .before .before .before .before .before .args .self .writer)
+    (name-row (c .before .before .before .before .before .before .before .before .before .before .args .source .now)
+    (nodeAt (marksIn tree)
+    (c .before .before .before .before .before .before .before .before .before .before .args .self .mark + 1)))
+    (c .before .before .before .before .before .before .before .before .before .before .pre .1 .1) in
+    let g1 =
+    going-on g0
+    (rw
+    (c .before .before .before .before .before .before .next .ensures) at (c .before .before .before .before
+    .serialize-text .ensures .wrote)) in
     room-first g1
 
 same-length : tie.Need-same-length
@@ -41,9 +59,36 @@ same-length c = search needs
 returns : tie.Need-returns
 returns c =
     let tree = c .before .before .before .before .before .before .before .before .before .before .before .before .before .args .tree .now in
-    let g0 = going (c .before .before .before .before .before .before .before .before .before .before .before .before .before .args .output .now) (c .before .before .before .before .before .before .before .before .before .before .before .before .before .args .self .writer) (name-row (c .before .before .before .before .before .before .before .before .before .before .before .before .before .args .source .now) (nodeAt (marksIn tree) (c .before .before .before .before .before .before .before .before .before .before .before .before .before .args .self .mark + 1))) (c .before .before .before .before .before .before .before .before .before .before .before .before .before .pre .1 .1) in
-    let g1 = going-on g0 (rw (c .before .before .before .before .before .before .before .before .before .next .ensures) at (c .before .before .before .before .before .before .before .serialize-text .ensures .wrote)) in
-    record { wrote = gone (going-on g1 (c .before .before .write-literal .ensures)); next = (rw (c .before .before .before .before .before .before .before .before .before .next .ensures) at (c .before .before .before .before .before .before .before .serialize-text .ensures .next)) ∙ argument-pair (c .before .before .before .before .before .before .before .before .before .before .before .before .before .pre .1 .0) .behind }
+    let g0 =
+    going
+    (c .before .before .before .before .before .before .before .before .before .before .before .before .before .args
+    .output .now)
+    (c .before .before .before .before .before .before .before .before .before .before .before .before .before .args
+    .self .writer)
+    (name-row
+    (c .before .before .before .before .before .before .before .before .before .before .before .before .before .args
+    .source .now)
+    (nodeAt (marksIn tree)
+    (c .before .before .before .before .before .before .before .before .before .before .before .before .before .args
+    .self .mark + 1)))
+    (c .before .before .before .before .before .before .before .before .before .before .before .before .before
+    .pre .1 .1) in
+    let g1 =
+    going-on g0
+    (rw
+    (c .before .before .before .before .before .before .before .before .before .next .ensures) at (c .before .before
+    .before .before .before .before .before .serialize-text .ensures .wrote)) in
+    record {
+      wrote = gone (going-on g1 (c .before .before .write-literal .ensures));
+      next =
+          (rw
+          (c .before .before .before .before .before .before .before .before .before .next .ensures) at (c .before .before
+          .before .before .before .before .before .serialize-text .ensures .next))
+          ∙ argument-pair
+          (c .before .before .before .before .before .before .before .before .before .before .before .before .before
+          .pre .1 .0)
+          .behind;
+    }
 
 pub serialize-argument-name-spec : {M : Type 1} → statement M
 serialize-argument-name-spec =

@@ -14,21 +14,39 @@ use Rattle.serializer.proofs.serializer.Serializer.serialize_junk.Tie a
 
 serialize-text-requires : tie.Need-serialize-text-requires
 unfolding Kind.isText junkIn if
-serialize-text-requires c κs = (c .before .before .before .before .before .pre .fit, (text-one (c .before .before .before .before .before .pre .node) refl, rw (c .before .if1 .taken) at (c .before .before .before .before .before .pre .room)))
+serialize-text-requires c κs = (
+  c .before .before .before .before .before .pre .fit,
+  (
+    text-one (c .before .before .before .before .before .pre .node) refl,
+    rw (c .before .if1 .taken) at (c .before .before .before .before .before .pre .room),
+  ),
+)
 
 same-length : tie.Need-same-length
 same-length c = search needs
 
 returns : tie.Need-returns
 unfolding junkIn if
-returns c = record { wrote = rw (c .before .before .before .before .if1 .taken) (c .before .before .serialize-text .ensures .wrote); next = c .before .before .serialize-text .ensures .next }
+returns c =
+    record {
+      wrote =
+          rw (c .before .before .before .before .if1 .taken) (c .before .before .serialize-text .ensures .wrote);
+      next = c .before .before .serialize-text .ensures .next;
+    }
 
 add-t10 : tie.Need-add-t10
-add-t10 c = let tree = c .before .before .before .before .before .before .args .tree .now in omega (arith, sizes tree (c .before .before .before .before .before .before .pre .fit), at-count tree (sizes tree (c .before .before .before .before .before .before .pre .fit)) (c .before .before .before .before .before .before .pre .node .at))
+add-t10 c = let tree = c .before .before .before .before .before .before .args .tree .now in
+    omega (
+      arith,
+      sizes tree (c .before .before .before .before .before .before .pre .fit),
+      at-count tree (sizes tree (c .before .before .before .before .before .before .pre .fit))
+          (c .before .before .before .before .before .before .pre .node .at),
+    )
 
 returns-2 : tie.Need-returns-2
 unfolding junkIn if Kind.isText
-returns-2 c = let t = text-one (c .before .before .before .before .before .before .pre .node) refl in record { wrote = rw (c .before .before .if1 .left) wrote-nothing; next = sym (text-after (t .at) (t .isText)) }
+returns-2 c = let t = text-one (c .before .before .before .before .before .before .pre .node) refl in
+    record { wrote = rw (c .before .before .if1 .left) wrote-nothing; next = sym (text-after (t .at) (t .isText)) }
 
 pub serialize-junk-spec : {M : Type 1} → statement M
 serialize-junk-spec =

@@ -20,26 +20,79 @@ next-requires c κs =
 
 serialize-text-requires : tie.Need-serialize-text-requires
 serialize-text-requires c κs =
-    let g = going (c .before .before .before .before .before .args .output .now) (c .before .before .before .before .before .args .self .writer) (naming-row (c .before .before .before .before .before .args .source .now) (nodeAt (marksIn (c .before .before .before .before .before .args .tree .now)) (c .before .before .before .before .before .args .self .mark + 1))) (c .before .before .before .before .before .pre .1 .1) in
-    rw (c .before .next .ensures) (c .before .before .before .before .before .pre .0, (c .before .before .before .before .before .pre .1 .0, room-first g))
+    let g =
+    going (c .before .before .before .before .before .args .output .now)
+    (c .before .before .before .before .before .args .self .writer)
+    (naming-row (c .before .before .before .before .before .args .source .now)
+    (nodeAt (marksIn (c .before .before .before .before .before .args .tree .now))
+    (c .before .before .before .before .before .args .self .mark + 1)))
+    (c .before .before .before .before .before .pre .1 .1) in
+    rw (c .before .next .ensures) (
+      c .before .before .before .before .before .pre .0,
+      (c .before .before .before .before .before .pre .1 .0, room-first g),
+    )
 
 slice-aggregate-write-literal : tie.Need-slice-aggregate-write-literal
 slice-aggregate-write-literal c = search needs
 
 write-literal-requires : tie.Need-write-literal-requires
 write-literal-requires c κs =
-    let g = going (c .before .before .before .before .before .before .before .before .before .before .args .output .now) (c .before .before .before .before .before .before .before .before .before .before .args .self .writer) (naming-row (c .before .before .before .before .before .before .before .before .before .before .args .source .now) (nodeAt (marksIn (c .before .before .before .before .before .before .before .before .before .before .args .tree .now)) (c .before .before .before .before .before .before .before .before .before .before .args .self .mark + 1))) (c .before .before .before .before .before .before .before .before .before .before .pre .1 .1) in
-    room-first (going-on g (rw (c .before .before .before .before .before .before .next .ensures) at (c .before .before .before .before .serialize-text .ensures .wrote)))
+    let g =
+    going (c .before .before .before .before .before .before .before .before .before .before .args .output .now)
+    (c .before .before .before .before .before .before .before .before .before .before .args .self .writer)
+    (naming-row
+    (c .before .before .before .before .before .before .before .before .before .before .args .source .now)
+    (nodeAt
+    (marksIn (c .before .before .before .before .before .before .before .before .before .before .args .tree .now))
+    (c .before .before .before .before .before .before .before .before .before .before .args .self .mark + 1)))
+    (c .before .before .before .before .before .before .before .before .before .before .pre .1 .1) in
+    room-first
+    (going-on g
+    (rw
+    (c .before .before .before .before .before .before .next .ensures) at (c .before .before .before .before
+    .serialize-text .ensures .wrote)))
 
 same-length : tie.Need-same-length
 same-length c = search needs
 
 returns : tie.Need-returns
 returns c =
-    let g = going (c .before .before .before .before .before .before .before .before .before .before .before .before .before .args .output .now) (c .before .before .before .before .before .before .before .before .before .before .before .before .before .args .self .writer) (naming-row (c .before .before .before .before .before .before .before .before .before .before .before .before .before .args .source .now) (nodeAt (marksIn (c .before .before .before .before .before .before .before .before .before .before .before .before .before .args .tree .now)) (c .before .before .before .before .before .before .before .before .before .before .before .before .before .args .self .mark + 1))) (c .before .before .before .before .before .before .before .before .before .before .before .before .before .pre .1 .1) in
+    let g =
+    going
+    (c .before .before .before .before .before .before .before .before .before .before .before .before .before .args
+    .output .now)
+    (c .before .before .before .before .before .before .before .before .before .before .before .before .before .args
+    .self .writer)
+    (naming-row
+    (c .before .before .before .before .before .before .before .before .before .before .before .before .before .args
+    .source .now)
+    (nodeAt
+    (marksIn
+    (c .before .before .before .before .before .before .before .before .before .before .before .before .before .args
+    .tree .now))
+    (c .before .before .before .before .before .before .before .before .before .before .before .before .before .args
+    .self .mark + 1)))
+    (c .before .before .before .before .before .before .before .before .before .before .before .before .before
+    .pre .1 .1) in
     record {
-      wrote = gone (going-on (going-on g (rw (c .before .before .before .before .before .before .before .before .before .next .ensures) at (c .before .before .before .before .before .before .before .serialize-text .ensures .wrote))) (c .before .before .write-literal .ensures));
-      next = (rw (c .before .before .before .before .before .before .before .before .before .next .ensures) at (c .before .before .before .before .before .before .before .serialize-text .ensures .next)) ∙ text-after (c .before .before .before .before .before .before .before .before .before .before .before .before .before .pre .1 .0 .at) (c .before .before .before .before .before .before .before .before .before .before .before .before .before .pre .1 .0 .isText) ∙ omega arith;
+      wrote =
+          gone
+          (going-on
+          (going-on g
+          (rw
+          (c .before .before .before .before .before .before .before .before .before .next .ensures) at (c .before
+          .before .before .before .before .before .before .serialize-text .ensures .wrote)))
+          (c .before .before .write-literal .ensures));
+      next =
+          (rw
+          (c .before .before .before .before .before .before .before .before .before .next .ensures) at (c .before
+          .before .before .before .before .before .before .serialize-text .ensures .next))
+          ∙ text-after
+          (c .before .before .before .before .before .before .before .before .before .before .before .before .before
+          .pre .1 .0 .at)
+          (c .before .before .before .before .before .before .before .before .before .before .before .before .before
+          .pre .1 .0 .isText)
+          ∙ omega arith;
     }
 
 pub serialize-name-spec : {M : Type 1} → statement M

@@ -14,23 +14,92 @@ slice-aggregate-write-literal : tie.Need-slice-aggregate-write-literal
 slice-aggregate-write-literal c = search needs
 
 write-literal-requires : tie.Need-write-literal-requires
-write-literal-requires c κs = room-first (going (c .before .before .before .before .before .args .output .now) (c .before .before .before .before .before .args .self .writer) (quoted-row (c .before .before .before .before .before .args .source .now) (nodeAt (marksIn (c .before .before .before .before .before .args .tree .now)) (c .before .before .before .before .before .args .self .mark))) (c .before .before .before .before .before .pre .room))
+write-literal-requires c κs =
+    room-first
+    (going (c .before .before .before .before .before .args .output .now)
+    (c .before .before .before .before .before .args .self .writer)
+    (quoted-row (c .before .before .before .before .before .args .source .now)
+    (nodeAt (marksIn (c .before .before .before .before .before .args .tree .now))
+    (c .before .before .before .before .before .args .self .mark)))
+    (c .before .before .before .before .before .pre .room))
 
 serialize-text-requires : tie.Need-serialize-text-requires
 unfolding Kind.isText
-serialize-text-requires c κs = (c .before .before .before .before .before .before .before .before .before .pre .fit, (text-one (c .before .before .before .before .before .before .before .before .before .pre .node) refl, room-first (going-on (going (c .before .before .before .before .before .before .before .before .before .args .output .now) (c .before .before .before .before .before .before .before .before .before .args .self .writer) (quoted-row (c .before .before .before .before .before .before .before .before .before .args .source .now) (nodeAt (marksIn (c .before .before .before .before .before .before .before .before .before .args .tree .now)) (c .before .before .before .before .before .before .before .before .before .args .self .mark))) (c .before .before .before .before .before .before .before .before .before .pre .room)) (c .before .before .before .write-literal .ensures))))
+serialize-text-requires c κs = (
+  c .before .before .before .before .before .before .before .before .before .pre .fit,
+  (
+    text-one (c .before .before .before .before .before .before .before .before .before .pre .node) refl,
+    room-first
+        (going-on
+        (going (c .before .before .before .before .before .before .before .before .before .args .output .now)
+        (c .before .before .before .before .before .before .before .before .before .args .self .writer)
+        (quoted-row (c .before .before .before .before .before .before .before .before .before .args .source .now)
+        (nodeAt (marksIn (c .before .before .before .before .before .before .before .before .before .args .tree .now))
+        (c .before .before .before .before .before .before .before .before .before .args .self .mark)))
+        (c .before .before .before .before .before .before .before .before .before .pre .room))
+        (c .before .before .before .write-literal .ensures)),
+  ),
+)
 
 slice-aggregate-write-literal-2 : tie.Need-slice-aggregate-write-literal-2
 slice-aggregate-write-literal-2 c = search needs
 
 write-literal-requires-2 : tie.Need-write-literal-requires-2
-write-literal-requires-2 c κs = room-first (going-on (going-on (going (c .before .before .before .before .before .before .before .before .before .before .before .before .before .before .args .output .now) (c .before .before .before .before .before .before .before .before .before .before .before .before .before .before .args .self .writer) (quoted-row (c .before .before .before .before .before .before .before .before .before .before .before .before .before .before .args .source .now) (nodeAt (marksIn (c .before .before .before .before .before .before .before .before .before .before .before .before .before .before .args .tree .now)) (c .before .before .before .before .before .before .before .before .before .before .before .before .before .before .args .self .mark))) (c .before .before .before .before .before .before .before .before .before .before .before .before .before .before .pre .room)) (c .before .before .before .before .before .before .before .before .write-literal .ensures)) (c .before .before .before .before .serialize-text .ensures .wrote))
+write-literal-requires-2 c κs =
+    room-first
+    (going-on
+    (going-on
+    (going
+    (c .before .before .before .before .before .before .before .before .before .before .before .before .before .before
+    .args .output .now)
+    (c .before .before .before .before .before .before .before .before .before .before .before .before .before .before
+    .args .self .writer)
+    (quoted-row
+    (c .before .before .before .before .before .before .before .before .before .before .before .before .before .before
+    .args .source .now)
+    (nodeAt
+    (marksIn
+    (c .before .before .before .before .before .before .before .before .before .before .before .before .before .before
+    .args .tree .now))
+    (c .before .before .before .before .before .before .before .before .before .before .before .before .before .before
+    .args .self .mark)))
+    (c .before .before .before .before .before .before .before .before .before .before .before .before .before .before
+    .pre .room))
+    (c .before .before .before .before .before .before .before .before .write-literal .ensures))
+    (c .before .before .before .before .serialize-text .ensures .wrote))
 
 same-length : tie.Need-same-length
 same-length c = search needs
 
 returns : tie.Need-returns
-returns c = record { wrote = gone (going-on (going-on (going-on (going (c .before .before .before .before .before .before .before .before .before .before .before .before .before .before .before .before .before .args .output .now) (c .before .before .before .before .before .before .before .before .before .before .before .before .before .before .before .before .before .args .self .writer) (quoted-row (c .before .before .before .before .before .before .before .before .before .before .before .before .before .before .before .before .before .args .source .now) (nodeAt (marksIn (c .before .before .before .before .before .before .before .before .before .before .before .before .before .before .before .before .before .args .tree .now)) (c .before .before .before .before .before .before .before .before .before .before .before .before .before .before .before .before .before .args .self .mark))) (c .before .before .before .before .before .before .before .before .before .before .before .before .before .before .before .before .before .pre .room)) (c .before .before .before .before .before .before .before .before .before .before .before .write-literal .ensures)) (c .before .before .before .before .before .before .before .serialize-text .ensures .wrote)) (c .before .before .write-literal2 .ensures)); next = c .before .before .before .before .before .before .before .serialize-text .ensures .next }
+returns c =
+    record {
+      wrote =
+          gone
+          (going-on
+          (going-on
+          (going-on
+          (going
+          (c .before .before .before .before .before .before .before .before .before .before .before .before .before .before
+          .before .before .before .args .output .now)
+          (c .before .before .before .before .before .before .before .before .before .before .before .before .before .before
+          .before .before .before .args .self .writer)
+          (quoted-row
+          (c .before .before .before .before .before .before .before .before .before .before .before .before .before .before
+          .before .before .before .args .source .now)
+          (nodeAt
+          (marksIn
+          (c .before .before .before .before .before .before .before .before .before .before .before .before .before .before
+          .before .before .before .args .tree .now))
+          (c .before .before .before .before .before .before .before .before .before .before .before .before .before .before
+          .before .before .before .args .self .mark)))
+          (c .before .before .before .before .before .before .before .before .before .before .before .before .before .before
+          .before .before .before .pre .room))
+          (c .before .before .before .before .before .before .before .before .before .before .before .write-literal .ensures))
+          (c .before .before .before .before .before .before .before .serialize-text .ensures .wrote))
+          (c .before .before .write-literal2 .ensures));
+      next = c .before .before .before .before .before .before .before .serialize-text .ensures .next;
+    }
 
 pub serialize-string-literal-spec : {M : Type 1} → statement M
 serialize-string-literal-spec =

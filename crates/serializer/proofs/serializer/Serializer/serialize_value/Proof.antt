@@ -13,26 +13,57 @@ use Rattle.serializer.proofs.serializer.Serializer.serialize_value.Stat
 use Rattle.serializer.proofs.serializer.Serializer.serialize_value.Tie as tie
 
 kind-at-requires : tie.Need-kind-at-requires
-kind-at-requires c κs = (c .before .before .before .pre .fit, inside-count (c .before .before .before .args .tree .now) (sizes (c .before .before .before .args .tree .now) (c .before .before .before .pre .fit)) (c .before .before .before .pre .here))
+kind-at-requires c κs = (
+  c .before .before .before .pre .fit,
+  inside-count (c .before .before .before .args .tree .now)
+      (sizes (c .before .before .before .args .tree .now) (c .before .before .before .pre .fit))
+      (c .before .before .before .pre .here),
+)
 
 returns : tie.Need-returns
 returns c =
     let source = c .before .before .before .before .before .args .source .now in
     let tree = c .before .before .before .before .before .args .tree .now in
-    let other : kindAt (marksIn tree) (c .before .before .before .before .before .args .self .mark) ≡ Kind.pattern → ⊥ = λ e. c .if1 .taken (c .before .kind-at .ensures ∙ e) in
-    (rw (no-values source tree (c .before .before .before .before .before .pre .kind) (c .before .before .before .before .before .pre .one) (c .before .before .before .before .before .pre .here) other) wrote-nothing, unvalued source tree (c .before .before .before .before .before .pre .kind) (c .before .before .before .before .before .pre .one) (c .before .before .before .before .before .pre .here) other)
+    let other : kindAt (marksIn tree) (c .before .before .before .before .before .args .self .mark) ≡ Kind.pattern
+    → ⊥ = λ e. c .if1 .taken (c .before .kind-at .ensures ∙ e) in (
+      rw
+          (no-values source tree (c .before .before .before .before .before .pre .kind)
+          (c .before .before .before .before .before .pre .one)
+          (c .before .before .before .before .before .pre .here) other) wrote-nothing,
+      unvalued source tree (c .before .before .before .before .before .pre .kind)
+          (c .before .before .before .before .before .pre .one)
+          (c .before .before .before .before .before .pre .here) other,
+    )
 
 serialize-pattern-requires : tie.Need-serialize-pattern-requires
 serialize-pattern-requires c κs =
-    let v = value (c .before .before .before .before .before .before .args .source .now) (c .before .before .before .before .before .before .args .tree .now) (c .before .before .before .before .before .before .pre .kind) (c .before .before .before .before .before .before .pre .one) (c .before .before .before .before .before .before .pre .here) (sym (c .before .before .kind-at .ensures) ∙ c .before .if1 .left) in
-    record { fit = c .before .before .before .before .before .before .pre .fit; node = v .there; shallow = omega (arith, c .before .before .before .before .before .before .pre .shallow); room = rw (v .same) at (c .before .before .before .before .before .before .pre .room) }
+    let v =
+    value (c .before .before .before .before .before .before .args .source .now)
+    (c .before .before .before .before .before .before .args .tree .now)
+    (c .before .before .before .before .before .before .pre .kind)
+    (c .before .before .before .before .before .before .pre .one)
+    (c .before .before .before .before .before .before .pre .here)
+    (sym (c .before .before .kind-at .ensures) ∙ c .before .if1 .left) in
+    record {
+      fit = c .before .before .before .before .before .before .pre .fit;
+      node = v .there;
+      shallow = omega (arith, c .before .before .before .before .before .before .pre .shallow);
+      room = rw (v .same) at (c .before .before .before .before .before .before .pre .room);
+    }
 
 same-length : tie.Need-same-length
 same-length c = search needs
 
 returns-2 : tie.Need-returns-2
 returns-2 c =
-    let v = value (c .before .before .before .before .before .before .before .before .before .args .source .now) (c .before .before .before .before .before .before .before .before .before .args .tree .now) (c .before .before .before .before .before .before .before .before .before .pre .kind) (c .before .before .before .before .before .before .before .before .before .pre .one) (c .before .before .before .before .before .before .before .before .before .pre .here) (sym (c .before .before .before .before .before .kind-at .ensures) ∙ c .before .before .before .before .if1 .left) in
+    let v =
+    value (c .before .before .before .before .before .before .before .before .before .args .source .now)
+    (c .before .before .before .before .before .before .before .before .before .args .tree .now)
+    (c .before .before .before .before .before .before .before .before .before .pre .kind)
+    (c .before .before .before .before .before .before .before .before .before .pre .one)
+    (c .before .before .before .before .before .before .before .before .before .pre .here)
+    (sym (c .before .before .before .before .before .kind-at .ensures)
+    ∙ c .before .before .before .before .if1 .left) in
     (rw (v .same) (c .before .before .serialize-pattern .ensures .wrote), rw (c .before .before .serialize-pattern .ensures .next) (v .on))
 
 pub serialize-value-spec : {M : Type 1} → statement M

@@ -15,7 +15,8 @@ last-of-requires c κs = search needs
 returns : tie.Need-returns
 returns c =
     let w = c .before .before .before .args .self in
-    ap (λ b. record { at = w .at + length (c .before .before .before .args .item .now); last = b; indent = w .indent }) (c .last-of .ensures)
+    ap (λ b. record { at = w .at + length (c .before .before .before .args .item .now); last = b; indent = w .indent })
+    (c .last-of .ensures)
 
 pub after-spec : {M : Type 1} → statement M
 after-spec = tie.close (tie.spec add-t4 last-of-requires returns)

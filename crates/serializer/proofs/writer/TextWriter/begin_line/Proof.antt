@@ -15,7 +15,13 @@ write-indent-requires : tie.Need-write-indent-requires
 write-indent-requires c κs =
     let w = c .before .before .before .before .args .self in
     let spaces = replicate (indentWidth * w .indent) Byte.space in
-    omega (arith, ap length (literal-indented w [] (c .before .if1 .taken)) ∙ length-append spaces [], length-replicate (indentWidth * w .indent) Byte.space, c .before .before .before .before .pre)
+    omega (
+      arith,
+      ap length (literal-indented w [] (c .before .if1 .taken))
+          ∙ length-append spaces [],
+      length-replicate (indentWidth * w .indent) Byte.space,
+      c .before .before .before .before .pre,
+    )
 
 same-length : tie.Need-same-length
 same-length c = search needs
@@ -23,7 +29,11 @@ same-length c = search needs
 returns : tie.Need-returns
 returns c =
     let w = c .before .before .before .before .before .before .before .args .self in
-    wrote-as (literal []) (sym (literal-indented w [] (c .before .before .before .before .if1 .taken) ∙ append-nil (replicate (indentWidth * w .indent) Byte.space))) (c .before .before .write-indent .ensures)
+    wrote-as (literal [])
+    (sym
+    (literal-indented w [] (c .before .before .before .before .if1 .taken)
+    ∙ append-nil (replicate (indentWidth * w .indent) Byte.space)))
+    (c .before .before .write-indent .ensures)
 
 returns-2 : tie.Need-returns-2
 returns-2 c = wrote-as (literal []) (sym (literal-plain (c .before .before .before .args .self) [] (c .if1 .left))) wrote-none

@@ -14,17 +14,36 @@ write-indent-requires : tie.Need-write-indent-requires
 write-indent-requires c κs = room-star (c .before .before .args .self) (c .before .before .pre .0) (c .before .before .pre .1)
 
 sub-t7 : tie.Need-sub-t7
-sub-t7 c = omega (arith, c .before .before .before .before .before .before .pre .0, c .before .before .before .write-indent .ensures .end, length-replicate (indentWidth * c .before .before .before .before .before .before .args .self .indent) Byte.space)
+sub-t7 c =
+    omega (
+      arith,
+      c .before .before .before .before .before .before .pre .0,
+      c .before .before .before .write-indent .ensures .end,
+      length-replicate (indentWidth * c .before .before .before .before .before .before .args .self .indent) Byte.space,
+    )
 
 put-requires : tie.Need-put-requires
 put-requires c κs =
-    omega (arith, c .before .before .before .before .before .before .before .pre .0, room-star (c .before .before .before .before .before .before .before .args .self) (c .before .before .before .before .before .before .before .pre .0) (c .before .before .before .before .before .before .before .pre .1), c .before .before .before .before .write-indent .ensures .end, length-replicate (indentWidth * c .before .before .before .before .before .before .before .args .self .indent) Byte.space)
+    omega (
+      arith,
+      c .before .before .before .before .before .before .before .pre .0,
+      room-star (c .before .before .before .before .before .before .before .args .self)
+          (c .before .before .before .before .before .before .before .pre .0)
+          (c .before .before .before .before .before .before .before .pre .1),
+      c .before .before .before .before .write-indent .ensures .end,
+      length-replicate
+          (indentWidth * c .before .before .before .before .before .before .before .args .self .indent) Byte.space,
+    )
 
 same-length : tie.Need-same-length
 same-length c = search needs
 
 returns : tie.Need-returns
-returns c = wrote-star (c .before .before .before .before .before .before .before .before .before .before .args .self) (c .before .before .before .before .before .before .before .before .before .before .pre .0) (c .before .before .before .before .before .before .before .write-indent .ensures) refl refl (c .before .before .put .ensures)
+returns c =
+    wrote-star (c .before .before .before .before .before .before .before .before .before .before .args .self)
+    (c .before .before .before .before .before .before .before .before .before .before .pre .0)
+    (c .before .before .before .before .before .before .before .write-indent .ensures) refl refl
+    (c .before .before .put .ensures)
 
 pub star-spec : {M : Type 1} → statement M
 star-spec = tie.close (tie.spec write-indent-requires sub-t7 put-requires same-length returns)

@@ -14,7 +14,9 @@ same-length : tie.Need-same-length
 same-length c = search needs
 
 returns : tie.Need-returns
-returns c = wrote-put (c .before .before .before .before .before .before .before .args .item .now) (c .before .before .before .put-bytes .ensures) (c .after .ensures)
+returns c =
+    wrote-put (c .before .before .before .before .before .before .before .args .item .now)
+    (c .before .before .before .put-bytes .ensures) (c .after .ensures)
 
 pub write-bytes-spec : {M : Type 1} → statement M
 write-bytes-spec = tie.close (tie.spec put-bytes-requires after-requires same-length returns)

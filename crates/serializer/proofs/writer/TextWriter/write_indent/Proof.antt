@@ -12,7 +12,9 @@ use Rattle.serializer.proofs.writer.TextWriter.write_indent.Statement.{
 use Rattle.serializer.proofs.writer.TextWriter.write_indent.Tie as tie
 
 returns : tie.Need-returns
-returns c = wrote-as (bytes (replicate (indentWidth * c .before .before .args .self .indent) Byte.space)) (ap (λ n. replicate (indentWidth * n) Byte.space) (sym (c .if1 .taken))) wrote-none
+returns c =
+    wrote-as (bytes (replicate (indentWidth * c .before .before .args .self .indent) Byte.space))
+    (ap (λ n. replicate (indentWidth * n) Byte.space) (sym (c .if1 .taken))) wrote-none
 
 mul-width : tie.Need-mul-width
 mul-width c = search needs

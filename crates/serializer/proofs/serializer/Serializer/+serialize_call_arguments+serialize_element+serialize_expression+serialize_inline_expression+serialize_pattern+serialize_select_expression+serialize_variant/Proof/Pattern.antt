@@ -21,13 +21,27 @@ use Rattle.serializer.proofs.serializer.Serializer.end_pattern.Reads as
 use Rattle.serializer.proofs.serializer.Serializer.serialize_element.Reads as serialize-element
 use Rattle.serializer.proofs.serializer.Serializer.serialize_pattern.Reads as own
 use Rattle.serializer.proofs.serializer.Serializer.+serialize_call_arguments+serialize_element+serialize_expression+serialize_inline_expression+serialize_pattern+serialize_select_expression+serialize_variant.Lts-serialize_pattern as lts
-use Rattle.serializer.proofs.serializer.Serializer.+serialize_call_arguments+serialize_element+serialize_expression+serialize_inline_expression+serialize_pattern+serialize_select_expression+serialize_variant.Proof.Measures.{serialize-element-below, serialize-pattern-at}
+use Rattle.serializer.proofs.serializer.Serializer.+serialize_call_arguments+serialize_element+serialize_expression+serialize_inline_expression+serialize_pattern+serialize_select_expression+serialize_variant.Proof.Measures.{serialize-element-below}
+use Rattle.serializer.proofs.serializer.Serializer.+serialize_call_arguments+serialize_element+serialize_expression+serialize_inline_expression+serialize_pattern+serialize_select_expression+serialize_variant.Proof.Measures.{serialize-pattern-at}
 
 abbrev pub env : ℕ → lts.Claims
-env t = (starts-on-new-line-reads.Asked, starts-on-new-line-reads.Learnt, begin-pattern-reads.Asked, begin-pattern-reads.Learnt, kind-at-reads.Asked, kind-at-reads.Learnt, serialize-element-below t, serialize-element.Post, end-pattern-reads.Asked, end-pattern-reads.Learnt)
+env t = (
+  starts-on-new-line-reads.Asked,
+  starts-on-new-line-reads.Learnt,
+  begin-pattern-reads.Asked,
+  begin-pattern-reads.Learnt,
+  kind-at-reads.Asked,
+  kind-at-reads.Learnt,
+  serialize-element-below t,
+  serialize-element.Post,
+  end-pattern-reads.Asked,
+  end-pattern-reads.Learnt,
+)
 
 abbrev pub Inv-loop : lts.InvT-loop
-Inv-loop source tree output₀ start-on-newline s₀ output s = Rows source tree Kind.pattern 0 (each (elementOf source) (nodes (innerAt (marksIn tree) (s₀ .mark)))) (each (elementOf source)) output₀ output s₀ s
+Inv-loop source tree output₀ start-on-newline s₀ output s =
+    Rows source tree Kind.pattern 0 (each (elementOf source) (nodes (innerAt (marksIn tree) (s₀ .mark))))
+    (each (elementOf source)) output₀ output s₀ s
 
 abbrev pub μ-loop : lts.MeasureT-loop
 μ-loop source tree output₀ start-on-newline s₀ output s = count tree - s .mark
@@ -45,7 +59,10 @@ begin-pattern-requires t c κs =
     let ready = c .before .before .before .before .before .pre .1 in
     let fit = sizes tree (ready .fit) in
     let here = at-count tree fit (ready .node .at) in
-    let g0 = going (c .before .before .before .before .before .args .output .now) (c .before .before .before .before .before .args .self .writer) (pattern-parts source (ready .node) _ (c .before .starts-on-new-line .ensures)) (ready .room) in
+    let g0 =
+    going (c .before .before .before .before .before .args .output .now)
+    (c .before .before .before .before .before .args .self .writer)
+    (pattern-parts source (ready .node) _ (c .before .starts-on-new-line .ensures)) (ready .room) in
     (room-first g0, (omega (arith, fit, here, ready .shallow), omega (arith, fit, here)))
 
 pub loop-holds : (t : ℕ) → lts.Need-loop-holds (env t) (serialize-pattern-at t) own.Post Inv-loop μ-loop
@@ -56,10 +73,25 @@ loop-holds t c =
     let entered = pattern-entered source (ready .node) in
     let start = c .before .before .before .before .starts-on-new-line .result in
     let begun = c .before .before .begin-pattern .ensures in
-    let p = each (elementOf source) (nodes (innerAt (marksIn tree) (c .before .before .before .before .before .before .before .before .args .self .mark + 1))) in
-    let g0 = going (c .before .before .before .before .before .before .before .before .args .output .now) (c .before .before .before .before .before .before .before .before .args .self .writer) (pattern-parts source (ready .node) start (c .before .before .before .before .starts-on-new-line .ensures)) (ready .room) in
+    let p =
+    each (elementOf source)
+    (nodes
+    (innerAt (marksIn tree)
+    (c .before .before .before .before .before .before .before .before .args .self .mark + 1))) in
+    let g0 =
+    going (c .before .before .before .before .before .before .before .before .args .output .now)
+    (c .before .before .before .before .before .before .before .before .args .self .writer)
+    (pattern-parts source (ready .node) start (c .before .before .before .before .starts-on-new-line .ensures))
+    (ready .room) in
     let g1 = going-on g0 (begun .wrote) in
-    rw (begun .next) (rows-first _ _ (record { fit = ready .fit; at = record { state = 0; least = omega arith; here = entered .first }; shallow = omega (arith, ready .shallow, begun .wrote .level, one-most start); room = room-within start (begun .line) p (room-first g1) }))
+    rw (begun .next)
+    (rows-first _ _
+    (record {
+      fit = ready .fit;
+      at = record { state = 0; least = omega arith; here = entered .first };
+      shallow = omega (arith, ready .shallow, begun .wrote .level, one-most start);
+      room = room-within start (begun .line) p (room-first g1);
+    }))
 
 pub kind-at-requires : (t : ℕ) → lts.Need-kind-at-requires (env t) (serialize-pattern-at t) own.Post Inv-loop μ-loop
 kind-at-requires t c κs =
@@ -77,8 +109,18 @@ serialize-element-requires t c κs =
     let here = at-count tree fit (ready .node .at) in
     let begun = c .before .before .before .before .before .before .begin-pattern .ensures in
     let rows = c .before .before .before .loop .inv in
-    let turn = rows-turn rows elements refl (elementOf source) (each (elementOf source)) (λ n ns. refl) (omega (arith, c .before .before .kind-at .ensures, c .before .if1 .taken)) in
-    (omega (arith, c .before .before .before .before .before .before .before .before .before .before .before .before .pre .0, here, rows .later, ap (λ s. s .mark) (begun .next)), turn .ready)
+    let turn =
+    rows-turn rows elements refl (elementOf source) (each (elementOf source)) (λ n ns. refl)
+    (omega (arith, c .before .before .kind-at .ensures, c .before .if1 .taken)) in (
+      omega (
+        arith,
+        c .before .before .before .before .before .before .before .before .before .before .before .before .pre .0,
+        here,
+        rows .later,
+        ap (λ s. s .mark) (begun .next),
+      ),
+      turn .ready,
+    )
 
 pub loop-less : (t : ℕ) → lts.Need-loop-less (env t) (serialize-pattern-at t) own.Post Inv-loop μ-loop
 unfolding after
@@ -89,9 +131,17 @@ loop-less t c =
 pub loop-again : (t : ℕ) → lts.Need-loop-again (env t) (serialize-pattern-at t) own.Post Inv-loop μ-loop
 unfolding models among each
 loop-again t c =
-    let source = c .before .before .before .before .before .before .before .before .before .before .before .before .before .before .before .args .source .now in
+    let source =
+    c .before .before .before .before .before .before .before .before .before .before .before .before .before
+    .before .before .args .source .now in
     let rows = c .before .before .before .before .before .before .loop .inv in
-    let turn = rows-turn rows elements refl (elementOf source) (each (elementOf source)) (λ n ns. refl) (omega (arith, c .before .before .before .before .before .kind-at .ensures, c .before .before .before .before .if1 .taken)) in
+    let turn =
+    rows-turn rows elements refl (elementOf source) (each (elementOf source)) (λ n ns. refl)
+    (omega (
+      arith,
+      c .before .before .before .before .before .kind-at .ensures,
+      c .before .before .before .before .if1 .taken,
+    )) in
     turn .on _ _ (c .before .before .serialize-element .ensures)
 
 pub end-pattern-requires : (t : ℕ) → lts.Need-end-pattern-requires (env t) (serialize-pattern-at t) own.Post Inv-loop μ-loop
@@ -120,9 +170,26 @@ returns t c =
     let entered = pattern-entered source (ready .node) in
     let start = c .before .before .before .before .before .before .before .before .starts-on-new-line .result in
     let begun = c .before .before .before .before .before .before .begin-pattern .ensures in
-    let p = each (elementOf source) (nodes (innerAt (marksIn tree) (c .before .before .before .before .before .before .before .before .before .before .before .before .args .self .mark + 1))) in
-    let g0 = going (c .before .before .before .before .before .before .before .before .before .before .before .before .args .output .now) (c .before .before .before .before .before .before .before .before .before .before .before .before .args .self .writer) (pattern-parts source (ready .node) start (c .before .before .before .before .before .before .before .before .starts-on-new-line .ensures)) (ready .room) in
+    let p =
+    each (elementOf source)
+    (nodes
+    (innerAt (marksIn tree)
+    (c .before .before .before .before .before .before .before .before .before .before .before .before .args .self
+    .mark + 1))) in
+    let g0 =
+    going
+    (c .before .before .before .before .before .before .before .before .before .before .before .before .args .output
+    .now)
+    (c .before .before .before .before .before .before .before .before .before .before .before .before .args .self
+    .writer)
+    (pattern-parts source (ready .node) start
+    (c .before .before .before .before .before .before .before .before .starts-on-new-line .ensures))
+    (ready .room) in
     let g1 = going-on g0 (begun .wrote) in
     let rows = c .before .before .before .loop .inv in
     let done = rw (begun .next) at (rows-done rows refl (omega (arith, c .before .before .kind-at .ensures, c .before .if1 .left))) in
-    rw (c .end-pattern .ensures) (record { wrote = gone (going-on g1 (wrote-within start (begun .line) p (done .0))); next = ap (λ m. m + 1) (done .1) ∙ entered .behind })
+    rw (c .end-pattern .ensures)
+    (record {
+      wrote = gone (going-on g1 (wrote-within start (begun .line) p (done .0)));
+      next = ap (λ m. m + 1) (done .1) ∙ entered .behind;
+    })
