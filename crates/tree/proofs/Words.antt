@@ -8,18 +8,20 @@ use mathlib.Core.List.{List, [], _∷_, _++_, map, append-assoc}
 use lib.Dec.{eqb, leb, ltb}
 use lib.ListN.{length, take, drop, getD, length-append, length-drop, drop-of-length-le, List·getD-eq-default, length-take}
 use lib.Seq.{take-all, take-nil, drop-cons, getD-take, getD-drop}
-use borrow.Author.Tests.{eqb-true, leb-true, leb-false, lt-ltb, le-ltb, le-leb, lt-leb}
+use borrow.Author.Tests.{eqb-true, leb-true, leb-false, ltb-true, lt-ltb, le-ltb, ne-eqb}
+use Rattle.utf8.specs.Utf8.{isBoundary}
 use Rattle.syntax.specs.Kind as Kind
 use Rattle.syntax.specs.Marks.{Mark, plain, placed, kindOf, placeOf, node, textNode}
 use Rattle.syntax.specs.Layout.{count, capacity, kinds, places, hasPlace, markOf, marksBy, marksIn}
+use Rattle.syntax.specs.Tests.{sizesFit}
 use Rattle.syntax.specs.Serializer.{nodes, between, textOf}
 use Rattle.laws.specs.Bytes.{byCase, clash}
 use Rattle.laws.specs.Balanced.{Levels, Opened, run-levels}
 use Rattle.laws.specs.Balanced.Nodes.{nodes-text}
-use Rattle.tree.specs.Words.{kindIn, placeIn, textIn, upToClosing, afterIn}
+use Rattle.tree.specs.Words.{kindIn, placeIn, textIn, tillClosed, afterIn}
 use Rattle.tree.specs.Walk.{firstKind, kindAt, firstNode, nodeAt, after, Child, At, TextAt}
 use Rattle.tree.specs.Walk as Spec
-use Rattle.tree.proofs.Sizes.{Sizes, next-mark, mark-inside, mark-next, kinds-length, places-length}
+use Rattle.tree.proofs.Sizes.{Sizes, sizes, next-mark, mark-inside, mark-next, kinds-length, places-length}
 use Rattle.tree.proofs.Walk.{at-after}
 
 -- The text between two places, which are held to the source.
@@ -53,6 +55,11 @@ unfolding textIn placeIn
 no-text source ws i h =
     let n : placeIn ws (i + 1) - placeIn ws i ≡ 0 = omega (arith, no-word ws (2 + capacity ws + (i + 1)) (omega arith)) in rw n
 
+none-left : (ks : List ℕ) → tillClosed 0 ks ≡ 0
+unfolding tillClosed
+none-left [] = refl
+none-left (x ∷ ks) = refl
+
 -- The kinds of a list, one by one: how many are left of the node that starts at the mark i.
 module _ (ws : List ℕ) where
   pub kind-inside : (i : ℕ) → i < length (kinds ws) → 2 + i < length ws
@@ -68,42 +75,47 @@ module _ (ws : List ℕ) where
 
   -- with depth nodes open at the mark next
   pub record Passing (i depth next : ℕ) : Type 0 where
-    pub same : afterIn ws i ≡ next + upToClosing depth (drop next (kinds ws))
+    pub same : afterIn ws i ≡ next + tillClosed depth (drop next (kinds ws))
+    pub deep : 1 ≤ depth
     pub small : depth ≤ next
 
-  module _ (i : ℕ) where
-    pub passing-first : Passing i 0 i
-    unfolding afterIn
-    passing-first = record { same = refl; small = omega arith }
+  pub none-passed : (i : ℕ) → length (kinds ws) ≤ i → i ≡ afterIn ws i
+  unfolding afterIn
+  none-passed i h = rw (drop-of-length-le (kinds ws) {i = i} h, afterIn)
 
-    module _ {depth next : ℕ} (p : Passing i depth next) where
-      module _ (h : next < length (kinds ws)) where
-        pub passing-open : getD ws (2 + next) 0 < Kind.closing 0 → Passing i (depth + 1) (next + 1)
-        unfolding upToClosing
-        passing-open k =
-            record {
-              same = p .same
-                  ∙ rw (next-kind next h, upToClosing, lt-ltb (getD ws (2 + next) 0) 100 k, add-one depth) (omega arith);
-              small = omega (arith, p .small);
-            }
+  pub passing-first : (i : ℕ) → i < length (kinds ws) → Passing i 1 (i + 1)
+  unfolding afterIn
+  passing-first i h = record { same = rw (next-kind i h, afterIn); deep = omega arith; small = omega arith }
 
-        module _ (k : Kind.closing 0 ≤ getD ws (2 + next) 0) where
-          pub passing-close : 1 < depth → Passing i (depth - 1) (next + 1)
-          unfolding upToClosing
-          passing-close d =
-              record {
-                same = p .same
-                    ∙ rw (next-kind next h, upToClosing, le-ltb (getD ws (2 + next) 0) 100 k, lt-leb depth 1 d) (omega arith);
-                small = omega (arith, p .small);
-              }
+  module _ (i : ℕ) {depth next : ℕ} (p : Passing i depth next) where
+    abbrev word : ℕ
+    word = getD ws (2 + next) 0
 
-          pub passing-last : depth ≤ 1 → next + 1 ≡ afterIn ws i
-          unfolding upToClosing
-          passing-last d = sym (p .same ∙ rw (next-kind next h, upToClosing, le-ltb (getD ws (2 + next) 0) 100 k, le-leb depth 1 d))
+    more : next < length (kinds ws)
+        → afterIn ws i
+        ≡ next + 1 + elim
+        (ltb word (Kind.closing 0)) [
+          | true ↦ tillClosed (suc depth) (drop (next + 1) (kinds ws))
+          | false ↦ tillClosed (depth - 1) (drop (next + 1) (kinds ws))
+        ]
+    unfolding tillClosed
+    more h = p .same ∙ rw (next-kind next h, tillClosed, ne-eqb depth 0 (λ e. omega (arith, p .deep))) (omega arith)
 
-      pub passing-end : length (kinds ws) ≤ next → next ≡ afterIn ws i
-      unfolding upToClosing
-      passing-end h = sym (p .same ∙ rw (drop-of-length-le (kinds ws) {i = next} h, upToClosing) (omega arith))
+    pub passing-open : next < length (kinds ws) → word < Kind.closing 0 → Passing i (depth + 1) (next + 1)
+    passing-open h k = record { same = more h ∙ rw (lt-ltb word 100 k, add-one depth); deep = omega arith; small = omega (arith, p .small) }
+
+    -- a mark that closes a node
+    module _ (h : next < length (kinds ws)) (k : Kind.closing 0 ≤ word) where
+      pub passing-close : (depth - 1 ≡ 0 → ⊥) → Passing i (depth - 1) (next + 1)
+      passing-close d = record { same = more h ∙ rw (le-ltb word 100 k); deep = omega (arith, p .deep, d); small = omega (arith, p .small) }
+
+      pub passing-last : depth - 1 ≡ 0 → next + 1 ≡ afterIn ws i
+      unfolding tillClosed
+      passing-last d = sym (more h ∙ rw (le-ltb word 100 k, d) (omega (arith, none-left (drop (next + 1) (kinds ws)))))
+
+    pub passing-end : length (kinds ws) ≤ next → next ≡ afterIn ws i
+    unfolding tillClosed
+    passing-end h = sym (p .same ∙ rw (drop-of-length-le (kinds ws) {i = next} h, tillClosed) (omega arith))
 
 -- The marks of a tree whose sizes fit.
 mark-kind : (k p : ℕ) → kindOf (markOf k p) ≡ k
@@ -134,31 +146,6 @@ module _ (ws : List ℕ) (fit : Sizes ws) where
   unfolding placeIn firstPlace
   place-word i h = sym (ap firstPlace (next-mark ws fit i h) ∙ mark-place (getD ws (2 + i) 0) (getD ws (2 + capacity ws + i) 0))
 
-  -- the text of a T node
-  pub text-word : {boundary : ℕ → Bool} (source : List ℕ) (i : ℕ) → TextAt boundary (marksIn ws) i
-      → textIn source ws i ≡ textOf source (nodeAt (marksIn ws) i)
-  unfolding textIn textNode textOf between firstPlace nodeAt
-  text-word {boundary} source i t = go (t .at .child) (t .at .there)
-    where
-      go : {marks : List Mark} → Child boundary (t .kind) marks → drop i (marksIn ws) ≡ marks ++ t .at .rest
-          → textIn source ws i ≡ textOf source (nodeAt (marksIn ws) i)
-      go (Spec.nest left x content) there = clash (t .isText) x
-      go (Spec.text a e x ba be l) there =
-          let k = t .kind in
-          let rest = t .at .rest in
-          let n = mark-next ws fit i (placed k a) (placed (Kind.closing k) e ∷ rest) there in
-          let wa : placeIn ws i ≡ a =
-          place-word i (mark-inside ws fit i (placed k a) (placed (Kind.closing k) e ∷ rest) there)
-          ∙ ap firstPlace there in
-          let we : placeIn ws (i + 1) ≡ e =
-          place-word (i + 1) (mark-inside ws fit (i + 1) (placed (Kind.closing k) e) rest n)
-          ∙ ap firstPlace n in
-          rw (wa, we)
-          (sym
-          (ap (λ r. textOf source (firstNode (nodes r))) there
-          ∙ ap (λ r. textOf source (firstNode r))
-          (nodes-text k a e rest (lt-ltb k 100 (omega (arith, t .at .known))))))
-
   -- the kinds are those of the marks
   kinds-marks : kinds ws ≡ map kindOf (marksIn ws)
   unfolding marksIn marksBy
@@ -175,40 +162,87 @@ map-drop (suc i) [] = refl
 map-drop (suc i) (m ∷ ms) = map-drop i ms
 
 -- marks that close all they open, and the one that closes the node around them
-up-levels : (d : ℕ) (ms : List Mark) (last : Mark) (rest : List Mark) → Levels d ms → Kind.closing 0 ≤ kindOf last
-    → upToClosing (suc d) (map kindOf (ms ++ (last ∷ rest))) ≡ length ms + 1
-unfolding upToClosing
-up-levels d [] last rest l c = rw (le-ltb (kindOf last) 100 c, upToClosing, l)
-up-levels d (m ∷ ms) last rest l c = go (ltb (kindOf m) 100) refl l (λ i h. up-levels i ms last rest h c)
+till-levels : (d : ℕ) (ms : List Mark) (last : Mark) (rest : List Mark) → Levels d ms → Kind.closing 0 ≤ kindOf last
+    → tillClosed (suc d) (map kindOf (ms ++ (last ∷ rest))) ≡ length ms + 1
+unfolding tillClosed
+till-levels d [] last rest l c = let one : suc d ≡ 1 = omega arith in
+    subst (λ n. tillClosed n (kindOf last ∷ map kindOf rest) ≡ 1) (sym one)
+    (rw (tillClosed, le-ltb (kindOf last) 100 c) (omega (arith, none-left (map kindOf rest))))
+till-levels d (m ∷ ms) last rest l c = go (ltb (kindOf m) 100) refl l (λ i h. till-levels i ms last rest h c)
   where
     go : (v : Bool) → ltb (kindOf m) 100 ≡ v → Opened v d ms
-        → ((i : ℕ) → Levels i ms → upToClosing (suc i) (map kindOf (ms ++ (last ∷ rest))) ≡ length ms + 1)
-        → upToClosing (suc d) (kindOf m ∷ map kindOf (ms ++ (last ∷ rest))) ≡ suc (length ms) + 1
-    go true e o f = rw (e, upToClosing) (omega (arith, f (suc d) o))
+        → ((i : ℕ) → Levels i ms → tillClosed (suc i) (map kindOf (ms ++ (last ∷ rest))) ≡ length ms + 1)
+        → tillClosed (suc d) (kindOf m ∷ map kindOf (ms ++ (last ∷ rest))) ≡ suc (length ms) + 1
+    go true e o f = rw (tillClosed, ne-eqb (suc d) 0 (λ z. omega arith), e) (omega (arith, f (suc d) o))
     go false e o f =
         let n : suc (d - 1) ≡ suc d - 1 = omega (arith, o .0) in
-        rw (e, upToClosing, lt-leb (suc d) 1 (omega (arith, o .0)))
+        rw (tillClosed, ne-eqb (suc d) 0 (λ z. omega arith), e)
         (omega
-        (arith, subst (λ i. upToClosing i (map kindOf (ms ++ (last ∷ rest))) ≡ length ms + 1) n (f (d - 1) (o .1))))
-
-up-child : {boundary : ℕ → Bool} {j : ℕ} {marks : List Mark} → Child boundary j marks → j ≤ Kind.namedArgument
-    → (rest : List Mark) → upToClosing 0 (map kindOf (marks ++ rest)) ≡ length marks
-unfolding upToClosing textNode node
-up-child {j = j} (Spec.text a e t x y l) h rest =
-    rw (lt-ltb j 100 (omega arith), upToClosing)
-    (ap suc (up-levels 0 [] (placed (Kind.closing j) e) rest refl (omega arith)))
-up-child {j = j} (Spec.nest {inner = inner} left x content) h rest =
-    rw (lt-ltb j 100 (omega arith), upToClosing, append-assoc inner (plain (Kind.closing j) ∷ []) rest)
-    (ap suc
-    (up-levels 0 inner (plain (Kind.closing j)) rest (run-levels (content .run)) (omega arith)
-    ∙ sym (length-append inner (plain (Kind.closing j) ∷ []))))
+        (arith, subst (λ i. tillClosed i (map kindOf (ms ++ (last ∷ rest))) ≡ length ms + 1) n (f (d - 1) (o .1))))
 
 -- the mark after a node
 pub after-word : (ws : List ℕ) (fit : Sizes ws) {boundary : ℕ → Bool} {i j : ℕ} → At boundary (marksIn ws) i j
     → afterIn ws i ≡ after (marksIn ws) i
-unfolding afterIn
-after-word ws fit {i = i} a =
-    ap (λ k. i + k)
-    (ap (λ ks. upToClosing 0 (drop i ks)) (kinds-marks ws fit) ∙ ap (upToClosing 0) (map-drop i (marksIn ws) ∙ ap (map kindOf) (a .there))
-    ∙ up-child (a .child) (a .known) (a .rest))
-    ∙ sym (at-after a)
+unfolding afterIn textNode node
+after-word ws fit {boundary} {i} {j} a = go (a .child) (a .there) ∙ sym (at-after a)
+  where
+    kinds-from : (ms : List Mark) → drop i (marksIn ws) ≡ ms → drop i (kinds ws) ≡ map kindOf ms
+    kinds-from ms e = ap (drop i) (kinds-marks ws fit) ∙ map-drop i (marksIn ws) ∙ ap (map kindOf) e
+
+    from : (m : Mark) (inner : List Mark) (last : Mark) → drop i (marksIn ws) ≡ m ∷ (inner ++ (last ∷ a .rest))
+        → Levels 0 inner → Kind.closing 0 ≤ kindOf last → afterIn ws i ≡ i + (length inner + 2)
+    from m inner last e l c = rw (kinds-from _ e, afterIn) (omega (arith, till-levels 0 inner last (a .rest) l c))
+
+    go : {marks : List Mark} → Child boundary j marks → drop i (marksIn ws) ≡ marks ++ a .rest → afterIn ws i ≡ i + length marks
+    go (Spec.text x e t p q l) there = from (placed j x) [] (placed (Kind.closing j) e) there refl (omega arith)
+    go (Spec.nest {inner = inner} left x content) there =
+        from (plain j) inner (plain (Kind.closing j))
+        (there ∙ ap (λ ms. plain j ∷ ms) (append-assoc inner (plain (Kind.closing j) ∷ []) (a .rest)))
+        (run-levels (content .run)) (omega arith)
+        ∙ rw (length-append inner (plain (Kind.closing j) ∷ [])) (omega arith)
+
+-- The words of a T node.
+pub record Text (source ws : List ℕ) (i : ℕ) : Type 0 where
+  pub fit : Sizes ws
+  pub inside : i + 1 < count ws
+  pub ordered : placeIn ws i ≤ placeIn ws (i + 1)
+  pub within : placeIn ws (i + 1) ≤ length source
+  pub same : textIn source ws i ≡ textOf source (nodeAt (marksIn ws) i)
+
+-- a boundary is within the source
+boundary-within : (s : List ℕ) (i : ℕ) → isBoundary s i ≡ true → i ≤ length s
+unfolding isBoundary
+boundary-within s i e =
+    byCase (eqb i 0) (λ q. omega (arith, eqb-true i 0 q))
+    (λ q. byCase (ltb i (length s)) (λ r. omega (arith, ltb-true i (length s) r))
+    (λ r. omega (arith, eqb-true i (length s) (rw (q, r, isBoundary) at e))))
+
+pub text-words : (source ws : List ℕ) {i : ℕ} → sizesFit ws ≡ true → TextAt (isBoundary source) (marksIn ws) i → Text source ws i
+unfolding textIn textNode textOf between firstPlace nodeAt
+text-words source ws {i} z t = go (t .at .child) (t .at .there)
+  where
+    fit : Sizes ws
+    fit = sizes ws z
+
+    k : ℕ
+    k = t .kind
+
+    rest : List Mark
+    rest = t .at .rest
+
+    go : {marks : List Mark} → Child (isBoundary source) k marks → drop i (marksIn ws) ≡ marks ++ rest → Text source ws i
+    go (Spec.nest left x content) there = clash (t .isText) x
+    go (Spec.text a e x ba be l) there =
+        let h = mark-inside ws fit i (placed k a) (placed (Kind.closing k) e ∷ rest) there in
+        let n = mark-next ws fit i (placed k a) (placed (Kind.closing k) e ∷ rest) there in
+        let y = mark-inside ws fit (i + 1) (placed (Kind.closing k) e) rest n in
+        let wa : placeIn ws i ≡ a = place-word ws fit i h ∙ ap firstPlace there in
+        let we : placeIn ws (i + 1) ≡ e = place-word ws fit (i + 1) y ∙ ap firstPlace n in
+        let first = nodes-text k a e rest (lt-ltb k 100 (omega (arith, t .at .known))) in
+        record {
+          fit = fit;
+          inside = y;
+          ordered = omega arith;
+          within = omega (arith, boundary-within source e be);
+          same = rw (wa, we) (sym (ap (λ r. textOf source (firstNode (nodes r))) there ∙ ap (λ r. textOf source (firstNode r)) first));
+        }

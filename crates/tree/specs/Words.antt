@@ -2,7 +2,7 @@
 use Prim.Native.Nat.{ℕ, suc, _+_, _-_}
 use mathlib.Core.Bool.{true, false}
 use mathlib.Core.List.{List, [], _∷_}
-use lib.Dec.{leb, ltb}
+use lib.Dec.{eqb, ltb}
 use lib.ListN.{getD, take, drop}
 use Rattle.syntax.specs.Kind as Kind
 use Rattle.syntax.specs.Layout.{sizes, capacity, kinds}
@@ -18,15 +18,15 @@ placeIn ws i = getD ws (sizes + capacity ws + i) 0
 unfoldable pub textIn : (source : List ℕ) → List ℕ → ℕ → List ℕ
 textIn source ws i = take (placeIn ws (i + 1) - placeIn ws i) (drop (placeIn ws i) source)
 
--- how many marks there are up to the one that closes the outermost of d open nodes, by the kinds that follow; all where none does
-unfoldable pub upToClosing : (d : ℕ) → List ℕ → ℕ
-upToClosing d [] = 0
-upToClosing d (k ∷ ks) =
-    suc (elim (ltb k (Kind.closing 0)) [
-      | true ↦ upToClosing (suc d) ks
-      | false ↦ elim (leb d 1) [ true ↦ 0 | false ↦ upToClosing (d - 1) ks ]
-    ])
+-- how many marks there are till none of d open nodes is left open, by the kinds that follow; all where some stay open
+unfoldable pub tillClosed : (d : ℕ) → List ℕ → ℕ
+tillClosed d [] = 0
+tillClosed d (k ∷ ks) =
+    elim (eqb d 0) [
+      | true ↦ 0
+      | false ↦ suc (elim (ltb k (Kind.closing 0)) [ true ↦ tillClosed (suc d) ks | false ↦ tillClosed (d - 1) ks ])
+    ]
 
--- the mark after the node that starts at a mark
+-- the mark after the node that starts at a mark; the mark itself where there is none
 unfoldable pub afterIn : List ℕ → ℕ → ℕ
-afterIn ws i = i + upToClosing 0 (drop i (kinds ws))
+afterIn ws i = elim (drop i (kinds ws)) [ [] ↦ i | k ∷ ks ↦ i + 1 + tillClosed 1 ks ]

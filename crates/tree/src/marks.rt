@@ -65,22 +65,26 @@ fn kind_count(tree: &[u32]) -> usize
     least(tree[0] as usize, tree.len() - SIZES)
 }
 
-// The mark after the node that starts at a mark, or the count where the node is not closed.
+// The mark after the node that starts at a mark: the count where the node is not closed, the mark itself where there is none.
 pub fn after_node(tree: &[u32], mark: usize) -> usize
     ensures { λ r. ⌜ r ≡ afterIn (now (tree .entry)) mark ⌝ }
 {
     let count = kind_count(tree);
-    let mut depth: usize = 0;
-    let mut next = mark;
+    if count <= mark {
+        return mark;
+    }
+    let mut depth: usize = 1;
+    let mut next = mark + 1;
     while next < count {
         let kind = tree[SIZES + next];
         next += 1;
         if kind < CLOSING {
             depth += 1;
-        } else if depth <= 1 {
-            return next;
         } else {
             depth -= 1;
+            if depth == 0 {
+                return next;
+            }
         }
     }
     next

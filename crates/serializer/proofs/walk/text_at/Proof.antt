@@ -1,18 +1,117 @@
 -- `walk::text_at` meets its contract.
-use mathlib.Core.Path.{_∙_}
-use Rattle.tree.proofs.Sizes.{sizes}
-use Rattle.tree.proofs.Words.{text-word}
+use Prim.Native.Nat.{_+_}
+use native.Mathlib.Omega.{arith}
+use Rattle.syntax.specs.Layout.{count, capacity}
+use Rattle.tree.specs.Words.{placeIn, textIn}
+use Rattle.tree.proofs.Words.{text-words}
 use Rattle.serializer.proofs.walk.text_at.Statement.{statement}
 use Rattle.serializer.proofs.walk.text_at.Tie as tie
 
-text-at-requires : tie.Need-text-at-requires
-text-at-requires c κs = tt
+shared-slice-read-places : tie.Need-shared-slice-read-places
+unfolding count capacity placeIn
+shared-slice-read-places c = let a = c .before .args in
+    omega (arith, text-words (a .source .now) (a .tree .now) (c .before .pre .0) (c .before .pre .1))
+
+cast-places : tie.Need-cast-places
+cast-places c = omega (arith, c .shared-slice-known .given 1)
+
+add-places : tie.Need-add-places
+unfolding count capacity placeIn
+add-places c = let a = c .before .args in omega (arith, text-words (a .source .now) (a .tree .now) (c .before .pre .0) (c .before .pre .1))
+
+add-start : tie.Need-add-start
+unfolding count capacity placeIn
+add-start c = let a = c .before .args in omega (arith, text-words (a .source .now) (a .tree .now) (c .before .pre .0) (c .before .pre .1))
+
+mul-start : tie.Need-mul-start
+unfolding count capacity placeIn
+mul-start c = let a = c .before .args in omega (arith, text-words (a .source .now) (a .tree .now) (c .before .pre .0) (c .before .pre .1))
+
+shared-slice-read-start : tie.Need-shared-slice-read-start
+unfolding count capacity placeIn
+shared-slice-read-start c = let a = c .before .before .args in
+    omega (arith, text-words (a .source .now) (a .tree .now) (c .before .before .pre .0) (c .before .before .pre .1))
+
+cast-start : tie.Need-cast-start
+unfolding count capacity placeIn
+cast-start c =
+    let a = c .before .before .args in omega (arith, c .shared-slice-known2 .given (2 + capacity (a .tree .now) + a .mark))
+
+add-end : tie.Need-add-end
+unfolding count capacity placeIn
+add-end c = let a = c .before .before .args in
+    omega (arith, text-words (a .source .now) (a .tree .now) (c .before .before .pre .0) (c .before .before .pre .1))
+
+add-end-2 : tie.Need-add-end-2
+unfolding count capacity placeIn
+add-end-2 c = let a = c .before .before .args in
+    omega (arith, text-words (a .source .now) (a .tree .now) (c .before .before .pre .0) (c .before .before .pre .1))
+
+mul-end : tie.Need-mul-end
+unfolding count capacity placeIn
+mul-end c = let a = c .before .before .args in
+    omega (arith, text-words (a .source .now) (a .tree .now) (c .before .before .pre .0) (c .before .before .pre .1))
+
+shared-slice-read-end : tie.Need-shared-slice-read-end
+unfolding count capacity placeIn
+shared-slice-read-end c = let a = c .before .before .before .args in
+    omega (
+      arith,
+      text-words (a .source .now) (a .tree .now) (c .before .before .before .pre .0) (c .before .before .before .pre .1),
+    )
+
+cast-end : tie.Need-cast-end
+unfolding count capacity placeIn
+cast-end c =
+    let a = c .before .before .before .args in omega (arith, c .shared-slice-known3 .given (2 + capacity (a .tree .now) + (a .mark + 1)))
+
+sub-result : tie.Need-sub-result
+unfolding count capacity placeIn
+sub-result c = let a = c .before .before .before .args in
+    omega (
+      arith,
+      text-words (a .source .now) (a .tree .now) (c .before .before .before .pre .0) (c .before .before .before .pre .1),
+    )
+
+part-result-start : tie.Need-part-result-start
+unfolding count capacity placeIn
+part-result-start c = let a = c .before .before .before .args in
+    omega (
+      arith,
+      text-words (a .source .now) (a .tree .now) (c .before .before .before .pre .0) (c .before .before .before .pre .1),
+    )
+
+part-result-end : tie.Need-part-result-end
+unfolding count capacity placeIn
+part-result-end c = let a = c .before .before .before .args in
+    omega (
+      arith,
+      text-words (a .source .now) (a .tree .now) (c .before .before .before .pre .0) (c .before .before .before .pre .1),
+    )
 
 returns : tie.Need-returns
-returns c =
-    let start = c .before .before .before in
-    let tree = start .args .tree .now in
-    c .text-at .ensures ∙ text-word tree (sizes tree (start .pre .0)) (start .args .source .now) (start .args .mark) (start .pre .1)
+unfolding capacity placeIn textIn
+returns c = let a = c .before .before .before .before .args in
+    text-words (a .source .now) (a .tree .now) (c .before .before .before .before .pre .0)
+    (c .before .before .before .before .pre .1) .same
 
 pub text-at-spec : {M : Type 1} → statement M
-text-at-spec = tie.close (tie.spec text-at-requires returns)
+text-at-spec =
+    tie.close
+    (tie.spec
+    shared-slice-read-places
+    cast-places
+    add-places
+    add-start
+    mul-start
+    shared-slice-read-start
+    cast-start
+    add-end
+    add-end-2
+    mul-end
+    shared-slice-read-end
+    cast-end
+    sub-result
+    part-result-start
+    part-result-end
+    returns)

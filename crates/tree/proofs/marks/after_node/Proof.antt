@@ -1,7 +1,8 @@
 -- `marks::after_node` meets its contract: in the loop, as many nodes are open as are counted.
 use Prim.Native.Nat.{_-_}
 use native.Mathlib.Omega.{arith}
-use Rattle.tree.proofs.Words.{kind-inside, Passing, passing-first, passing-open, passing-close, passing-last, passing-end}
+use Rattle.tree.proofs.Words.{kind-inside, Passing, none-passed, passing-first, passing-open, passing-close}
+use Rattle.tree.proofs.Words.{passing-last, passing-end}
 use Rattle.tree.proofs.marks.after_node.Statement.{statement}
 use Rattle.tree.proofs.marks.after_node.Tie as tie
 
@@ -14,28 +15,34 @@ abbrev μ-loop : tie.MeasureT-loop
 kind-count-requires : tie.Need-kind-count-requires Inv-loop μ-loop
 kind-count-requires c κs = tt
 
+returns : tie.Need-returns Inv-loop μ-loop
+returns c = none-passed (c .before .before .before .args .tree .now) (c .before .before .before .args .mark) (omega arith)
+
+add-next : tie.Need-add-next Inv-loop μ-loop
+add-next c = omega (arith, kind-inside (c .before .before .before .args .tree .now) (c .before .before .before .args .mark) (omega arith))
+
 loop-holds : tie.Need-loop-holds Inv-loop μ-loop
-loop-holds c = passing-first (c .before .before .args .tree .now) (c .before .before .args .mark)
+loop-holds c = passing-first (c .before .before .before .args .tree .now) (c .before .before .before .args .mark) (omega arith)
 
 add-kind : tie.Need-add-kind Inv-loop μ-loop
-add-kind c = omega (arith, kind-inside (c .before .before .before .before .args .tree .now) (c .before .loop .next) (omega arith))
+add-kind c = omega (arith, kind-inside (c .before .before .before .before .before .args .tree .now) (c .before .loop .next) (omega arith))
 
 mul-kind : tie.Need-mul-kind Inv-loop μ-loop
-mul-kind c = omega (arith, kind-inside (c .before .before .before .before .args .tree .now) (c .before .loop .next) (omega arith))
+mul-kind c = omega (arith, kind-inside (c .before .before .before .before .before .args .tree .now) (c .before .loop .next) (omega arith))
 
 shared-slice-read-kind : tie.Need-shared-slice-read-kind Inv-loop μ-loop
 shared-slice-read-kind c =
     omega (
       arith,
-      kind-inside (c .before .before .before .before .before .args .tree .now) (c .before .before .loop .next)
+      kind-inside (c .before .before .before .before .before .before .args .tree .now) (c .before .before .loop .next)
           (omega arith),
     )
 
-add-next : tie.Need-add-next Inv-loop μ-loop
-add-next c =
+add-next-2 : tie.Need-add-next-2 Inv-loop μ-loop
+add-next-2 c =
     omega (
       arith,
-      kind-inside (c .before .before .before .before .before .args .tree .now) (c .before .before .loop .next)
+      kind-inside (c .before .before .before .before .before .before .args .tree .now) (c .before .before .loop .next)
           (omega arith),
     )
 
@@ -44,7 +51,7 @@ add-depth c =
     omega (
       arith,
       c .before .before .before .loop .inv .small,
-      kind-inside (c .before .before .before .before .before .before .args .tree .now)
+      kind-inside (c .before .before .before .before .before .before .before .args .tree .now)
           (c .before .before .before .loop .next) (omega arith),
     )
 
@@ -53,32 +60,32 @@ loop-less c = omega arith
 
 loop-again : tie.Need-loop-again Inv-loop μ-loop
 loop-again c =
-    passing-open (c .before .before .before .before .before .before .args .tree .now)
-    (c .before .before .before .before .before .before .args .mark) (c .before .before .before .loop .inv) (omega arith)
-    (c .if1 .taken)
-
-returns : tie.Need-returns Inv-loop μ-loop
-returns c =
-    passing-last (c .before .before .before .before .before .before .before .args .tree .now)
-    (c .before .before .before .before .before .before .before .args .mark)
-    (c .before .before .before .before .loop .inv) (omega arith) (omega arith) (c .if2 .taken)
+    passing-open (c .before .before .before .before .before .before .before .args .tree .now)
+    (c .before .before .before .before .before .before .before .args .mark) (c .before .before .before .loop .inv)
+    (omega arith) (c .if2 .taken)
 
 sub-depth : tie.Need-sub-depth Inv-loop μ-loop
-sub-depth c = omega arith
+sub-depth c = c .before .before .before .loop .inv .deep
+
+returns-2 : tie.Need-returns-2 Inv-loop μ-loop
+returns-2 c =
+    passing-last (c .before .before .before .before .before .before .before .before .args .tree .now)
+    (c .before .before .before .before .before .before .before .before .args .mark)
+    (c .before .before .before .before .loop .inv) (omega arith) (omega arith) (c .if3 .taken)
 
 loop-less-2 : tie.Need-loop-less-2 Inv-loop μ-loop
 loop-less-2 c = omega arith
 
 loop-again-2 : tie.Need-loop-again-2 Inv-loop μ-loop
 loop-again-2 c =
-    passing-close (c .before .before .before .before .before .before .before .args .tree .now)
-    (c .before .before .before .before .before .before .before .args .mark)
-    (c .before .before .before .before .loop .inv) (omega arith) (omega arith) (omega arith)
+    passing-close (c .before .before .before .before .before .before .before .before .args .tree .now)
+    (c .before .before .before .before .before .before .before .before .args .mark)
+    (c .before .before .before .before .loop .inv) (omega arith) (omega arith) (c .if3 .left)
 
-returns-2 : tie.Need-returns-2 Inv-loop μ-loop
-returns-2 c =
-    passing-end (c .before .before .before .before .args .tree .now) (c .before .before .before .before .args .mark)
-    (c .before .loop .inv) (omega arith)
+returns-3 : tie.Need-returns-3 Inv-loop μ-loop
+returns-3 c =
+    passing-end (c .before .before .before .before .before .args .tree .now)
+    (c .before .before .before .before .before .args .mark) (c .before .loop .inv) (omega arith)
 
 pub after-node-spec : {M : Type 1} → statement M
 after-node-spec =
@@ -87,16 +94,18 @@ after-node-spec =
     Inv-loop
     μ-loop
     kind-count-requires
+    returns
+    add-next
     loop-holds
     add-kind
     mul-kind
     shared-slice-read-kind
-    add-next
+    add-next-2
     add-depth
     loop-less
     loop-again
-    returns
     sub-depth
+    returns-2
     loop-less-2
     loop-again-2
-    returns-2)
+    returns-3)
