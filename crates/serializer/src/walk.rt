@@ -1,5 +1,5 @@
-// What stands at a mark of a tree that the check has accepted. Crate tree has the same for any words; the tests that are made there would
-// cost a tenth of the writing.
+// What stands at a mark of a tree that the check has accepted. Crate tree has the same for any words; the tests that are made there
+// would cost a tenth of the writing.
 ghost use Prim.Native.Nat.{_<_};
 ghost use mathlib.Core.Path.{_≡_};
 ghost use mathlib.Core.Bool.{true};

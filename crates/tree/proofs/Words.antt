@@ -1,4 +1,4 @@
--- What stands at a mark in words: the laws of kindIn, placeIn, textIn and afterIn, for any words and for those of a tree whose sizes fit.
+-- What stands at a mark in words: the laws of kindIn, placeIn, textIn and afterIn, for any words and for a tree whose sizes fit.
 use Prim.Native.Nat.{ℕ, zero, suc, _+_, _-_, _≤_, _<_, min}
 use native.Mathlib.Numerals.{add-one}
 use native.Mathlib.Omega.{arith}
@@ -19,7 +19,7 @@ use Rattle.laws.specs.Bytes.{byCase, clash}
 use Rattle.laws.specs.Balanced.{Levels, Opened, run-levels}
 use Rattle.laws.specs.Balanced.Nodes.{nodes-text}
 use Rattle.tree.specs.Words.{kindIn, placeIn, textIn, tillClosed, afterIn}
-use Rattle.tree.specs.Walk.{firstKind, kindAt, firstNode, nodeAt, after, Child, At, TextAt}
+use Rattle.tree.specs.Walk.{firstKind, kindAt, firstPlace, placeAt, firstNode, nodeAt, after, Child, At, TextAt}
 use Rattle.tree.specs.Walk as Spec
 use Rattle.tree.proofs.Sizes.{Sizes, sizes, next-mark, mark-inside, mark-next, kinds-length, places-length}
 use Rattle.tree.proofs.Walk.{at-after}
@@ -40,8 +40,9 @@ between-held s a e start end h l =
 
     some : a < end → take (end - a) (drop a s) ≡ take (e - a) (drop a s)
     some z =
-        byCase (leb e (length s)) (λ q. let n : end ≡ e = omega (arith, leb-true e (length s) q) in rw n)
-        (λ q. all (omega (arith, leb-false e (length s) q)) ∙ sym (all (omega (arith, leb-false e (length s) q))))
+        byCase (leb e (length s))
+        (λ q. let n : end ≡ e = omega (arith, leb-true e (length s) q) in rw n)
+        (λ q. let l = leb-false e (length s) q in all (omega arith) ∙ sym (all (omega arith)))
       where
         all : {n : ℕ} → length s ≤ n → take (n - a) (drop a s) ≡ drop a s
         all {n} m = take-all (n - a) (drop a s) (simp length-drop (omega arith))
@@ -69,9 +70,9 @@ module _ (ws : List ℕ) where
   next-kind : (i : ℕ) → i < length (kinds ws) → drop i (kinds ws) ≡ getD ws (2 + i) 0 ∷ drop (i + 1) (kinds ws)
   unfolding kinds
   next-kind i h =
+      let l : i < count ws = omega (arith, length-take (count ws) (drop 2 ws)) in
       rw (add-one, drop-cons (kinds ws) i 0)
-      (ap (λ k. k ∷ drop (suc i) (kinds ws))
-      (rw (getD-take (count ws) (drop 2 ws) i 0 (omega (arith, length-take (count ws) (drop 2 ws))), getD-drop)))
+      (ap (λ k. k ∷ drop (suc i) (kinds ws)) (rw (getD-take (count ws) (drop 2 ws) i 0 l, getD-drop)))
 
   -- with depth nodes open at the mark next
   pub record Passing (i depth next : ℕ) : Type 0 where
@@ -91,27 +92,28 @@ module _ (ws : List ℕ) where
     abbrev word : ℕ
     word = getD ws (2 + next) 0
 
+    abbrev rest : List ℕ
+    rest = drop (next + 1) (kinds ws)
+
     more : next < length (kinds ws)
         → afterIn ws i
-        ≡ next + 1 + elim
-        (ltb word (Kind.closing 0)) [
-          | true ↦ tillClosed (suc depth) (drop (next + 1) (kinds ws))
-          | false ↦ tillClosed (depth - 1) (drop (next + 1) (kinds ws))
-        ]
+        ≡ next + 1 + elim (ltb word (Kind.closing 0)) [ true ↦ tillClosed (suc depth) rest | false ↦ tillClosed (depth - 1) rest ]
     unfolding tillClosed
     more h = p .same ∙ rw (next-kind next h, tillClosed, ne-eqb depth 0 (λ e. omega (arith, p .deep))) (omega arith)
 
     pub passing-open : next < length (kinds ws) → word < Kind.closing 0 → Passing i (depth + 1) (next + 1)
-    passing-open h k = record { same = more h ∙ rw (lt-ltb word 100 k, add-one depth); deep = omega arith; small = omega (arith, p .small) }
+    passing-open h k =
+        record { same = more h ∙ rw (lt-ltb word 100 k, add-one depth); deep = omega arith; small = omega (arith, p .small) }
 
     -- a mark that closes a node
     module _ (h : next < length (kinds ws)) (k : Kind.closing 0 ≤ word) where
       pub passing-close : (depth - 1 ≡ 0 → ⊥) → Passing i (depth - 1) (next + 1)
-      passing-close d = record { same = more h ∙ rw (le-ltb word 100 k); deep = omega (arith, p .deep, d); small = omega (arith, p .small) }
+      passing-close d =
+          record { same = more h ∙ rw (le-ltb word 100 k); deep = omega (arith, p .deep, d); small = omega (arith, p .small) }
 
       pub passing-last : depth - 1 ≡ 0 → next + 1 ≡ afterIn ws i
       unfolding tillClosed
-      passing-last d = sym (more h ∙ rw (le-ltb word 100 k, d) (omega (arith, none-left (drop (next + 1) (kinds ws)))))
+      passing-last d = sym (more h ∙ rw (le-ltb word 100 k, d) (omega (arith, none-left rest)))
 
     pub passing-end : length (kinds ws) ≤ next → next ≡ afterIn ws i
     unfolding tillClosed
@@ -133,17 +135,13 @@ mark-place k p =
     none false true e = refl
     none false false e = clash refl e
 
-firstPlace : List Mark → ℕ
-firstPlace [] = 0
-firstPlace (m ∷ ms) = placeOf m
-
 module _ (ws : List ℕ) (fit : Sizes ws) where
   pub kind-word : (i : ℕ) → i < count ws → kindIn ws i ≡ kindAt (marksIn ws) i
   unfolding kindIn
   kind-word i h = sym (ap firstKind (next-mark ws fit i h) ∙ mark-kind (getD ws (2 + i) 0) (getD ws (2 + capacity ws + i) 0))
 
-  place-word : (i : ℕ) → i < count ws → placeIn ws i ≡ firstPlace (drop i (marksIn ws))
-  unfolding placeIn firstPlace
+  pub place-word : (i : ℕ) → i < count ws → placeIn ws i ≡ placeAt (marksIn ws) i
+  unfolding placeIn
   place-word i h = sym (ap firstPlace (next-mark ws fit i h) ∙ mark-place (getD ws (2 + i) 0) (getD ws (2 + capacity ws + i) 0))
 
   -- the kinds are those of the marks
@@ -165,20 +163,22 @@ map-drop (suc i) (m ∷ ms) = map-drop i ms
 till-levels : (d : ℕ) (ms : List Mark) (last : Mark) (rest : List Mark) → Levels d ms → Kind.closing 0 ≤ kindOf last
     → tillClosed (suc d) (map kindOf (ms ++ (last ∷ rest))) ≡ length ms + 1
 unfolding tillClosed
-till-levels d [] last rest l c = let one : suc d ≡ 1 = omega arith in
+till-levels d [] last rest l c =
+    let one : suc d ≡ 1 = omega arith in
     subst (λ n. tillClosed n (kindOf last ∷ map kindOf rest) ≡ 1) (sym one)
     (rw (tillClosed, le-ltb (kindOf last) 100 c) (omega (arith, none-left (map kindOf rest))))
 till-levels d (m ∷ ms) last rest l c = go (ltb (kindOf m) 100) refl l (λ i h. till-levels i ms last rest h c)
   where
-    go : (v : Bool) → ltb (kindOf m) 100 ≡ v → Opened v d ms
-        → ((i : ℕ) → Levels i ms → tillClosed (suc i) (map kindOf (ms ++ (last ∷ rest))) ≡ length ms + 1)
-        → tillClosed (suc d) (kindOf m ∷ map kindOf (ms ++ (last ∷ rest))) ≡ suc (length ms) + 1
+    ks : List ℕ
+    ks = map kindOf (ms ++ (last ∷ rest))
+
+    go : (v : Bool) → ltb (kindOf m) 100 ≡ v → Opened v d ms → ((i : ℕ) → Levels i ms → tillClosed (suc i) ks ≡ length ms + 1)
+        → tillClosed (suc d) (kindOf m ∷ ks) ≡ suc (length ms) + 1
     go true e o f = rw (tillClosed, ne-eqb (suc d) 0 (λ z. omega arith), e) (omega (arith, f (suc d) o))
     go false e o f =
         let n : suc (d - 1) ≡ suc d - 1 = omega (arith, o .0) in
         rw (tillClosed, ne-eqb (suc d) 0 (λ z. omega arith), e)
-        (omega
-        (arith, subst (λ i. tillClosed i (map kindOf (ms ++ (last ∷ rest))) ≡ length ms + 1) n (f (d - 1) (o .1))))
+        (omega (arith, subst (λ i. tillClosed i ks ≡ length ms + 1) n (f (d - 1) (o .1))))
 
 -- the mark after a node
 pub after-word : (ws : List ℕ) (fit : Sizes ws) {boundary : ℕ → Bool} {i j : ℕ} → At boundary (marksIn ws) i j
@@ -189,17 +189,17 @@ after-word ws fit {boundary} {i} {j} a = go (a .child) (a .there) ∙ sym (at-af
     kinds-from : (ms : List Mark) → drop i (marksIn ws) ≡ ms → drop i (kinds ws) ≡ map kindOf ms
     kinds-from ms e = ap (drop i) (kinds-marks ws fit) ∙ map-drop i (marksIn ws) ∙ ap (map kindOf) e
 
-    from : (m : Mark) (inner : List Mark) (last : Mark) → drop i (marksIn ws) ≡ m ∷ (inner ++ (last ∷ a .rest))
-        → Levels 0 inner → Kind.closing 0 ≤ kindOf last → afterIn ws i ≡ i + (length inner + 2)
+    from : (m : Mark) (inner : List Mark) (last : Mark) → drop i (marksIn ws) ≡ m ∷ (inner ++ (last ∷ a .rest)) → Levels 0 inner
+        → Kind.closing 0 ≤ kindOf last → afterIn ws i ≡ i + (length inner + 2)
     from m inner last e l c = rw (kinds-from _ e, afterIn) (omega (arith, till-levels 0 inner last (a .rest) l c))
 
     go : {marks : List Mark} → Child boundary j marks → drop i (marksIn ws) ≡ marks ++ a .rest → afterIn ws i ≡ i + length marks
     go (Spec.text x e t p q l) there = from (placed j x) [] (placed (Kind.closing j) e) there refl (omega arith)
     go (Spec.nest {inner = inner} left x content) there =
-        from (plain j) inner (plain (Kind.closing j))
-        (there ∙ ap (λ ms. plain j ∷ ms) (append-assoc inner (plain (Kind.closing j) ∷ []) (a .rest)))
+        let last = plain (Kind.closing j) in
+        from (plain j) inner last (there ∙ ap (λ ms. plain j ∷ ms) (append-assoc inner (last ∷ []) (a .rest)))
         (run-levels (content .run)) (omega arith)
-        ∙ rw (length-append inner (plain (Kind.closing j) ∷ [])) (omega arith)
+        ∙ rw (length-append inner (last ∷ [])) (omega arith)
 
 -- The words of a T node.
 pub record Text (source ws : List ℕ) (i : ℕ) : Type 0 where
@@ -218,7 +218,7 @@ boundary-within s i e =
     (λ r. omega (arith, eqb-true i (length s) (rw (q, r, isBoundary) at e))))
 
 pub text-words : (source ws : List ℕ) {i : ℕ} → sizesFit ws ≡ true → TextAt (isBoundary source) (marksIn ws) i → Text source ws i
-unfolding textIn textNode textOf between firstPlace nodeAt
+unfolding textIn textNode textOf between nodeAt
 text-words source ws {i} z t = go (t .at .child) (t .at .there)
   where
     fit : Sizes ws
@@ -244,5 +244,7 @@ text-words source ws {i} z t = go (t .at .child) (t .at .there)
           inside = y;
           ordered = omega arith;
           within = omega (arith, boundary-within source e be);
-          same = rw (wa, we) (sym (ap (λ r. textOf source (firstNode (nodes r))) there ∙ ap (λ r. textOf source (firstNode r)) first));
+          same =
+              rw (wa, we)
+              (sym (ap (λ r. textOf source (firstNode (nodes r))) there ∙ ap (λ r. textOf source (firstNode r)) first));
         }

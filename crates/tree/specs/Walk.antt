@@ -6,7 +6,7 @@ use mathlib.Core.List.{List, [], _∷_, _++_}
 use lib.Dec.{eqb, ltb}
 use lib.ListN.{length, drop}
 use Rattle.syntax.specs.Kind as Kind
-use Rattle.syntax.specs.Marks.{Mark, plain, kindOf, node, textNode}
+use Rattle.syntax.specs.Marks.{Mark, plain, kindOf, placeOf, node, textNode}
 use Rattle.syntax.specs.Shape.{start, among, inline, Content}
 use Rattle.syntax.specs.Serializer.{Node, outside, nodes}
 
@@ -17,6 +17,14 @@ firstKind (m ∷ ms) = kindOf m
 -- the kind of a mark
 abbrev pub kindAt : List Mark → ℕ → ℕ
 kindAt ms i = firstKind (drop i ms)
+
+abbrev pub firstPlace : List Mark → ℕ
+firstPlace [] = 0
+firstPlace (m ∷ ms) = placeOf m
+
+-- the place of a mark
+abbrev pub placeAt : List Mark → ℕ → ℕ
+placeAt ms i = firstPlace (drop i ms)
 
 abbrev pub firstNode : List Node → Node
 firstNode [] = outside

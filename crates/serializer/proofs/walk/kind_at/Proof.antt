@@ -17,7 +17,10 @@ shared-slice-read-result c = omega (arith, sizes (c .before .args .tree .now) (c
 
 returns : tie.Need-returns
 unfolding kindIn
-returns c = let a = c .before .args in kind-word (a .tree .now) (sizes (a .tree .now) (c .before .pre .0)) (a .mark) (c .before .pre .1)
+returns c =
+    let a = c .before .args in
+    let p = c .before .pre in
+    kind-word (a .tree .now) (sizes (a .tree .now) (p .0)) (a .mark) (p .1)
 
 pub kind-at-spec : {M : Type 1} → statement M
 kind-at-spec = tie.close (tie.spec add-result mul-result shared-slice-read-result returns)

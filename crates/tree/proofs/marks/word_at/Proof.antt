@@ -13,7 +13,9 @@ sub-if2 : tie.Need-sub-if2
 sub-if2 c = search needs
 
 returns-2 : tie.Need-returns-2
-returns-2 c = no-word (c .before .before .args .tree .now) (c .before .before .args .from + c .before .before .args .mark) (omega arith)
+returns-2 c =
+    let a = c .before .before .args in
+    no-word (a .tree .now) (a .from + a .mark) (omega arith)
 
 add-result : tie.Need-add-result
 add-result c = search needs
