@@ -28,6 +28,8 @@ pub mod Stable
 pub mod Entries
 -- the words of a tree and of a list of errors, read back
 pub mod Layout
+-- an answer with its number and values
+pub mod Answered
 -- what an answer's number tells of lent memory
 pub mod Effect
 -- the tests 1, 2 and 6

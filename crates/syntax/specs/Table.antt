@@ -3,8 +3,7 @@ use Prim.Native.Nat.{ℕ}
 use Prim.Native.String.{String}
 use mathlib.Core.Path.{_≡_, refl}
 use mathlib.Core.Bool.{false}
-use mathlib.Core.List.{List, [], _∷_, _++_, map}
-use lib.ListN.{length}
+use mathlib.Core.List.{List, [], _∷_, map}
 use Rattle.syntax.specs.Bytes as Bytes
 use Rattle.syntax.specs.Bytes.{ascii}
 use Rattle.syntax.specs.Limits.{maxOpen}
