@@ -84,8 +84,12 @@ fn store_text(output: &mut [u8], at: usize, text: &[u8])
     if output.len() <= at {
         return;
     }
-    if text.len() < BLOCK || output.len() - at < text.len() {
+    if output.len() - at < text.len() {
         store_part(output, at, text);
+        return;
+    }
+    if text.len() < BLOCK {
+        store(output, at, text);
         return;
     }
     store_blocks(output, at, text);
