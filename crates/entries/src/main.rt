@@ -1,4 +1,4 @@
-// Prints where each entry of a source on standard input, of at most 4,000 bytes, starts and where its reading stopped.
+// Prints where each entry of a source on standard input starts and where its reading stopped.
 ghost use Prim.Native.Nat.{_≤_};
 ghost use lib.ListN.{length};
 ghost use Rattle.entries.specs.Listed.{maxSource, Lent, Listed};
@@ -14,7 +14,7 @@ use syntax::next::Next;
 // The most bytes of a source.
 const MAX_SOURCE: usize = 4_000;
 
-// The words of an entry in the list. An entry takes a byte or more.
+// The words of an entry in the list, its start and its stop.
 const ENTRY_WORDS: usize = 2;
 
 // Puts the start and the stop of each entry into the list. Answers how many entries there are.
@@ -44,7 +44,7 @@ fn print_entry(start: u32, stop: u32) {
     io::write_all(STDOUT_FILENO, b"\n");
 }
 
-// Prints the entries of a source.
+// Prints the entries of a source. Each takes a byte, so the list has room for all.
 fn print(source: &[u8])
     requires { ⌜ length (now source) ≤ maxSource ⌝ }
 {

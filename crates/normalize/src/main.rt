@@ -1,5 +1,4 @@
-// Writes the normal text of a source on standard input, of at most 10,000 bytes. Junk is written as it stands, so that nothing is
-// lost.
+// Writes the normal text of a source on standard input. Junk is written as it stands, so that nothing is lost.
 ghost use Rattle.normalize.specs.Normal.{Normalized};
 use libc::STDERR_FILENO;
 use libc::STDIN_FILENO;
@@ -16,7 +15,7 @@ use syntax::layout::TREE_WORDS_A_BYTE;
 // The most bytes of a source.
 const MAX_SOURCE: usize = 10_000;
 
-// Room for a text of ten times that length; a longer one is refused by its number.
+// The most bytes of a text.
 const OUTPUT_ROOM: usize = 100_000;
 
 fn normalize(source: &[u8], tree: &mut [u32], errors: &mut [u32], output: &mut [u8]) -> Answer

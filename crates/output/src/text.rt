@@ -88,8 +88,12 @@ fn store_text(output: &mut [u8], at: usize, text: &[u8])
     if output.len() <= at {
         return;
     }
-    if text.len() < BLOCK || output.len() - at < text.len() {
+    if output.len() - at < text.len() {
         store_part(output, at, text);
+        return;
+    }
+    if text.len() < BLOCK {
+        store(output, at, text);
         return;
     }
     store_blocks(output, at, text);
@@ -114,10 +118,12 @@ fn store_indent_part(output: &mut [u8], at: usize, levels: usize)
     if output.len() <= at {
         return;
     }
-    let whole = (output.len() - at) / INDENT_WIDTH;
+    let room = output.len() - at;
+    let whole = room / INDENT_WIDTH;
     if whole < levels {
         store_indent(output, at, whole);
-        store_part(output, at + INDENT_WIDTH * whole, b"    ");
+        let spaces = b"    ";
+        store(output, at + INDENT_WIDTH * whole, &spaces[..room % INDENT_WIDTH]);
         return;
     }
     store_indent(output, at, levels);
