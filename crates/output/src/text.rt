@@ -122,7 +122,7 @@ fn store_indent_part(output: &mut [u8], at: usize, levels: usize)
     let whole = room / INDENT_WIDTH;
     if whole < levels {
         store_indent(output, at, whole);
-        let spaces = b"    ";
+        let spaces: &[u8] = b"    ";
         store(output, at + INDENT_WIDTH * whole, &spaces[..room % INDENT_WIDTH]);
         return;
     }
