@@ -1,10 +1,9 @@
 -- A placeable's second test for a term's attribute never fires: the expression's reader has refused it.
 use Prim.Native.Nat.{ℕ}
 use native.Mathlib.Nat.{add-zero}
-use mathlib.Core.Path.{_≡_, refl, ap, _∙_}
+use mathlib.Core.Path.{_≡_, refl, ap}
 use mathlib.Core.Bool.{Bool, true, false, _&&_}
 use mathlib.Core.List.{List, append-nil}
-use lib.ListN.{drop}
 use lib.Dec.{eqb}
 use Rattle.syntax.specs.Byte as Byte
 use Rattle.syntax.specs.Bytes.{startsWith, second}

@@ -352,6 +352,7 @@ unfoldable pub noTermAttribute : Bool → Reader (Unit {0})
 noTermAttribute true = fail Errors.TermAttributeAsPlaceable
 noTermAttribute false = pure tt
 
+-- without "->"
 unfoldable pub alone : Inline → Reader Expression
 alone i = do
   noTermAttribute (isTermAttribute (inline i))
