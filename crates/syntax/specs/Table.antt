@@ -1,4 +1,4 @@
--- The rows P1 to P10 of document 01, each whole, and the theorem that they hold.
+-- The rows P1 to P10 of document 01, each whole, with two more, and the theorem that they hold.
 use Prim.Native.Nat.{ℕ}
 use Prim.Native.String.{String}
 use mathlib.Core.Path.{_≡_, refl}
