@@ -8,6 +8,8 @@ pub mod Moving
 pub mod Answers
 -- which values inline expressions have
 pub mod Values
+-- a placeable's second test for a term's attribute never fires
+pub mod Attribute
 -- `repeat` is a turn, and then `repeat`
 pub mod Loop
 -- the nodes that marks make
