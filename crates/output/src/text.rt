@@ -123,7 +123,11 @@ fn store_indent_part(output: &mut [u8], at: usize, levels: usize)
     if whole < levels {
         store_indent(output, at, whole);
         let spaces: &[u8] = b"    ";
-        store(output, at + INDENT_WIDTH * whole, &spaces[..room % INDENT_WIDTH]);
+        store(
+            output,
+            at + INDENT_WIDTH * whole,
+            &spaces[..room % INDENT_WIDTH],
+        );
         return;
     }
     store_indent(output, at, levels);
