@@ -1,6 +1,6 @@
 -- expression.rs, with get_variants and get_placeable of core.rs
 use Prim.Native.Nat.{ℕ, zero, suc, _+_, _-_}
-use mathlib.Core.Bool.{Bool, true, false, _&&_, _||_, not}
+use mathlib.Core.Bool.{Bool, true, false, _&&_, _||_}
 use mathlib.Core.List.{List, [], _∷_}
 use lib.ListN.{drop, take}
 use lib.Dec.{eqb}

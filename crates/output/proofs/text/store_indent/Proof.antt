@@ -2,7 +2,7 @@
 use Prim.Native.Nat.{_+_, _*_, _≤_, _-_}
 use native.Mathlib.Omega.{arith}
 use mathlib.Core.Path.{_≡_, refl, ap, _∙_}
-use lib.ListN.{length, replicate, length-replicate}
+use lib.ListN.{length, replicate}
 use lib.Seq.{sets, length-sets}
 use Rattle.syntax.specs.Byte as Byte
 use Rattle.syntax.specs.Serializer.{indentWidth}
