@@ -151,9 +151,14 @@ fn is_multiline_element(source: &[u8], tree: &[u32], mark: usize) -> bool
 {
     if kind_at(tree, mark) == TEXT {
         let text = text_at(source, tree, mark);
-        has_newline(text)
-    } else {
-        is_select_expr(tree, mark + 1)
+        return has_newline(text);
+    }
+    // The first step of is_select_expr, so that most placeables are passed without a call.
+    let inner = mark + 1;
+    match kind_at(tree, inner) {
+        SELECT => true,
+        PLACEABLE => is_select_expr(tree, inner + 1),
+        _ => false,
     }
 }
 
