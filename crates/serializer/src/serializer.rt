@@ -162,6 +162,18 @@ fn is_multiline_element(source: &[u8], tree: &[u32], mark: usize) -> bool
     }
 }
 
+// The mark after the element at a mark. A text is two marks, and most elements are texts.
+fn after_element(tree: &[u32], mark: usize) -> usize
+    requires { ⌜ sizesFit (now tree) ≡ true ⌝ }
+    requires { ⌜ NodeAt (marksIn (now tree)) mark ⌝ }
+    ensures { λ r. ⌜ r ≡ after (marksIn (now (tree .entry))) mark ⌝ }
+{
+    if kind_at(tree, mark) == TEXT {
+        return mark + 2;
+    }
+    after_node(tree, mark)
+}
+
 // Whether the pattern at a mark has such an element.
 fn is_multiline(source: &[u8], tree: &[u32], mark: usize) -> bool
     requires { ⌜ sizesFit (now tree) ≡ true ⌝ }
@@ -175,7 +187,7 @@ fn is_multiline(source: &[u8], tree: &[u32], mark: usize) -> bool
         if is_multiline_element(source, tree, next) {
             return true;
         }
-        next = after_node(tree, next);
+        next = after_element(tree, next);
     }
     false
 }

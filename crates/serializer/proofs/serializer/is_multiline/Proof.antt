@@ -61,8 +61,8 @@ returns c =
     (omega (arith, c .before .before .before .kind-at .ensures, c .before .before .if1 .taken))
     (sym (c .before .is-multiline-element .ensures) ∙ c .if2 .taken))
 
-after-node-requires : tie.Need-after-node-requires Inv-loop μ-loop
-after-node-requires c κs =
+after-element-requires : tie.Need-after-element-requires Inv-loop μ-loop
+after-element-requires c κs =
     let e =
     element-next (c .before .before .before .before .loop .inv .0)
     (omega (arith, c .before .before .before .kind-at .ensures, c .before .before .if1 .taken)) .follows .child in (
@@ -78,7 +78,7 @@ loop-less c =
     omega (
       arith,
       inside-count tree fit (c .before .before .before .before .before .loop .inv .0 .here),
-      c .after-node .ensures,
+      c .after-element .ensures,
     )
 
 loop-again : tie.Need-loop-again Inv-loop μ-loop
@@ -88,7 +88,7 @@ loop-again c =
     let l : kindAt (marksIn tree) (c .before .before .before .before .before .loop .next) < Kind.closing 0 =
     omega (arith, c .before .before .before .before .kind-at .ensures, c .before .before .before .if1 .taken) in
     let g = element-next (c .before .before .before .before .before .loop .inv .0) l in
-    rw (c .after-node .ensures) (
+    rw (c .after-element .ensures) (
       record { state = g .state; least = g .least; here = g .follows .on },
       c .before .before .before .before .before .loop .inv .1
           ∙ multiline-later (c .before .before .before .before .before .loop .inv .0) source l
@@ -113,7 +113,7 @@ is-multiline-spec =
     kind-at-requires
     is-multiline-element-requires
     returns
-    after-node-requires
+    after-element-requires
     loop-less
     loop-again
     returns-2)
