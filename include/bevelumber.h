@@ -180,7 +180,8 @@ uint64_t bevelumber_first_place(const uint8_t *source, size_t source_length);
 /* The next entry.
  *
  *   source, source_length   the bytes to read; only read
- *   at                      the offset to look from: the first place, then the stop of the entry before
+ *   at                      the offset to look from: the first place, then the stop of the entry before. UTF-8 is tested by
+ *                           bevelumber_first_place alone: asked from another offset, this tells entries of any bytes
  *   tree, tree_length       lent; BEVELUMBER_TREE_WORDS(L) words are needed, more may be there
  *   start, stop             always written
  *

@@ -49,7 +49,7 @@ module _ (s : List ℕ) (r : Reading DidRead s) (h : calls .Accepted s r) where
       let t = r .did .tree in
       w .wrote
       ∙ left s (r .lentTree) (r .lentErrors) h junk (w .lent) (w .output) (w .size)
-      (w .did .answers ∙ ap (λ z. writeAnswer s z (length (w .lent)) junk) t)
+      (w .did .answers .same ∙ ap (λ z. writeAnswer s z (length (w .lent)) junk) t)
       (w .did .output ∙ ap (λ z. outputAfter s z (w .lent) junk) t)
 
 calls-show : Faithful maxOpen calls
@@ -75,11 +75,11 @@ pub writable : Writable
 unfolding textAnswer
 writable s r h junk = record {
   size = length (text s (r .lentTree) (r .lentErrors) h junk);
-  did = λ o o′ answer d l. d .answers ∙ ap (λ z. writeAnswer s z (length o) junk) (r .did .tree)
+  did = λ o o′ answer d l. d .answers .same ∙ ap (λ z. writeAnswer s z (length o) junk) (r .did .tree)
       ∙ answer-is s (r .lentTree) (r .lentErrors) h junk (length o) ∙ (rw (le-ltb (length o) _ l, textAnswer));
 }
 
 -- what an accepted call of `write` wrote is UTF-8
 pub output-is-utf8 : (s tree o o′ : List ℕ) (junk : Bool) (size : ℕ) → DidWrite s tree o o′ junk (Accepted size)
     → Utf8.WellFormed (take size o′)
-output-is-utf8 s tree o o′ junk size d = rw (d .output) (output-utf8 s tree o junk (sym (d .answers)))
+output-is-utf8 s tree o o′ junk size d = rw (d .output) (output-utf8 s tree o junk (sym (d .answers .same)))

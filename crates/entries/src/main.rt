@@ -1,14 +1,21 @@
-// Prints where each entry of a source on standard input, of at most 4,000 bytes, starts and where its reading stopped.
+// Prints where each entry of a source on standard input starts and where its reading stopped.
 ghost use Prim.Native.Nat.{_≤_};
 ghost use lib.ListN.{length};
 ghost use Rattle.entries.specs.Listed.{maxSource, Lent, Listed};
-use input::Input;
-use input::read_input;
 use libc::STDERR_FILENO;
+use libc::STDIN_FILENO;
 use libc::STDOUT_FILENO;
 use parser::next::first_place;
 use reader::entry_after;
+use syntax::layout::SIZES;
+use syntax::layout::TREE_WORDS_A_BYTE;
 use syntax::next::Next;
+
+// The most bytes of a source.
+const MAX_SOURCE: usize = 4_000;
+
+// The words of an entry in the list, its start and its stop.
+const ENTRY_WORDS: usize = 2;
 
 // Puts the start and the stop of each entry into the list. Answers how many entries there are.
 fn list_entries(source: &[u8], tree: &mut [u32], list: &mut [u32]) -> usize
@@ -21,7 +28,7 @@ fn list_entries(source: &[u8], tree: &mut [u32], list: &mut [u32]) -> usize
         let Next::Entry(start, stop) = entry_after(source, at, tree) else {
             return n;
         };
-        let i = 2 * n;
+        let i = ENTRY_WORDS * n;
         list[i] = start as u32;
         let i = i + 1;
         list[i] = stop as u32;
@@ -37,29 +44,32 @@ fn print_entry(start: u32, stop: u32) {
     io::write_all(STDOUT_FILENO, b"\n");
 }
 
-// Prints the entries of a source. The tree has 2 + 16 words a byte, and the list two words for each entry, which takes a byte.
+// Prints the entries of a source. Each takes a byte, so the list has room for all.
 fn print(source: &[u8])
     requires { ⌜ length (now source) ≤ maxSource ⌝ }
 {
-    let mut tree = [0u32; 64_002];
-    let mut list = [0u32; 8_000];
+    let mut tree = [0u32; SIZES + TREE_WORDS_A_BYTE * MAX_SOURCE];
+    let mut list = [0u32; ENTRY_WORDS * MAX_SOURCE];
     let n = list_entries(source, &mut tree, &mut list);
     let mut i = 0;
     while i < n {
-        print_entry(list[2 * i], list[2 * i + 1]);
+        print_entry(list[ENTRY_WORDS * i], list[ENTRY_WORDS * i + 1]);
         i += 1;
     }
 }
 
 fn main() {
     // One byte more than a source may have, so that a longer one is not cut.
-    let mut buffer = [0u8; 4_001];
-    let Input::Bytes(length) = read_input(&mut buffer) else {
-        io::write_all(STDERR_FILENO, b"entries: standard input cannot be read\n");
-        return;
-    };
-    if 4_000 < length {
+    let mut buffer = [0u8; MAX_SOURCE + 1];
+    let length = io::read_full(STDIN_FILENO, &mut buffer);
+    if MAX_SOURCE < length {
         io::write_all(STDERR_FILENO, b"entries: more than 4,000 bytes\n");
+        return;
+    }
+    // A read failed if another one does not find the end.
+    let mut more = [0u8; 1];
+    if libc::read(STDIN_FILENO, &mut more) != 0 {
+        io::write_all(STDERR_FILENO, b"entries: standard input cannot be read\n");
         return;
     }
     print(&buffer[..length]);

@@ -14,12 +14,13 @@ use Rattle.syntax.specs.Reader.{Out, ok, Reader, after, next, _>>_, pure, fail}
 use Rattle.syntax.specs.Helper.{skipBlank}
 use Rattle.syntax.specs.Pattern.{Inside}
 use Rattle.syntax.specs.Expression.{Inline, string, number, variable, function, inner, message, term, alone}
+use Rattle.syntax.specs.Expression.{Expression as Content, inline, select, isTermAttribute, noTermAttribute}
 use Rattle.syntax.specs.Expression.{afterInline, selectFrom, getVariants}
 use Rattle.laws.specs.Bytes.{byCase}
 use Rattle.laws.specs.Moving.{after-after, moveUp-nil}
 use Rattle.entry.specs.Place.{Went}
 use Rattle.entry.specs.Did.{reading, answer}
-use Rattle.entry.specs.Shape.{shapeAt, isAttributeOfTerm, isArrow, aloneAt, Followed, followedBy}
+use Rattle.entry.specs.Shape.{shapeAt, contentAt, isAttributeOfTerm, isArrow, aloneAt, Followed, followedBy}
 use Rattle.entry.specs.declared.expression.Expression.{Expression}
 use Rattle.entry.specs.declared.expression.Expression.the-variants.{StringLiteral, NumberLiteral}
 use Rattle.entry.specs.declared.expression.Expression.the-variants.{VariableReference, FunctionReference}
@@ -31,24 +32,32 @@ use Rattle.entry.specs.declared.marks.Read.the-variants.{Bad}
 use Rattle.entry.proofs.Dids.{fault-here, fault-up, answer-after}
 
 -- by whether it is a term's attribute
-abbrev aloneBy : Bool → Reader Bool
-aloneBy true = fail TermAttributeAsPlaceable
-aloneBy false = pure false
+abbrev aloneBy : Bool → Inline → Reader Content
+aloneBy true i = fail TermAttributeAsPlaceable
+aloneBy false i = pure (inline i)
 
 abbrev aloneAs : Bool → ℕ → AfterInline
 aloneAs true at = follows.Bad (faultAt TermAttributeAsPlaceable at) at
 aloneAs false at = follows.Alone at
 
-alone-by : (b : ℕ) (i : Inline) → alone i ≡ aloneBy (isAttributeOfTerm (shapeAt b i))
-unfolding alone
-alone-by b string = refl
-alone-by b number = refl
-alone-by b variable = refl
-alone-by b function = refl
-alone-by b inner = refl
-alone-by b (message n a) = refl
-alone-by b (term true) = refl
-alone-by b (term false) = refl
+pub attribute-same : (b : ℕ) (c : Content) → isAttributeOfTerm (contentAt b c) ≡ isTermAttribute c
+unfolding isTermAttribute
+attribute-same b (inline string) = refl
+attribute-same b (inline number) = refl
+attribute-same b (inline variable) = refl
+attribute-same b (inline function) = refl
+attribute-same b (inline inner) = refl
+attribute-same b (inline (message n a)) = refl
+attribute-same b (inline (term a)) = refl
+attribute-same b select = refl
+
+alone-by : (b : ℕ) (i : Inline) (y : List ℕ) → alone i y ≡ aloneBy (isAttributeOfTerm (shapeAt b i)) i y
+unfolding alone _>>_ next after moveUp noTermAttribute fail pure
+alone-by b i y = rw (attribute-same b (inline i)) (go (isTermAttribute (inline i)))
+  where
+    go : (v : Bool) → next y (λ _. pure (inline i)) (noTermAttribute v y) ≡ aloneBy v i y
+    go true = refl
+    go false = refl
 
 alone-as : (at : ℕ) (x : Expression) → aloneAt at x ≡ aloneAs (isAttributeOfTerm x) at
 alone-as at StringLiteral = refl
@@ -65,9 +74,9 @@ arrow : (sub : Inside) (i : Inline) (y : List ℕ) → isArrow y ≡ true → af
 unfolding afterInline isArrow
 arrow sub i y h = rw (h, afterInline)
 
-ended : (k j : ℕ) → after [] k (ok false [] j) ≡ ok false [] (k + j)
+ended : (i : Inline) (k j : ℕ) → after [] k (ok (inline i) [] j) ≡ ok (inline i) [] (k + j)
 unfolding after moveUp
-ended k j = refl
+ended i k j = refl
 
 pub twice : {B : Type 0} (k j : ℕ) (o : Out B) → after [] k (after [] j o) ≡ after [] (k + j) o
 twice k j o = after-after [] k [] j o ∙ (unfold moveUp in refl)
@@ -78,13 +87,12 @@ module _ {s : List ℕ} {at e : ℕ} (x : Expression) (w : Went s at (skipBlank 
   opened sub i = let l = w .onward in let j : at + (e - at) ≡ e = omega arith in rw (w .answers, drop-drop, j)
 
   here : isArrow (drop e s) ≡ false → (sub : Inside) (b : ℕ) (i : Inline) → x ≡ shapeAt b i
-      → followedBy sub i (drop at s) ≡ after [] (e - at) (aloneBy (isAttributeOfTerm x) (drop e s))
+      → followedBy sub i (drop at s) ≡ after [] (e - at) (aloneBy (isAttributeOfTerm x) i (drop e s))
   unfolding afterInline isArrow
   here h sub b i q = opened sub i
       ∙ ap (after [] (e - at))
-      ((rw (h, afterInline))
-      ∙ ap (λ (r : Reader Bool). r (drop e s))
-      (alone-by b i ∙ ap (λ (y : Expression). aloneBy (isAttributeOfTerm y)) (sym q)))
+      ((rw (h, afterInline)) ∙ alone-by b i (drop e s)
+      ∙ ap (λ (y : Expression). aloneBy (isAttributeOfTerm y) i (drop e s)) (sym q))
 
   pub alone-followed : isArrow (drop e s) ≡ false → Followed followedBy s at x (aloneAt e x)
   unfolding after pure fail
@@ -104,7 +112,7 @@ module _ {s : List ℕ} {at e : ℕ} (x : Expression) (w : Went s at (skipBlank 
       )
 
       no : isAttributeOfTerm x ≡ false → Followed followedBy s at x (aloneAs (isAttributeOfTerm x) e)
-      no t = rw t (w .onward, w .within, t, λ sub b i q. here h sub b i q ∙ (rw (t, moveUp-nil, add-zero)))
+      no t = rw t (w .onward, w .within, λ sub b i q. here h sub b i q ∙ (rw (t, moveUp-nil, add-zero)))
 
   pub select-followed : isArrow (drop e s) ≡ true → (r : AfterInline) → Followed selectFrom s e x r → Followed followedBy s at x r
   select-followed h r f = go r f
@@ -120,16 +128,15 @@ module _ {s : List ℕ} {at e : ℕ} (x : Expression) (w : Went s at (skipBlank 
           let k : e - at + (a - e) ≡ a - at = omega (arith, w .onward, g .0) in (
             omega (arith, w .onward, g .0),
             g .1,
-            g .2,
             λ sub b i q. first sub i
-                ∙ ap (after [] (e - at)) (g .3 sub b i q) ∙ ended (e - at) (a - e) ∙ ap (ok false []) k,
+                ∙ ap (after [] (e - at)) (g .2 sub b i q) ∙ ended i (e - at) (a - e) ∙ ap (ok (inline i) []) k,
           )
       go (follows.Select a) g =
           let k : e - at + (a - e) ≡ a - at = omega (arith, w .onward, g .0) in (
             omega (arith, w .onward, g .0),
             g .1,
             λ sub b i q. first sub i ∙ ap (after [] (e - at)) (g .2 sub b i q)
-                ∙ twice (e - at) (a - e) _ ∙ ap (λ (n : ℕ). after [] n ((getVariants sub >> pure true) (drop a s))) k,
+                ∙ twice (e - at) (a - e) _ ∙ ap (λ (n : ℕ). after [] n ((getVariants sub >> pure select) (drop a s))) k,
           )
       go (follows.Bad c k) g = (
         g .0,

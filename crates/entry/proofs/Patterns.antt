@@ -14,7 +14,7 @@ use Rattle.syntax.specs.Errors.{upFault}
 use Rattle.syntax.specs.Helper.{skipBlankBlock}
 use Rattle.syntax.specs.Marks.{Mark, moveUp}
 use Rattle.syntax.specs.Reader.{Out, ok, bad, deep, after, again, done, repeat}
-use Rattle.syntax.specs.Pattern.{Inside, text, State, withPlaceable, textTurn, patternTurn, finish, stateAt, usedBy, firstState, getPattern}
+use Rattle.syntax.specs.Pattern.{Inside, State, withPlaceable, textTurn, patternTurn, finish, stateAt, usedBy, firstState, getPattern}
 use Rattle.laws.specs.Moving.{after-after}
 use Rattle.laws.specs.Loop.{repeat-again, repeat-done}
 use Rattle.laws.specs.Shape.Run.{Known, opened, closed, textOpened, textClosed, AllKnown}

@@ -19,7 +19,7 @@ use Rattle.syntax.specs.Reader.{Out, ok, bad, deep, after, next, _>>=_, _>>_, p
 use Rattle.syntax.specs.Helper.{skipBlank, expectByte, getIdentifier}
 use Rattle.syntax.specs.Pattern.{Inside}
 use Rattle.syntax.specs.Expression.{Inline, message, asInline, getAttributeAccessor, callArguments, getCallArguments}
-use Rattle.syntax.specs.Expression.{functionReference, messageReference, referenceBy, reference}
+use Rattle.syntax.specs.Expression.{functionReference, messageReference, referenceBy}
 use Rattle.laws.specs.Bytes.{byCase}
 use Rattle.entry.specs.Tree.{word, Step}
 use Rattle.entry.specs.Place.{Went}

@@ -2,7 +2,7 @@
 use Prim.Native.Nat.{ℕ, _+_, _-_, _≤_}
 use mathlib.Core.Path.{_≡_, refl, sym, ap, ap₂, _∙_}
 use mathlib.Core.List.{List, []}
-use mathlib.Core.Bool.{Bool, true, false}
+use mathlib.Core.Bool.{true, false}
 use native.Mathlib.Nat.{add-zero}
 use native.Mathlib.Omega.{arith}
 use lib.ListN.{length, drop, length-drop}
@@ -26,7 +26,8 @@ use Rattle.laws.specs.Moving.{after-none}
 use Rattle.laws.specs.Bytes.{startsWith-some}
 use Rattle.syntax.specs.Helper.{skipEol, skipBlank, skipBlankInline, expectByte}
 use Rattle.syntax.specs.Pattern.{Inside}
-use Rattle.syntax.specs.Expression.{selectFrom, needsLineEnd, getVariants}
+use Rattle.syntax.specs.Expression.{selectFrom, needsLineEnd, getVariants, select}
+use Rattle.syntax.specs.Expression.{Expression as Content}
 use Rattle.entry.specs.Place.{Passed, Went}
 use Rattle.entry.specs.Shape.{isArrow}
 use Rattle.entry.specs.declared.expression.Expression.{Expression}
@@ -120,7 +121,7 @@ lost-after {at = at} {e} {o = o} l h g =
     }
 
 -- an error of a reader, as the code's answer
-lost-answer : {at k : ℕ} {f : ParserError} {o : Out Bool} → Lost at f k o → answer reading at 0 o ≡ reads.Bad f k
+lost-answer : {at k : ℕ} {f : ParserError} {o : Out Content} → Lost at f k o → answer reading at 0 o ≡ reads.Bad f k
 lost-answer {at = at} g = ap (answer reading at 0) (g .is) ∙ ap₂ reads.Bad (sym (g .moved)) (sym (g .place))
 
 -- an expression that is no selector
@@ -142,13 +143,13 @@ arrow-inside s at h =
     omega (arith, length-drop (at + 1) s, g)
 
 -- from the end of the line on
-lineEnd : Inside → Reader Bool
+lineEnd : Inside → Reader Content
 lineEnd sub = do
   end ← skipEol
   needsLineEnd end
   skipBlank
   getVariants sub
-  pure true
+  pure select
 
 used : {A : Type 0} (x : A) (at a : ℕ) {k : ℕ} → a ≡ at + k → ok x [] k ≡ ok x [] (a - at)
 used x at a {k} h = ap (ok x []) (omega (arith, h))
@@ -181,30 +182,30 @@ module _ (s : List ℕ) (at : ℕ) {e : ℕ} (i : Inline) (h : isArrow (drop at 
   unfolding lineEnd skipEol _>>=_ next
   select-unended {f} z q sub =
       let o : lineEnd sub (drop e s) ≡ after [] 0
-      ((needsLineEnd false >> (skipBlank >> (getVariants sub >> pure true))) (drop 0 (drop e s))) =
+      ((needsLineEnd false >> (skipBlank >> (getVariants sub >> pure select))) (drop 0 (drop e s))) =
       rw z in
       let n : Lost e f e (lineEnd sub (drop e s)) =
       rw (o, after-none)
       (unfold needsLineEnd in
-      (lost-then _ (fail (ExpectedCharRange 2)) (skipBlank >> (getVariants sub >> pure true))
+      (lost-then _ (fail (ExpectedCharRange 2)) (skipBlank >> (getVariants sub >> pure select))
       (lost-fail _ refl q))) in
       lost-answer (lost-after (omega (arith, past-arrow)) (opened sub) n)
 
   -- a line end, and blanks up to the first variant
   pub select-ended : {a b : ℕ} → Passed s e (eol (drop e s)) a → (a ≡ e → ⊥) → Went s a (skipBlank (drop a s)) tt b
-      → (sub : Inside) → selectFrom sub i (drop at s) ≡ after [] (b - at) ((getVariants sub >> pure true) (drop b s))
+      → (sub : Inside) → selectFrom sub i (drop at s) ≡ after [] (b - at) ((getVariants sub >> pure select) (drop b s))
   unfolding lineEnd skipEol _>>=_ next needsLineEnd
   select-ended {a} {b} p d v sub =
-      let o = (getVariants sub >> pure true) (drop b s) in
+      let o = (getVariants sub >> pure select) (drop b s) in
       let k = eol (drop e s) in
       let some : ltb 0 k ≡ true = lt-ltb 0 k (omega (arith, p .end, d)) in
-      let blank : (skipBlank >> (getVariants sub >> pure true)) (drop a s) ≡ after [] (b - a) o =
-      onward o s a b b skipBlank (getVariants sub >> pure true) (v .answers) (v .onward) (omega arith) (same b o) in
+      let blank : (skipBlank >> (getVariants sub >> pure select)) (drop a s) ≡ after [] (b - a) o =
+      onward o s a b b skipBlank (getVariants sub >> pure select) (v .answers) (v .onward) (omega arith) (same b o) in
       let line : lineEnd sub (drop e s) ≡ after [] k
-      ((needsLineEnd true >> (skipBlank >> (getVariants sub >> pure true))) (drop k (drop e s))) =
+      ((needsLineEnd true >> (skipBlank >> (getVariants sub >> pure select))) (drop k (drop e s))) =
       rw some in
-      let ended : (needsLineEnd true >> (skipBlank >> (getVariants sub >> pure true))) (drop a s) ≡ after [] (b - a) o =
-      onward o s a a b (needsLineEnd true) (skipBlank >> (getVariants sub >> pure true))
+      let ended : (needsLineEnd true >> (skipBlank >> (getVariants sub >> pure select))) (drop a s) ≡ after [] (b - a) o =
+      onward o s a a b (needsLineEnd true) (skipBlank >> (getVariants sub >> pure select))
       (unfold pure in (used tt a a (sym (add-zero a)))) (omega arith) (v .onward) blank in
       let here : drop k (drop e s) ≡ drop a s = drop-drop k e s ∙ ap (λ (n : ℕ). drop n s) (sym (p .end)) in
       let there : lineEnd sub (drop e s) ≡ after [] (k + (b - a)) o = line ∙ (rw here (ap (after [] k) ended ∙ twice k (b - a) o)) in

@@ -17,6 +17,7 @@ use Rattle.syntax.specs.Reader.{ok, bad, Reader, after, _>>=_, _>>_, pure, Turn
 use Rattle.syntax.specs.Helper.{skipBlank, skipBlankInline, expectByte}
 use Rattle.syntax.specs.Pattern.{Inside}
 use Rattle.syntax.specs.Expression.{Inline, string, number, variable, function, inner, message, term, getVariants}
+use Rattle.syntax.specs.Expression.{Expression as Content, inline, select, noTermAttribute}
 use Rattle.syntax.specs.Expression.{afterInline, variantTurn, variantWith, turnAfter}
 use Rattle.entry.specs.Did.{Says, answer, reading}
 use Rattle.entry.specs.declared.helper.Place.{Place}
@@ -60,9 +61,18 @@ shapeKind (TermReference a) = Kind.termReference
 shapeKind Placeable = Kind.placeable
 shapeKind Select = Kind.select
 
--- the results that tell inline expressions that start at b
+-- what stands in braces, from a place on
+abbrev pub contentAt : ℕ → Content → Expression
+contentAt at (inline i) = shapeAt at i
+contentAt at select = Select
+
+-- the results that tell what was read
+abbrev pub telling : {A : Type 0} → (A → Expression) → Says A ReadExpression
+telling shape = record { yes = λ a p m. Ok (shape a) p m; no = λ f p. Bad f p; far = λ p. Deep p }
+
+-- inline expressions that start at b
 abbrev pub expressing : ℕ → Says Inline ReadExpression
-expressing b = record { yes = λ i p m. Ok (shapeAt b i) p m; no = λ f p. Bad f p; far = λ p. Deep p }
+expressing b = telling (shapeAt b)
 
 abbrev pub withShape : Expression → Read → ReadExpression
 withShape x (reads.Ok p m) = Ok x p m
@@ -75,7 +85,7 @@ plainly (Ok x p m) = reads.Ok p m
 plainly (Bad f p) = reads.Bad f p
 plainly (Deep p) = reads.Deep p
 
--- whether a result is a term's attribute, which can't stand in braces by itself
+-- whether it is a term's attribute, which can't stand in braces by itself
 abbrev pub isAttributeOfTerm : Expression → Bool
 isAttributeOfTerm StringLiteral = false
 isAttributeOfTerm NumberLiteral = false
@@ -86,10 +96,11 @@ isAttributeOfTerm (TermReference a) = a
 isAttributeOfTerm Placeable = false
 isAttributeOfTerm Select = false
 
-abbrev pub isTermAttribute : ReadExpression → Bool
-isTermAttribute (Ok x p m) = isAttributeOfTerm x
-isTermAttribute (Bad f p) = false
-isTermAttribute (Deep p) = false
+-- whether one was read
+abbrev pub readAttribute : ReadExpression → Bool
+readAttribute (Ok x p m) = isAttributeOfTerm x
+readAttribute (Bad f p) = false
+readAttribute (Deep p) = false
 
 -- by a first byte that starts no literal, and whether a letter follows it
 unfoldable pub nonLiteralStart : ℕ → Bool → Start
@@ -148,12 +159,12 @@ selectorAt at Placeable = places.Bad (faultAt ExpectedSimpleExpressionAsSelector
 selectorAt at Select = places.Bad (faultAt ExpectedSimpleExpressionAsSelector at) at
 
 -- what follows an inline expression x by the definition q, at a place: nothing, a select's variants, or an error
-abbrev pub Followed : (Inside → Inline → Reader Bool) → List ℕ → ℕ → Expression → AfterInline → Type 0
-Followed q s at x (Alone e) = (at ≤ e) × (e ≤ length s) × (isAttributeOfTerm x ≡ false)
-    × ((sub : Inside) (b : ℕ) (i : Inline) → x ≡ shapeAt b i → q sub i (drop at s) ≡ ok false [] (e - at))
+abbrev pub Followed : (Inside → Inline → Reader Content) → List ℕ → ℕ → Expression → AfterInline → Type 0
+Followed q s at x (Alone e) = (at ≤ e) × (e ≤ length s)
+    × ((sub : Inside) (b : ℕ) (i : Inline) → x ≡ shapeAt b i → q sub i (drop at s) ≡ ok (inline i) [] (e - at))
 Followed q s at x (follows.Select e) = (at + 2 ≤ e) × (e ≤ length s)
     × ((sub : Inside) (b : ℕ) (i : Inline) → x ≡ shapeAt b i
-    → q sub i (drop at s) ≡ after [] (e - at) ((getVariants sub >> pure true) (drop e s)))
+    → q sub i (drop at s) ≡ after [] (e - at) ((getVariants sub >> pure select) (drop e s)))
 Followed q s at x (follows.Bad f k) = (k ≤ length s)
     × ((sub : Inside) (b : ℕ) (i : Inline) → x ≡ shapeAt b i
     → answer reading at 0 (q sub i (drop at s)) ≡ reads.Bad f k)
@@ -167,7 +178,7 @@ pub record Stops {S A : Type 0} (at : ℕ) (f : ParserError) (k : ℕ) (t : Turn
   pub place : k ≡ at + j
 
 -- from the end of an inline expression on
-unfoldable pub followedBy : Inside → Inline → Reader Bool
+unfoldable pub followedBy : Inside → Inline → Reader Content
 followedBy sub i = do
   skipBlank
   afterInline sub i
@@ -186,8 +197,9 @@ NextIs s at has (Variant d e) =
 NextIs s at has (End e) = (at ≤ e) × (e ≤ length s) × ((sub : Inside) → variantTurn sub has (drop at s) ≡ done (ok tt [] (e - at)))
 NextIs s at has (nexts.Bad f k) = (k ≤ length s) × ((sub : Inside) → Stops at f k (variantTurn sub has (drop at s)))
 
--- the end of a placeable
-unfoldable pub placeableEnd : Reader (Unit {0})
-placeableEnd = do
+-- the end of a placeable, by whether a term's attribute stands in it
+unfoldable pub placeableEnd : Bool → Reader (Unit {0})
+placeableEnd attribute = do
   skipBlankInline
   expectByte Byte.closeBrace
+  noTermAttribute attribute

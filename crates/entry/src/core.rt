@@ -1,20 +1,21 @@
 // core.rs: entries, and the parts of placeables and variants. get_placeable and get_variants themselves stand in expression.rt.
 ghost use Prim.Native.Nat.{_+_, _≤_};
 ghost use mathlib.Core.Path.{_≡_};
-ghost use mathlib.Core.Bool.{false, _||_};
+ghost use mathlib.Core.Bool.{_||_};
+ghost use mathlib.Core.List.{[]};
 ghost use lib.Dec.{eqb};
 ghost use lib.ListN.{drop};
 ghost use Rattle.syntax.specs.Limits.{maxLength};
 ghost use Rattle.syntax.specs.Byte as Byte;
 ghost use Rattle.syntax.specs.Bytes.{starts, isDigit};
 ghost use Rattle.syntax.specs.Helper.{skipBlank};
-ghost use Rattle.syntax.specs.Expression.{level, getAttributeAccessor, getVariantKey, keyText, variantKind};
+ghost use Rattle.syntax.specs.Expression.{level, getAttributeAccessor, getVariantKey, keyText, variantKind, noTermAttribute};
 ghost use Rattle.syntax.specs.Core.{getAttribute, getAttributes, fields, termFields, asMessage, asTerm, getEntry};
 ghost use Rattle.entry.specs.Place.{Inside as InSource};
-ghost use Rattle.entry.specs.Did.{reading, Did, Room, Entered, endedBy, Endable, Reaches, withValue};
+ghost use Rattle.entry.specs.Did.{reading, answer, Did, Room, Entered, endedBy, Endable, Reaches, withValue};
 ghost use Rattle.entry.specs.Entry.{entrying};
 ghost use Rattle.entry.specs.Fields.{Named, having, NameLies};
-ghost use Rattle.entry.specs.Shape.{plainly, isTermAttribute, isAttributeOfTerm, NextIs, placeableEnd};
+ghost use Rattle.entry.specs.Shape.{plainly, readAttribute, isAttributeOfTerm, NextIs, placeableEnd};
 use crate::border::ReadEntry;
 use crate::comment::get_comment;
 use crate::errors::error;
@@ -281,10 +282,10 @@ pub fn get_entry(
     get_message(source, at, left, tree, cap, n)
 }
 
-// From the end of a placeable's expression on. The Rust tests for a term's attribute a second time.
+// From the end of a placeable's expression on.
 pub fn end_placeable(source: &[u8], exp: ReadExpression) -> Read
-    requires { ⌜ Endable (now source) (plainly exp) × (isTermAttribute exp ≡ false) ⌝ }
-    ensures { λ r. ⌜ r ≡ endedBy placeableEnd (now (source .entry)) (plainly exp) ⌝ }
+    requires { ⌜ Endable (now source) (plainly exp) ⌝ }
+    ensures { λ r. ⌜ r ≡ endedBy (placeableEnd (readAttribute exp)) (now (source .entry)) (plainly exp) ⌝ }
 {
     match exp {
         ReadExpression::Ok(exp, at, n) => {
@@ -299,10 +300,10 @@ pub fn end_placeable(source: &[u8], exp: ReadExpression) -> Read
     }
 }
 
+// The second test for a term's attribute.
 fn without_attribute(exp: Expression, at: usize, n: usize) -> Read
-    requires { ⌜ isAttributeOfTerm exp ≡ false ⌝ }
     requires { ⌜ at ≤ maxLength ⌝ }
-    ensures { λ r. ⌜ r ≡ Read.Ok at n ⌝ }
+    ensures { λ r. ⌜ r ≡ answer reading at n (noTermAttribute (isAttributeOfTerm exp) []) ⌝ }
 {
     if let Expression::TermReference(attribute) = exp {
         if attribute {

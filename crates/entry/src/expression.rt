@@ -24,7 +24,7 @@ ghost use Rattle.entry.specs.Names.{Names, HasNames, HasName, Among, nam
 ghost use Rattle.entry.specs.Shape.{expressing, plainly, withShape};
 ghost use Rattle.entry.specs.Argument.{nameOf, nameIn, positionalAt, EndedNamed, Argued};
 ghost use Rattle.entry.specs.Shape.{isArgument, startOf, nonLiteralStart, Followed, followedBy, isArrow};
-ghost use Rattle.entry.specs.Shape.{aloneAt, selectorAt, isTermAttribute};
+ghost use Rattle.entry.specs.Shape.{aloneAt, selectorAt, contentAt, telling};
 use crate::core::NextVariant;
 use crate::core::end_placeable;
 use crate::core::get_attribute_accessor;
@@ -122,9 +122,8 @@ pub fn get_expression(
 ) -> ReadExpression
     requires { ⌜ Room (now source) (now tree) cap at n 0 ⌝ }
     ensures { λ r. ⌜
-        Did reading cap at n (now (tree .entry)) (now (tree .exit)) (plainly r)
+        Did (telling (contentAt at)) cap at n (now (tree .entry)) (now (tree .exit)) r
         (getExpression (level left) (drop at (now (source .entry))))
-        × (isTermAttribute r ≡ false)
         ⌝ }
 {
     let r = get_inline_expression(source, at, left, false, tree, cap, n);

@@ -8,6 +8,8 @@ pub mod Moving
 pub mod Answers
 -- which values inline expressions have
 pub mod Values
+-- a placeable's second test for a term's attribute never fires
+pub mod Attribute
 -- `repeat` is a turn, and then `repeat`
 pub mod Loop
 -- the nodes that marks make
@@ -28,6 +30,8 @@ pub mod Stable
 pub mod Entries
 -- the words of a tree and of a list of errors, read back
 pub mod Layout
+-- an answer with its number and values
+pub mod Answered
 -- what an answer's number tells of lent memory
 pub mod Effect
 -- the tests 1, 2 and 6

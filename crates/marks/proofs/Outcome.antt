@@ -74,15 +74,15 @@ module _ {s t e out : List ℕ} (l : Lent s t e out) where
   refusal {a = a} h other = by (firstIllFormed s) refl
     where
       deep : (o : Reading) → parse maxOpen s ≡ o → firstIllFormed s ≡ none → line (numberOf a ∷ valueOf a ∷ []) ≡ printed s
-      deep (read ms es) p f = unfold answerOf in (absurd (other 0 (h .answers ∙ formed f ∙ ap answerOf p)))
+      deep (read ms es) p f = unfold answerOf in (absurd (other 0 (h .answers .same ∙ formed f ∙ ap answerOf p)))
       deep (refused k) p f =
           unfold printed listing linesOf lines answerOf in
-          (ap (λ b. line (numberOf b ∷ valueOf b ∷ [])) (h .answers ∙ formed f ∙ ap answerOf p) ∙ sym (append-nil (line (5 ∷ k ∷ [])))
+          (ap (λ b. line (numberOf b ∷ valueOf b ∷ [])) (h .answers .same ∙ formed f ∙ ap answerOf p) ∙ sym (append-nil (line (5 ∷ k ∷ [])))
           ∙ sym (rw (f, printed) (ap (λ o. lines (linesOf o)) p)))
 
       by : (o : Option ℕ) → firstIllFormed s ≡ o → line (numberOf a ∷ valueOf a ∷ []) ≡ printed s
       by none f = deep (parse maxOpen s) refl f
-      by (some k) f = unfold printed in (ap (λ b. line (numberOf b ∷ valueOf b ∷ [])) (h .answers ∙ ill-formed k f) ∙ sym (rw (f, printed)))
+      by (some k) f = unfold printed in (ap (λ b. line (numberOf b ∷ valueOf b ∷ [])) (h .answers .same ∙ ill-formed k f) ∙ sym (rw (f, printed)))
 
   -- acceptance has the value 0
   zero-value : (v : ℕ) → answer ≡ Accepted v → answer ≡ Accepted 0
@@ -102,7 +102,7 @@ module _ {s t e out : List ℕ} (l : Lent s t e out) where
   pub acceptance : {t′ e′ : List ℕ} {a : Answer} {v : ℕ} → DidRead s t t′ e e′ a → a ≡ Accepted v → length t′ ≡ length t
       → length e′ ≡ length e → Ready s t′ e′ out
   acceptance {t′} {e′} {v = v} h z a b =
-      let d = read-of s t e (zero-value v (sym (h .answers) ∙ z)) in
+      let d = read-of s t e (zero-value v (sym (h .answers .same) ∙ z)) in
       let p = h .tree ∙ d .tree in
       let q = h .errors ∙ d .list in
       let (m, k) = parse-room maxOpen s (d .reads) in

@@ -7,9 +7,8 @@ mod listing;
 
 use crate::listing::put_pair;
 use crate::listing::put_reading;
-use input::Input;
-use input::read_input;
 use libc::STDERR_FILENO;
+use libc::STDIN_FILENO;
 use libc::STDOUT_FILENO;
 use parser::read::read;
 use syntax::answer::Answer;
@@ -51,12 +50,15 @@ fn print(source: &[u8])
 fn main() {
     // One byte more than a source may have, so that a longer one is not cut.
     let mut buffer = [0u8; MAX_SOURCE + 1];
-    let Input::Bytes(length) = read_input(&mut buffer) else {
-        io::write_all(STDERR_FILENO, b"marks: standard input cannot be read\n");
-        return;
-    };
+    let length = io::read_full(STDIN_FILENO, &mut buffer);
     if MAX_SOURCE < length {
         io::write_all(STDERR_FILENO, b"marks: more than 1,000 bytes\n");
+        return;
+    }
+    // A read failed if another one does not find the end.
+    let mut more = [0u8; 1];
+    if libc::read(STDIN_FILENO, &mut more) != 0 {
+        io::write_all(STDERR_FILENO, b"marks: standard input cannot be read\n");
         return;
     }
     print(&buffer[..length]);

@@ -56,16 +56,16 @@ normal-fits {s} {t} {e} {o} {o′} {v = v} n h = byCase (eqb (numberOf a) 0) (λ
 pub normal-written : {s t t′ e e′ o o′ : List ℕ} {a r : Answer} {v : ℕ} → DidRead s t t′ e e′ a → a ≡ Accepted v
     → DidWrite s t′ o o′ true r → Normalized s t e o o′ r
 normal-written {s} {o = o} d h w =
-    let q = ap numberOf (sym (d .answers) ∙ h) in
+    let q = ap numberOf (sym (d .answers .same) ∙ h) in
     record {
-      answers = w .answers ∙ (ap (λ z. writeAnswer s z (length o) true) (d .tree) ∙ sym (accepts _ _ _ q));
+      answers = w .answers .same ∙ (ap (λ z. writeAnswer s z (length o) true) (d .tree) ∙ sym (accepts _ _ _ q));
       output = w .output ∙ (ap (λ z. outputAfter s z o true) (d .tree) ∙ sym (accepts _ _ _ q));
     }
 
 -- a source that is refused is not
 pub normal-refused : {s t t′ e e′ o : List ℕ} {a : Answer} → DidRead s t t′ e e′ a → OneOf refusals (tagOf the-type a)
     → Normalized s t e o o a
-normal-refused {s} {t} {e = e} {a = a} d h = record { answers = d .answers ∙ sym (refuses _ _ _ other); output = sym (refuses _ _ _ other) }
+normal-refused {s} {t} {e = e} {a = a} d h = record { answers = d .answers .same ∙ sym (refuses _ _ _ other); output = sym (refuses _ _ _ other) }
   where
     other : numberOf (readAnswer s (length t) (length e)) ≡ 0 → ⊥
-    other q = not-accepted a h _ (accepted a (ap numberOf (d .answers) ∙ q))
+    other q = not-accepted a h _ (accepted a (d .answers .number ∙ q))

@@ -33,14 +33,14 @@ pub sets-one : (l : List ℕ) (i : ℕ) (xs : List ℕ) (n : ℕ) → n < length
 sets-one l i xs n h =
     ap (λ t. sets (sets l i (take n xs)) (i + n) (take 1 t)) (sym (drop-cons xs n 0 h)) ∙ sets-more l i xs n 1 (omega arith)
 
--- spaces: one more, and as many as there is room for
-pub sets-repeat : (l : List ℕ) (i b n : ℕ) → set (sets l i (replicate n b)) (i + n) b ≡ sets l i (replicate (n + 1) b)
-sets-repeat l i b n =
-    ap (λ k. set (sets l i (replicate n b)) (i + k) b) (sym (length-replicate n b))
-    ∙ sets-append l i (replicate n b) (b ∷ [])
-    ∙ ap (λ t. sets l i t) (replicate-append-replicate n 1 b)
+-- spaces: some more, and as many as there is room for
+pub sets-repeat : (l : List ℕ) (i b n m : ℕ) → sets (sets l i (replicate n b)) (i + n) (replicate m b) ≡ sets l i (replicate (n + m) b)
+sets-repeat l i b n m =
+    ap (λ k. sets (sets l i (replicate n b)) (i + k) (replicate m b)) (sym (length-replicate n b))
+    ∙ sets-append l i (replicate n b) (replicate m b)
+    ∙ ap (λ t. sets l i t) (replicate-append-replicate n m b)
 
-pub sets-repeat-room : (l : List ℕ) (i b n m : ℕ) → length l ≡ i + n → n ≤ m → sets l i (replicate n b) ≡ sets l i (replicate m b)
+pub sets-repeat-room : (l : List ℕ) (i b n m : ℕ) → length l ≤ i + n → n ≤ m → sets l i (replicate n b) ≡ sets l i (replicate m b)
 sets-repeat-room l i b n m e h =
     let more : n + (m - n) ≡ m = omega arith in
     sym

@@ -1,14 +1,18 @@
 // Bytes and texts.
-ghost use Prim.Native.Nat.{_+_, _≤_};
+ghost use Prim.Native.Nat.{_+_, _*_, _≤_};
 ghost use mathlib.Core.Path.{_≡_};
 ghost use mathlib.Core.List.{[], _∷_};
 ghost use lib.ListN.{length, take, drop, replicate};
 ghost use lib.Seq.{sets};
 ghost use Rattle.syntax.specs.Byte as Byte;
+ghost use Rattle.syntax.specs.Serializer.{indentWidth};
 ghost use Rattle.output.specs.Put.{Put, counted, block};
 
 // How many bytes are stored at a time, which a compiler takes as one.
 const BLOCK: usize = 16;
+
+// The spaces of a level of indent.
+pub const INDENT_WIDTH: usize = 4;
 
 // The count after some bytes more. It stays at the largest number, where no output has a byte.
 fn count_on(at: usize, count: usize) -> usize
@@ -84,38 +88,49 @@ fn store_text(output: &mut [u8], at: usize, text: &[u8])
     if output.len() <= at {
         return;
     }
-    if text.len() < BLOCK || output.len() - at < text.len() {
+    if output.len() - at < text.len() {
         store_part(output, at, text);
+        return;
+    }
+    if text.len() < BLOCK {
+        store(output, at, text);
         return;
     }
     store_blocks(output, at, text);
 }
 
-// Stores spaces for which there is room.
-fn store_spaces(output: &mut [u8], at: usize, count: usize)
-    requires { ⌜ at + count ≤ length (now output) ⌝ }
-    ensures { λ _. ⌜ now (output .exit) ≡ sets (now (output .entry)) at (replicate count Byte.space) ⌝ }
+// Stores levels of indent for which there is room.
+fn store_indent(output: &mut [u8], at: usize, levels: usize)
+    requires { ⌜ at + indentWidth * levels ≤ length (now output) ⌝ }
+    ensures { λ _. ⌜ now (output .exit) ≡ sets (now (output .entry)) at (replicate (indentWidth * levels) Byte.space) ⌝ }
 {
     let mut i = 0;
-    while i < count {
-        output[at + i] = b' ';
+    while i < levels {
+        store(output, at + INDENT_WIDTH * i, b"    ");
         i += 1;
     }
 }
 
-// Stores as many of them as there is room for.
-fn store_spaces_part(output: &mut [u8], at: usize, count: usize)
-    ensures { λ _. ⌜ now (output .exit) ≡ sets (now (output .entry)) at (replicate count Byte.space) ⌝ }
+// Stores as many of them as there is room for, and the part of one.
+fn store_indent_part(output: &mut [u8], at: usize, levels: usize)
+    ensures { λ _. ⌜ now (output .exit) ≡ sets (now (output .entry)) at (replicate (indentWidth * levels) Byte.space) ⌝ }
 {
     if output.len() <= at {
         return;
     }
     let room = output.len() - at;
-    if room < count {
-        store_spaces(output, at, room);
+    let whole = room / INDENT_WIDTH;
+    if whole < levels {
+        store_indent(output, at, whole);
+        let spaces: &[u8] = b"    ";
+        store(
+            output,
+            at + INDENT_WIDTH * whole,
+            &spaces[..room % INDENT_WIDTH],
+        );
         return;
     }
-    store_spaces(output, at, count);
+    store_indent(output, at, levels);
 }
 
 // One byte.
@@ -144,10 +159,13 @@ pub fn put_text(output: &mut [u8], at: usize, text: &[u8]) -> usize
     count_on(at, text.len())
 }
 
-// Spaces.
-pub fn put_spaces(output: &mut [u8], at: usize, count: usize) -> usize
-    ensures { λ r. ⌜ Put (now (output .entry)) (now (output .exit)) at r (replicate count Byte.space) ⌝ }
+// Levels of indent.
+pub fn put_indent(output: &mut [u8], at: usize, levels: usize) -> usize
+    ensures { λ r. ⌜ Put (now (output .entry)) (now (output .exit)) at r (replicate (indentWidth * levels) Byte.space) ⌝ }
 {
-    store_spaces_part(output, at, count);
-    count_on(at, count)
+    store_indent_part(output, at, levels);
+    if usize::MAX / INDENT_WIDTH < levels {
+        return usize::MAX;
+    }
+    count_on(at, INDENT_WIDTH * levels)
 }

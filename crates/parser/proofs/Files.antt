@@ -14,7 +14,7 @@ use Rattle.syntax.specs.Kind.{closing}
 use Rattle.syntax.specs.declared.errors.ParserError.{ParserError}
 use Rattle.syntax.specs.Marks.{Mark, plain, moveUp, node, textNode}
 use Rattle.syntax.specs.Bytes.{startsWith, starts}
-use Rattle.syntax.specs.Reader.{Out, ok, deep, next, _>>=_, fail}
+use Rattle.syntax.specs.Reader.{Out, ok, next, _>>=_, fail}
 use Rattle.syntax.specs.Helper.{skipBlankBlock, getIdentifier}
 use Rattle.syntax.specs.Pattern.{Inside, usedBy}
 use Rattle.syntax.specs.Expression.{level}

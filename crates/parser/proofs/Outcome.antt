@@ -23,6 +23,7 @@ use Rattle.laws.specs.File.{parse-read}
 use Rattle.entry.specs.Tree.{wordsAt, Step}
 use Rattle.parser.specs.ErrorList.{ErrorStep}
 use Rattle.parser.specs.Laid.{finished}
+use Rattle.laws.specs.Answered.{answered}
 use Rattle.parser.specs.Call.{Sized, parsedOf, DidParse, DidReadInto, DidRead}
 use Rattle.parser.specs.declared.resource.Parsed.{Parsed}
 use Rattle.parser.specs.declared.resource.Parsed.the-variants.{Counts, Deep}
@@ -123,7 +124,7 @@ module _ (s t e : List ℕ) where
   unfolding readAnswer treeAfter errorsAfter sliceAfter effectOf sliceBy
   too-long h =
       let q = lt-ltb 1000000 (length s) h in
-      record { answers = rw (q, readAnswer); tree = rw (q, readAnswer); errors = rw (q, readAnswer) }
+      record { answers = answered (rw (q, readAnswer)); tree = rw (q, readAnswer); errors = rw (q, readAnswer) }
 
   pub formed : (c : Checked) → c ≡ checkedOf (firstIllFormed s) → c ≡ WellFormed → firstIllFormed s ≡ none
   unfolding checkedOf
@@ -145,7 +146,7 @@ module _ (s t e : List ℕ) where
         go none q d = let z : _≡_ {A = ℕ} 0 1 = cc in absurd (omega arith)
         go (some j) q d = let same : k ≡ j = cc in
             record {
-              answers = rw (short, readAnswer, q) (ap NotUtf8 same);
+              answers = answered (rw (short, readAnswer, q) (ap NotUtf8 same));
               tree = rw (short, readAnswer, q);
               errors = rw (short, readAnswer, q);
             }
@@ -157,7 +158,7 @@ module _ (s t e : List ℕ) where
           let n : 2 + 16 * length s ≡ treeLayout (length s) = omega arith in
           let q = lt-ltb (length t) (treeLayout (length s)) (omega arith) in
           record {
-            answers = rw (short, readAnswer, f, q) (ap TreeTooShort n);
+            answers = answered (rw (short, readAnswer, f, q) (ap TreeTooShort n));
             tree = rw (short, readAnswer, f, q);
             errors = rw (short, readAnswer, f, q);
           }
@@ -171,7 +172,7 @@ module _ (s t e : List ℕ) where
         errors-short g =
             let q = lt-ltb (length e) (errorLayout (length s)) g in
             record {
-              answers = rw (short, readAnswer, f, roomy, q);
+              answers = answered (rw (short, readAnswer, f, roomy, q));
               tree = rw (short, readAnswer, f, roomy, q);
               errors = rw (short, readAnswer, f, roomy, q);
             }
@@ -181,7 +182,7 @@ module _ (s t e : List ℕ) where
         none-short t′ e′ r g d =
             let q = le-ltb (length e) (errorLayout (length s)) g in
             record {
-              answers = rw (short, readAnswer, f, roomy, q) (d .answers);
+              answers = answered (rw (short, readAnswer, f, roomy, q) (d .answers));
               tree = rw (short, readAnswer, f, roomy, q) (d .tree);
               errors = rw (short, readAnswer, f, roomy, q) (d .errors);
             }

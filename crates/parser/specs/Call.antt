@@ -4,7 +4,7 @@ use mathlib.Core.Path.{_≡_}
 use mathlib.Core.List.{List}
 use lib.ListN.{length}
 use Rattle.syntax.specs.declared.answer.Answer.{Answer}
-use Rattle.syntax.specs.Answer.{sliceAfter}
+use Rattle.syntax.specs.Answer.{Answered, sliceAfter}
 use Rattle.syntax.specs.Limits.{maxLength, maxOpen}
 use Rattle.syntax.specs.Core.{Reading, read, refused, parse}
 use Rattle.syntax.specs.Layout.{treeCapacity, treeLayout, errorLayout, treeWords, errorWords}
@@ -39,6 +39,6 @@ pub record DidReadInto (s t t′ e e′ : List ℕ) (r : Answer) : Type 0 where
 
 -- the reading call: its answer, and every word of both slices
 pub record DidRead (s t t′ e e′ : List ℕ) (r : Answer) : Type 0 where
-  pub answers : r ≡ readAnswer s (length t) (length e)
+  pub answers : Answered r (readAnswer s (length t) (length e))
   pub tree : t′ ≡ treeAfter s t e
   pub errors : e′ ≡ errorsAfter s t e

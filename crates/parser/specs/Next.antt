@@ -5,7 +5,7 @@ use mathlib.Core.List.{List}
 use lib.ListN.{length}
 use Rattle.syntax.specs.declared.next.Next.{Next}
 use Rattle.syntax.specs.declared.next.Next.the-variants as answers
-use Rattle.syntax.specs.Next.{nextAnswer, placeAfter, NextTree}
+use Rattle.syntax.specs.Next.{nextAnswer, Answered, placeAfter, NextTree}
 use Rattle.entry.specs.Place.{Inside}
 use Rattle.parser.specs.Resource.{junkTill}
 use Rattle.entry.specs.declared.border.ReadEntry.{ReadEntry}
@@ -30,6 +30,6 @@ stoppedAt s start (Deep k) = answers.None
 
 -- a call from a place: its answer, the place after it, and what it leaves of the tree
 pub record DidAsk (s : List ℕ) (at : ℕ) (t t′ : List ℕ) (r : Asked) : Type 0 where
-  pub answers : r .next ≡ nextAnswer s at (length t)
+  pub answers : Answered (length s) (r .next) (nextAnswer s at (length t))
   pub place : r .at ≡ placeAfter s at (nextAnswer s at (length t))
   pub tree : NextTree s at t t′

@@ -2,7 +2,7 @@
 // where its reading stopped. `next_entry` does the work; what is here is proved by hand.
 ghost use mathlib.Core.Path.{_≡_};
 ghost use lib.ListN.{length};
-ghost use Rattle.syntax.specs.Next.{firstPlace, nextAnswer, NextTree};
+ghost use Rattle.syntax.specs.Next.{firstPlace, nextAnswer, Answered, NextTree};
 ghost use Rattle.reader.specs.Moved.{moved};
 use parser::next::first_place;
 use parser::next::next_entry;
@@ -26,7 +26,8 @@ impl<'a> Reader<'a> {
     // The entry after the place, read with a lent tree, in which it leaves scratch. It takes the time of that entry.
     pub fn next(&mut self, tree: &mut [u32]) -> Next
         ensures { λ r. ⌜
-            (r ≡ nextAnswer (now (now (self .entry) .source)) (now (self .entry) .at) (length (now (tree .entry))))
+            Answered (length (now (now (self .entry) .source))) r
+            (nextAnswer (now (now (self .entry) .source)) (now (self .entry) .at) (length (now (tree .entry))))
             × (now (self .exit) ≡ moved (now (self .entry)) (length (now (tree .entry))))
             × NextTree (now (now (self .entry) .source)) (now (self .entry) .at) (now (tree .entry)) (now (tree .exit))
             ⌝ }
@@ -40,7 +41,8 @@ impl<'a> Reader<'a> {
 // The entry after a place, for callers that hold no reader. They start at `first_place`.
 pub fn entry_after(source: &[u8], at: usize, tree: &mut [u32]) -> Next
     ensures { λ r. ⌜
-        (r ≡ nextAnswer (now (source .entry)) at (length (now (tree .entry))))
+        Answered (length (now (source .entry))) r
+        (nextAnswer (now (source .entry)) at (length (now (tree .entry))))
         × NextTree (now (source .entry)) at (now (tree .entry)) (now (tree .exit))
         ⌝ }
 {

@@ -23,6 +23,7 @@ use Rattle.tree.proofs.Sizes.{sizes, no-mark}
 use Rattle.tree.proofs.Tests.{refusal-of, none-of}
 use Rattle.serializer.specs.declared.writer.TextWriter.{TextWriter}
 use Rattle.serializer.specs.Writer.{begun, Room, Wrote}
+use Rattle.laws.specs.Answered.{answered}
 use Rattle.serializer.specs.Call.{DidWriteInto, DidWrite}
 
 -- the writing of a tree that is well formed
@@ -74,13 +75,13 @@ module _ (s t o : List ℕ) (junk : Bool) where
   refused r e =
       let q = refusal-of (refusal s t) r e in
       let u = refusal-keeps s t r q in
-      record { answers = rw (q, writeAnswer); output = rw (q, writeAnswer) (rw u) }
+      record { answers = answered (rw (q, writeAnswer)); output = rw (q, writeAnswer) (rw u) }
 
   pub passed : Passed ≡ testedOf (refusal s t) → (o′ : List ℕ) (r : Answer)
       → DidWriteInto (serialize s junk (marksIn t)) o o′ r → DidWrite s t o o′ junk r
   unfolding writeAnswer outputAfter
   passed e o′ r d = let q = none-of (refusal s t) e in
-      record { answers = rw (q, writeAnswer) (d .answers); output = rw (q, writeAnswer) (d .output) }
+      record { answers = answered (rw (q, writeAnswer) (d .answers)); output = rw (q, writeAnswer) (d .output) }
 
 pub passing : (s t : List ℕ) → Passed ≡ testedOf (refusal s t) → Passes s t
 passing s t e = passes s t (none-of (refusal s t) e)

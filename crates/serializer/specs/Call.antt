@@ -5,7 +5,7 @@ use mathlib.Core.Bool.{Bool}
 use mathlib.Core.List.{List}
 use lib.ListN.{length}
 use Rattle.syntax.specs.declared.answer.Answer.{Answer}
-use Rattle.syntax.specs.Answer.{sliceAfter}
+use Rattle.syntax.specs.Answer.{Answered, sliceAfter}
 use Rattle.syntax.specs.Writing.{textAnswer, writeAnswer, outputAfter}
 
 -- the writing where no earlier test refuses: its answer, and every byte of the output
@@ -15,5 +15,5 @@ pub record DidWriteInto (text o o′ : List ℕ) (r : Answer) : Type 0 where
 
 -- the writing call: its answer, and every byte of the output
 pub record DidWrite (s t o o′ : List ℕ) (junk : Bool) (r : Answer) : Type 0 where
-  pub answers : r ≡ writeAnswer s t (length o) junk
+  pub answers : Answered r (writeAnswer s t (length o) junk)
   pub output : o′ ≡ outputAfter s t o junk

@@ -21,6 +21,7 @@ ghost use Rattle.serializer.specs.Comment.{CommentAt, lineOf};
 ghost use Rattle.serializer.specs.Serialize.{oneIf, lower, Ready, Went, Done, Begun, patternIn, selectIn};
 ghost use Rattle.serializer.specs.Serialize.{argumentsIn, patternStart, openingBraces, closingBraces, bracesOf};
 ghost use Rattle.serializer.specs.Serialize.{sigil, quoted, referenceOf, keyAt, argumentName, Named};
+use crate::walk::after_node;
 use crate::walk::kind_at;
 use crate::walk::text_at;
 use crate::writer::TextWriter;
@@ -37,7 +38,6 @@ use syntax::kind::STRING;
 use syntax::kind::TERM_REFERENCE;
 use syntax::kind::TEXT;
 use syntax::kind::VARIABLE;
-use tree::marks::after_node;
 
 // Where the serializer stands: in the text, and in the marks.
 pub struct Serializer {
@@ -151,10 +151,27 @@ fn is_multiline_element(source: &[u8], tree: &[u32], mark: usize) -> bool
 {
     if kind_at(tree, mark) == TEXT {
         let text = text_at(source, tree, mark);
-        has_newline(text)
-    } else {
-        is_select_expr(tree, mark + 1)
+        return has_newline(text);
     }
+    // The first step of is_select_expr, so that most placeables are passed without a call.
+    let inner = mark + 1;
+    match kind_at(tree, inner) {
+        SELECT => true,
+        PLACEABLE => is_select_expr(tree, inner + 1),
+        _ => false,
+    }
+}
+
+// The mark after the element at a mark. A text is two marks, and most elements are texts.
+fn after_element(tree: &[u32], mark: usize) -> usize
+    requires { ⌜ sizesFit (now tree) ≡ true ⌝ }
+    requires { ⌜ NodeAt (marksIn (now tree)) mark ⌝ }
+    ensures { λ r. ⌜ r ≡ after (marksIn (now (tree .entry))) mark ⌝ }
+{
+    if kind_at(tree, mark) == TEXT {
+        return mark + 2;
+    }
+    after_node(tree, mark)
 }
 
 // Whether the pattern at a mark has such an element.
@@ -170,7 +187,7 @@ fn is_multiline(source: &[u8], tree: &[u32], mark: usize) -> bool
         if is_multiline_element(source, tree, next) {
             return true;
         }
-        next = after_node(tree, next);
+        next = after_element(tree, next);
     }
     false
 }

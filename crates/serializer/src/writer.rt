@@ -6,9 +6,10 @@ ghost use lib.ListN.{length, replicate};
 ghost use Rattle.syntax.specs.Byte as Byte;
 ghost use Rattle.syntax.specs.Serializer.{lastOf, literal, newline, star, indentWidth};
 ghost use Rattle.serializer.specs.Writer.{begun, bytes, Room, Wrote};
+use output::text::INDENT_WIDTH;
 use output::text::put;
 use output::text::put_bytes;
-use output::text::put_spaces;
+use output::text::put_indent;
 use output::text::put_text;
 
 // The bytes that the last byte is compared with.
@@ -17,9 +18,6 @@ const LINE_FEED: usize = 10;
 const CARRIAGE_RETURN: usize = 13;
 
 const SPACE: usize = 32;
-
-// The spaces of a level of indent.
-const INDENT_WIDTH: usize = 4;
 
 // How many bytes have been written, the last of them (0 at the start), and the indent level. The byte is as wide as the others:
 // the writer is copied at every call, and faster without padding.
@@ -139,7 +137,7 @@ impl TextWriter {
         }
         let at = self.at;
         let width = INDENT_WIDTH * indent;
-        put_spaces(output, at, width);
+        put_indent(output, at, indent);
         TextWriter {
             at: at + width,
             last: SPACE,

@@ -15,10 +15,13 @@ use Rattle.syntax.specs.Reader as Reader
 use Rattle.syntax.specs.Reader.{Out, ok, bad, deep, Reader, wrap}
 use Rattle.syntax.specs.Helper.{skipBlank, skipBlankInline, skipEol, expectByte}
 use Rattle.syntax.specs.Pattern as Pattern
+use Rattle.syntax.specs.Expression as Read
 use Rattle.syntax.specs.Expression.{Inline, string, number, variable, function, inner, message, term}
+use Rattle.syntax.specs.Expression.{isTermAttribute, noTermAttribute}
 use Rattle.syntax.specs.Expression.{getInlineExpression, getVariants, needsLineEnd, selector, alone, selectFrom}
 use Rattle.syntax.specs.Expression.{afterInline, inSelect, inlineOrSelect, getExpression, braced, tooDeep, level}
 use Rattle.laws.specs.Bytes.{byCase, clash}
+use Rattle.laws.specs.Attribute.{bracedOnce, braced-once}
 use Rattle.standard.specs.Dialect.{rust}
 use Rattle.standard.specs.Peg as Peg
 use Rattle.standard.specs.Peg.{Answer, fits, fails, Parser, byte, only, in-node, shared, share, _/_, _>>_, _>>=_}
@@ -71,8 +74,8 @@ selects (message n false) s = tt
 selects (term true) s = refl
 selects (term false) s = tt
 
-stands : (x : Inline) (s : List ℕ) → Passes false (A11 (inline (formOf x))) (alone x s)
-unfolding A11 formOf alone Reader.pure Reader.fail
+stands : (x : Inline) (s : List ℕ) → Passes (Read.inline x) (A11 (inline (formOf x))) (alone x s)
+unfolding A11 formOf alone noTermAttribute isTermAttribute Reader._>>_ Reader.next Reader.after Reader.pure Reader.fail moveUp
 stands string s = refl
 stands number s = refl
 stands variable s = refl
@@ -197,38 +200,45 @@ unfolding selected Peg.next Peg.pure
 selected-pure s (fits u ms k) = fits-pure select ms k
 selected-pure s fails = refl
 
-truly : Out (Unit {0}) → Out Bool
-truly (ok u ms k) = ok true ms k
-truly (bad e k) = bad e k
-truly (deep k) = deep k
+chosen : Out (Unit {0}) → Out Read.Expression
+chosen (ok u ms k) = ok Read.select ms k
+chosen (bad e k) = bad e k
+chosen (deep k) = deep k
 
-truly-after : (ms : List Mark) (k : ℕ) (o : Out (Unit {0})) → Reader.after ms k (truly o) ≡ truly (Reader.after ms k o)
-unfolding truly Reader.after
-truly-after ms k (ok u ns j) = refl
-truly-after ms k (bad e j) = refl
-truly-after ms k (deep j) = refl
+chosen-after : (ms : List Mark) (k : ℕ) (o : Out (Unit {0})) → Reader.after ms k (chosen o) ≡ chosen (Reader.after ms k o)
+unfolding chosen Reader.after
+chosen-after ms k (ok u ns j) = refl
+chosen-after ms k (bad e j) = refl
+chosen-after ms k (deep j) = refl
 
-truly-pure : (s : List ℕ) (o : Out (Unit {0})) → Reader.next s (λ _. Reader.pure true) o ≡ truly o
-unfolding truly Reader.next Reader.pure
-truly-pure s (ok u ms k) = ok-pure true ms k
-truly-pure s (bad e k) = refl
-truly-pure s (deep k) = refl
+chosen-pure : (s : List ℕ) (o : Out (Unit {0})) → Reader.next s (λ _. Reader.pure Read.select) o ≡ chosen o
+unfolding chosen Reader.next Reader.pure
+chosen-pure s (ok u ms k) = ok-pure Read.select ms k
+chosen-pure s (bad e k) = refl
+chosen-pure s (deep k) = refl
 
-truly-next : {A : Type 0} (s : List ℕ) (q : A → Reader (Unit {0})) (q′ : A → Reader Bool) (o : Out A)
-    → ((x : A) (r : List ℕ) → q′ x r ≡ truly (q x r)) → Reader.next s q′ o ≡ truly (Reader.next s q o)
-unfolding truly Reader.next
-truly-next s q q′ (ok x ms k) h = ap (Reader.after ms k) (h x (drop k s)) ∙ truly-after ms k (q x (drop k s))
-truly-next s q q′ (bad e k) h = refl
-truly-next s q q′ (deep k) h = refl
+chosen-next : {A : Type 0} (s : List ℕ) (q : A → Reader (Unit {0})) (q′ : A → Reader Read.Expression) (o : Out A)
+    → ((x : A) (r : List ℕ) → q′ x r ≡ chosen (q x r)) → Reader.next s q′ o ≡ chosen (Reader.next s q o)
+unfolding chosen Reader.next
+chosen-next s q q′ (ok x ms k) h = ap (Reader.after ms k) (h x (drop k s)) ∙ chosen-after ms k (q x (drop k s))
+chosen-next s q q′ (bad e k) h = refl
+chosen-next s q q′ (deep k) h = refl
+
+chosen-before : (s : List ℕ) (q : Reader (Unit {0})) (o : Out (Unit {0}))
+    → Reader.next s (λ _. q) (chosen o) ≡ Reader.next s (λ _. q) o
+unfolding chosen Reader.next
+chosen-before s q (ok u ms k) = refl
+chosen-before s q (bad e k) = refl
+chosen-before s q (deep k) = refl
 
 wrapped-selected : (kind : ℕ) (a : Answer (Unit {0})) → wrapped kind (selected a) ≡ selected (wrapped kind a)
 unfolding wrapped selected
 wrapped-selected kind (fits u ms k) = refl
 wrapped-selected kind fails = refl
 
-wrong-select : (o : Out Bool) → Wrong o → Wrong (inSelect o)
+wrong-select : (o : Out Read.Expression) → Wrong o → Wrong (inSelect o)
 unfolding inSelect
-wrong-select (ok v ms k) h = absurd h
+wrong-select (ok e ms k) h = absurd h
 wrong-select (bad e k) h = tt
 wrong-select (deep k) h = tt
 
@@ -311,24 +321,24 @@ module _ {sub₁ : Pattern.Inside} {sub₂ : Grammar.Inside} (agree : Agree sub�
       ∙ selected-after [] 2 (Peg.after [] (spaces (drop 2 s)) (variant-list rust sub₂ (list-at s)))
 
   -- the reading's
-  abbrev lines-true : Reader Bool
-  lines-true =
+  abbrev lines-chosen : Reader Read.Expression
+  lines-chosen =
       Reader._>>=_ skipEol
       (λ end. Reader._>>_ (needsLineEnd end)
-      (Reader._>>_ skipBlank (Reader._>>_ (getVariants sub₁) (Reader.pure true))))
+      (Reader._>>_ skipBlank (Reader._>>_ (getVariants sub₁) (Reader.pure Read.select))))
 
-  lines-are : (s : List ℕ) → lines-true s ≡ truly (reads-lines patterns s)
+  lines-are : (s : List ℕ) → lines-chosen s ≡ chosen (reads-lines patterns s)
   unfolding Reader._>>=_ Reader._>>_
   lines-are s =
-      truly-next s _ _ (skipEol s)
-      (λ e r. truly-next r _ _ (needsLineEnd e r)
-      (λ u r. truly-next r _ _ (skipBlank r) (λ u r. truly-pure r (getVariants sub₁ r))))
+      chosen-next s _ _ (skipEol s)
+      (λ e r. chosen-next r _ _ (needsLineEnd e r)
+      (λ u r. chosen-next r _ _ (skipBlank r) (λ u r. chosen-pure r (getVariants sub₁ r))))
 
-  spaces-read : Reader Bool
-  spaces-read = Reader._>>_ skipBlankInline lines-true
+  spaces-read : Reader Read.Expression
+  spaces-read = Reader._>>_ skipBlankInline lines-chosen
 
   arrow-read : (x : Inline) (s : List ℕ) → arrow s ≡ true → A10 (formOf x) ≡ true
-      → afterInline sub₁ x s ≡ truly
+      → afterInline sub₁ x s ≡ chosen
       (Reader.after [] 2 (Reader.after [] (spaces (drop 2 s)) (reads-lines patterns (list-at s))))
   unfolding afterInline selectFrom spaces-read skipBlankInline
   arrow-read x s e h =
@@ -342,10 +352,10 @@ module _ {sub₁ : Pattern.Inside} {sub₂ : Grammar.Inside} (agree : Agree sub�
       ∙ ap (λ r. Reader.after [] 1 (spaces-read r)) (drop-drop 1 1 s)))
       ∙ reads-skip [] 0 1 (Reader.after [] 1 (spaces-read (drop 2 s))) ∙ reads-skip [] 1 1 (spaces-read (drop 2 s))
       ∙ ap (Reader.after [] 2)
-      (reads-then skipBlankInline lines-true (drop 2 s) refl
+      (reads-then skipBlankInline lines-chosen (drop 2 s) refl
       ∙ ap (Reader.after [] (spaces (drop 2 s))) (lines-are (list-at s))
-      ∙ truly-after [] (spaces (drop 2 s)) (reads-lines patterns (list-at s)))
-      ∙ truly-after [] 2 (Reader.after [] (spaces (drop 2 s)) (reads-lines patterns (list-at s))))
+      ∙ chosen-after [] (spaces (drop 2 s)) (reads-lines patterns (list-at s)))
+      ∙ chosen-after [] 2 (Reader.after [] (spaces (drop 2 s)) (reads-lines patterns (list-at s))))
 
   -- without "->", and where the selector is none
   alone-read : (x : Inline) (s : List ℕ) → arrow s ≡ false → afterInline sub₁ x s ≡ alone x s
@@ -357,15 +367,15 @@ module _ {sub₁ : Pattern.Inside} {sub₂ : Grammar.Inside} (agree : Agree sub�
   wrong-selector x s e h =
       rw (e, afterInline)
       (wrong-next s
-      (λ _. Reader._>>_ (expectByte 45) (Reader._>>_ (expectByte 62) (Reader._>>_ skipBlankInline lines-true)))
+      (λ _. Reader._>>_ (expectByte 45) (Reader._>>_ (expectByte 62) (Reader._>>_ skipBlankInline lines-chosen)))
       (selector x s) (stops tt (A10 (formOf x)) (selector x s) (selects x s) h))
 
   -- Expression and end
   -- --------------------------------------------------------------------------------------------------------------------------
 
   -- in the select's node, if it is one
-  select-wrap : (o : Out (Unit {0})) → inSelect (truly o) ≡ wrap 14 o
-  unfolding inSelect truly wrap
+  select-wrap : (o : Out (Unit {0})) → inSelect (chosen o) ≡ chosen (wrap 14 o)
+  unfolding inSelect chosen wrap
   select-wrap (ok u ms k) = refl
   select-wrap (bad e k) = refl
   select-wrap (deep k) = refl
@@ -428,14 +438,14 @@ module _ {sub₁ : Pattern.Inside} {sub₂ : Grammar.Inside} (agree : Agree sub�
         (wrong-select (inlineOrSelect sub₁ s) (rw read (wrong-after ms p (afterInline sub₁ x rest) w)))
 
     -- no "->"
-    alone-ok : arrow rest ≡ false → A11 (inline (formOf x)) ≡ true → getExpression sub₁ s ≡ ok tt ms p
+    alone-ok : arrow rest ≡ false → A11 (inline (formOf x)) ≡ true → getExpression sub₁ s ≡ ok (Read.inline x) ms p
     unfolding getExpression inSelect
     alone-ok e q =
         ap inSelect
         (read
         ∙ ap (Reader.after ms p)
-        (alone-read x rest e ∙ passes false (A11 (inline (formOf x))) (alone x rest) (stands x rest) q)
-        ∙ ok-pure false ms p)
+        (alone-read x rest e ∙ passes (Read.inline x) (A11 (inline (formOf x))) (alone x rest) (stands x rest) q)
+        ∙ ok-pure (Read.inline x) ms p)
 
     alone-same : arrow rest ≡ false → Same nothing (reads-all s) (parses-all s)
     unfolding Reader._>>_ Reader.next Peg.next
@@ -449,7 +459,7 @@ module _ {sub₁ : Pattern.Inside} {sub₂ : Grammar.Inside} (agree : Agree sub�
         (there ∙ sym (ap (λ n. p + n) (subst (λ n. spaces (drop n s) ≡ 0) there (over-spaces s j)) ∙ add-zero p))))
         (λ q. wrong-same (reads-all s) _
         (wrong-all
-        (rw (alone-read x rest e) (stops false (A11 (inline (formOf x))) (alone x rest) (stands x rest) q)))
+        (rw (alone-read x rest e) (stops (Read.inline x) (A11 (inline (formOf x))) (alone x rest) (stands x rest) q)))
         (after-fails ms j (forbidden (inline (formOf x)) (drop j s) q))))
 
     -- "->"
@@ -465,9 +475,9 @@ module _ {sub₁ : Pattern.Inside} {sub₂ : Grammar.Inside} (agree : Agree sub�
     abbrev parses-list : Answer (Unit {0})
     parses-list = Peg.after [] 2 (Peg.after [] (spaces (drop 2 rest)) (variant-list rust sub₂ (list-at rest)))
 
-    select-read : arrow rest ≡ true → A10 (formOf x) ≡ true → getExpression sub₁ s ≡ wrap 14 (Reader.after ms p reads-list)
+    select-read : arrow rest ≡ true → A10 (formOf x) ≡ true → getExpression sub₁ s ≡ chosen (wrap 14 (Reader.after ms p reads-list))
     unfolding getExpression
-    select-read e q = ap inSelect (read ∙ ap (Reader.after ms p) (arrow-read x rest e q) ∙ truly-after ms p reads-list)
+    select-read e q = ap inSelect (read ∙ ap (Reader.after ms p) (arrow-read x rest e q) ∙ chosen-after ms p reads-list)
         ∙ select-wrap (Reader.after ms p reads-list)
 
     select-parsed : arrow rest ≡ true → A10 (formOf x) ≡ true
@@ -487,7 +497,7 @@ module _ {sub₁ : Pattern.Inside} {sub₂ : Grammar.Inside} (agree : Agree sub�
     select-here : arrow rest ≡ true → Same nothing (reads-all s) (parses-all s)
     unfolding Reader._>>_
     select-here e = byCase (A10 (formOf x))
-        (λ q. rw (parses s (formOf x) ms j here (select-parsed e q), select-read e q)
+        (λ q. rw (parses s (formOf x) ms j here (select-parsed e q), select-read e q, chosen-before s reads-close)
         (select-same s (wrap 14 (Reader.after ms p reads-list)) (wrapped 14 (Peg.after ms p parses-list))
         (fits (inline (formOf x)) ms j) select-ended (inline-fails e)))
         (λ q. wrong-same (reads-all s) (parses-all s) (wrong-all (wrong-selector x rest e q))
@@ -521,10 +531,11 @@ module _ {sub₁ : Pattern.Inside} {sub₂ : Grammar.Inside} (agree : Agree sub�
 
   -- inline_placeable
   placeables-agree : (s : List ℕ) → Same nothing (wrap 13 (braced sub₁ s)) (inline-placeable rust sub₂ s)
-  unfolding braced inline-placeable reads-close close
+  unfolding bracedOnce inline-placeable reads-close close
   placeables-agree s =
-      same-wrap nothing 13 (braced sub₁ s) (byte 123 >> (blank? >> parses-all)) s
-      (then (same-byte 123) (then same-blank (record { same = expression-same })) .same s)
+      rw (braced-once sub₁)
+      (same-wrap nothing 13 (bracedOnce sub₁ s) (byte 123 >> (blank? >> parses-all)) s
+      (then (same-byte 123) (then same-blank (record { same = expression-same })) .same s))
 
   no-placeable : (s : List ℕ) → startsWith 123 s ≡ false → inline-placeable rust sub₂ s ≡ fails
   unfolding inline-placeable

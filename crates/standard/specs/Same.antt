@@ -25,7 +25,7 @@ use Rattle.laws.specs.Moving.{map-append, after-after, moveUp-twice}
 use Rattle.standard.specs.Dialect.{rust}
 use Rattle.standard.specs.Peg as Peg
 use Rattle.standard.specs.Peg.{Answer, fits, fails, Parser, byte, in-node, ahead, void}
-use Rattle.standard.specs.Steps.{moveUp-none, Uses, byte-fits, byte-fails, first, node-fits, node-fails}
+use Rattle.standard.specs.Steps.{moveUp-none, Uses, byte-fits, byte-fails, node-fits, node-fails}
 use Rattle.standard.specs.Lexical.{line-end, blank?, blank-inline?, blank-block}
 use Rattle.standard.specs.Grammar as Grammar
 use Rattle.standard.specs.Blank.{behind, skipBlank-is, blank?-is, blank-inline?-is}

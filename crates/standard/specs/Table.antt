@@ -4,7 +4,7 @@
 use Prim.Native.Nat.{ℕ}
 use Prim.Native.String.{String}
 use mathlib.Core.Path.{_≡_, refl}
-use mathlib.Core.Bool.{Bool, not}
+use mathlib.Core.Bool.{not}
 use mathlib.Core.List.{List, [], _∷_, _++_, map}
 use lib.Dec.{eqb}
 use Rattle.syntax.specs.Bytes.{ascii}
@@ -176,7 +176,8 @@ unfolding but reading both expected ReadBytes.startsWith ReadBytes.starts ReadBy
     ReadExpression.argumentBy ReadExpression.argumentTurn ReadExpression.parenthesised ReadExpression.keyText
     ReadExpression.getVariantKey ReadExpression.needsValue ReadExpression.variant ReadExpression.variantKind
     ReadExpression.endVariants ReadExpression.variantWith ReadExpression.afterStar ReadExpression.turnAfter
-    ReadExpression.variantTurn ReadExpression.getVariants ReadExpression.selector ReadExpression.alone
+    ReadExpression.variantTurn ReadExpression.getVariants ReadExpression.selector ReadExpression.isTermAttribute
+    ReadExpression.noTermAttribute ReadExpression.alone
     ReadExpression.needsLineEnd ReadExpression.selectFrom ReadExpression.afterInline ReadExpression.inSelect
     ReadExpression.inlineOrSelect ReadExpression.getExpression ReadExpression.braced ReadExpression.tooDeep
     ReadExpression.level ReadCore.getAttribute ReadCore.attributeBy ReadCore.attributeTurn ReadCore.getAttributes
@@ -236,7 +237,8 @@ unfolding reading pure given ReadBytes.startsWith ReadBytes.starts ReadBytes.sec
     ReadExpression.argumentBy ReadExpression.argumentTurn ReadExpression.parenthesised ReadExpression.keyText
     ReadExpression.getVariantKey ReadExpression.needsValue ReadExpression.variant ReadExpression.variantKind
     ReadExpression.endVariants ReadExpression.variantWith ReadExpression.afterStar ReadExpression.turnAfter
-    ReadExpression.variantTurn ReadExpression.getVariants ReadExpression.selector ReadExpression.alone
+    ReadExpression.variantTurn ReadExpression.getVariants ReadExpression.selector ReadExpression.isTermAttribute
+    ReadExpression.noTermAttribute ReadExpression.alone
     ReadExpression.needsLineEnd ReadExpression.selectFrom ReadExpression.afterInline ReadExpression.inSelect
     ReadExpression.inlineOrSelect ReadExpression.getExpression ReadExpression.braced ReadExpression.tooDeep
     ReadExpression.level ReadCore.getAttribute ReadCore.attributeBy ReadCore.attributeTurn ReadCore.getAttributes

@@ -1,6 +1,7 @@
 -- Document 01's number and value of each answer of the calls: 0 for acceptance, then the refusals in the order of its table; and what
 -- becomes of the memory that a call was lent to write.
 use Prim.Native.Nat.{ℕ}
+use mathlib.Core.Path.{_≡_}
 use mathlib.Core.Bool.{true, false}
 use mathlib.Core.List.{List, _++_}
 use lib.ListN.{drop, replicate}
@@ -28,6 +29,12 @@ valueOf (ErrorsTooShort v) = v
 valueOf (TooDeep v) = v
 valueOf (IllFormed v) = v
 valueOf (OutputTooShort v) = v
+
+-- what a promise says of an answer r where a definition gives a: the case, and document 01's number and value
+pub record Answered (r a : Answer) : Type 0 where
+  pub same : r ≡ a
+  pub number : numberOf r ≡ numberOf a
+  pub value : valueOf r ≡ valueOf a
 
 pub data Effect : Type 0 where
   written zeroed untouched : Effect

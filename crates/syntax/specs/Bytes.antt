@@ -1,5 +1,5 @@
 -- Tests on bytes, and on what the rest of a source starts with.
-use Prim.Native.Nat.{ℕ, suc, _+_, _-_}
+use Prim.Native.Nat.{ℕ, suc}
 use Prim.Native.Char.{code}
 use Prim.Native.String.{String, [] as end, _∷_ as cons}
 use mathlib.Core.Path.{_≡_}

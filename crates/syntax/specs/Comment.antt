@@ -1,15 +1,15 @@
 -- comment.rs
-use Prim.Native.Nat.{ℕ, zero, suc, _+_, _-_, min}
-use mathlib.Core.Bool.{Bool, true, false, _&&_, _||_, not}
+use Prim.Native.Nat.{ℕ, suc, _+_, _-_, min}
+use mathlib.Core.Bool.{true, false, _&&_, _||_, not}
 use mathlib.Core.List.{List, [], _∷_}
 use lib.ListN.{drop}
 use lib.Dec.{eqb, ltb}
 use Rattle.syntax.specs.Byte as Byte
 use Rattle.syntax.specs.Kind as Kind
-use Rattle.syntax.specs.Bytes.{startsWith, run, eol}
+use Rattle.syntax.specs.Bytes.{run, eol}
 use Rattle.syntax.specs.Marks.{textNode}
 use Rattle.syntax.specs.Errors.{ExpectedToken}
-use Rattle.syntax.specs.Reader.{Out, ok, Reader, fail, Turn, again, done, repeat, after}
+use Rattle.syntax.specs.Reader.{ok, Reader, fail, Turn, again, done, repeat, after}
 
 -- the bytes of a line before its line end
 unfoldable pub lineLength : List ℕ → ℕ

@@ -1,6 +1,6 @@
 -- expression.rs, with get_variants and get_placeable of core.rs
 use Prim.Native.Nat.{ℕ, zero, suc, _+_, _-_}
-use mathlib.Core.Bool.{Bool, true, false, _&&_, _||_, not}
+use mathlib.Core.Bool.{Bool, true, false, _&&_, _||_}
 use mathlib.Core.List.{List, [], _∷_}
 use lib.ListN.{drop, take}
 use lib.Dec.{eqb}
@@ -21,6 +21,11 @@ pub data Inline : Type 0 where
   string number variable function inner : Inline
   message : ℕ → Bool → Inline
   term : Bool → Inline
+
+-- what stands in braces
+pub data Expression : Type 0 where
+  inline : Inline → Expression
+  select : Expression
 
 unfoldable pub inlineKind : Inline → ℕ
 inlineKind string = Kind.string
@@ -332,23 +337,33 @@ selector (message n true) = fail Errors.MessageAttributeAsSelector
 selector (message n false) = fail Errors.MessageReferenceAsSelector
 selector inner = fail Errors.ExpectedSimpleExpressionAsSelector
 
--- whether it can stand in braces by itself; answers that there is no select
-unfoldable pub alone : Inline → Reader Bool
-alone string = pure false
-alone number = pure false
-alone variable = pure false
-alone function = pure false
-alone (message n a) = pure false
-alone (term true) = fail Errors.TermAttributeAsPlaceable
-alone (term false) = pure false
-alone inner = pure false
+unfoldable pub isTermAttribute : Expression → Bool
+isTermAttribute (inline string) = false
+isTermAttribute (inline number) = false
+isTermAttribute (inline variable) = false
+isTermAttribute (inline function) = false
+isTermAttribute (inline (message n a)) = false
+isTermAttribute (inline (term a)) = a
+isTermAttribute (inline inner) = false
+isTermAttribute select = false
+
+-- a term's attribute can't stand in braces by itself
+unfoldable pub noTermAttribute : Bool → Reader (Unit {0})
+noTermAttribute true = fail Errors.TermAttributeAsPlaceable
+noTermAttribute false = pure tt
+
+-- without "->"
+unfoldable pub alone : Inline → Reader Expression
+alone i = do
+  noTermAttribute (isTermAttribute (inline i))
+  pure (inline i)
 
 unfoldable pub needsLineEnd : Bool → Reader (Unit {0})
 needsLineEnd true = pure tt
 needsLineEnd false = fail (Errors.ExpectedCharRange Errors.lineEndRange)
 
--- from "->" on; answers that there is a select
-unfoldable pub selectFrom : Inside → Inline → Reader Bool
+-- from "->" on
+unfoldable pub selectFrom : Inside → Inline → Reader Expression
 selectFrom sub shape = do
   selector shape
   expectByte Byte.minus
@@ -358,9 +373,9 @@ selectFrom sub shape = do
   needsLineEnd end
   skipBlank
   getVariants sub
-  pure true
+  pure select
 
-unfoldable pub afterInline : Inside → Inline → Reader Bool
+unfoldable pub afterInline : Inside → Inline → Reader Expression
 afterInline sub shape s =
     elim
     (startsWith Byte.minus s && second (λ b. eqb b Byte.greater) s) [
@@ -368,30 +383,31 @@ afterInline sub shape s =
       | false ↦ alone shape s
     ]
 
-unfoldable pub inSelect : Out Bool → Out (Unit {0})
-inSelect (ok true ms k) = ok tt (node Kind.select ms) k
-inSelect (ok false ms k) = ok tt ms k
+unfoldable pub inSelect : Out Expression → Out Expression
+inSelect (ok select ms k) = ok select (node Kind.select ms) k
+inSelect (ok (inline i) ms k) = ok (inline i) ms k
 inSelect (bad f k) = bad f k
 inSelect (deep k) = deep k
 
-unfoldable pub inlineOrSelect : Inside → Reader Bool
+unfoldable pub inlineOrSelect : Inside → Reader Expression
 inlineOrSelect sub = do
   shape ← getInlineExpression sub false
   skipBlank
   afterInline sub shape
 
 -- get_expression
-unfoldable pub getExpression : Inside → Reader (Unit {0})
+unfoldable pub getExpression : Inside → Reader Expression
 getExpression sub s = inSelect (inlineOrSelect sub s)
 
--- get_placeable, from '{' through '}'
+-- get_placeable, from '{' through '}'. A term's attribute is tested for again
 unfoldable pub braced : Inside → Reader (Unit {0})
 braced sub = do
   expectByte Byte.openBrace
   skipBlank
-  getExpression sub
+  expression ← getExpression sub
   skipBlankInline
   expectByte Byte.closeBrace
+  noTermAttribute (isTermAttribute expression)
 
 unfoldable pub tooDeep : Reader (Unit {0})
 tooDeep s = deep 0

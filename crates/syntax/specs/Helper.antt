@@ -1,7 +1,7 @@
 -- helper.rs, and the identifier of core.rs
 use Prim.Native.Nat.{ℕ, suc, _+_, min}
-use mathlib.Core.Bool.{Bool, true, false, _||_}
-use mathlib.Core.List.{List, [], _∷_}
+use mathlib.Core.Bool.{Bool, true, false}
+use mathlib.Core.List.{List, []}
 use lib.ListN.{drop}
 use lib.Dec.{eqb, ltb}
 use Rattle.syntax.specs.Byte as Byte

@@ -1,7 +1,7 @@
 -- The kinds of nodes, document 01's numbers for what ast/mod.rs declares. A T kind has a text.
 use Prim.Native.Nat.{ℕ, _+_}
 use mathlib.Core.Bool.{Bool, _||_}
-use lib.Dec.{eqb, leb}
+use lib.Dec.{eqb}
 
 abbrev pub message : ℕ
 message = 1

@@ -108,6 +108,19 @@ valueOf l (Entry a e) = a
 valueOf l None = l
 valueOf l (TreeTooShort n) = n
 
+-- an entry's second value, where its reading stopped; the other answers have one value
+abbrev pub secondOf : ℕ → Next → ℕ
+secondOf l (Entry a e) = e
+secondOf l None = valueOf l None
+secondOf l (TreeTooShort n) = valueOf l (TreeTooShort n)
+
+-- what a promise says of an answer r where a definition gives a, in a source of l bytes: the case, and document 01's number and values
+pub record Answered (l : ℕ) (r a : Next) : Type 0 where
+  pub same : r ≡ a
+  pub number : numberOf r ≡ numberOf a
+  pub value : valueOf l r ≡ valueOf l a
+  pub second : secondOf l r ≡ secondOf l a
+
 -- the place after an answer: where the entry stopped, the end if none is left, or the same place
 abbrev pub placeAfter : List ℕ → ℕ → Next → ℕ
 placeAfter s at (Entry a e) = e

@@ -1,7 +1,7 @@
 -- Readers. A reader is given the rest of a source. All that it answers counts from the byte at which it starts, so that what a rest is read
 -- as does not depend on what stands before it.
 use Prim.Native.Nat.{ℕ, zero, suc, _+_}
-use mathlib.Core.List.{List, [], _∷_, _++_}
+use mathlib.Core.List.{List, [], _++_}
 use lib.ListN.{drop, length}
 use Rattle.syntax.specs.Marks.{Mark, moveUp, node}
 use Rattle.syntax.specs.Errors.{ErrorKind, ParserError, upFault, faultAt}

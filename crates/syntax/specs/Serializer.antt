@@ -1,13 +1,13 @@
 -- serializer.rs: the normal text of a mark list
 use Prim.Native.Nat.{ℕ, zero, suc, _+_, _-_, _*_}
 use mathlib.Core.Bool.{Bool, true, false, _&&_, _||_, not}
-use mathlib.Core.List.{List, [], _∷_, _++_, map}
+use mathlib.Core.List.{List, [], _∷_, _++_}
 use lib.ListN.{drop, length, take, replicate}
-use lib.Dec.{eqb, leb, ltb}
+use lib.Dec.{eqb, ltb}
 use Rattle.syntax.specs.Byte as Byte
 use Rattle.syntax.specs.Kind as Kind
-use Rattle.syntax.specs.Bytes.{ascii, startsWith, starts, run, all}
-use Rattle.syntax.specs.Marks.{Mark, plain, placed, kindOf, placeOf}
+use Rattle.syntax.specs.Bytes.{ascii, startsWith, all}
+use Rattle.syntax.specs.Marks.{Mark, plain, placed, kindOf}
 
 -- a node: its kind, the marks that open and close it, and the marks inside it
 pub record Node : Type 0 where

@@ -26,7 +26,7 @@ did-read s t t′ e e′ n m r p q d =
     let k : length t ≡ n = ap length p ∙ length-filled n in
     let l : length e ≡ m = ap length q ∙ length-filled m in
     record {
-      answers = d .answers ∙ (ap (λ x. readAnswer s x (length e)) k ∙ ap (λ x. readAnswer s n x) l);
+      answers = d .answers .same ∙ (ap (λ x. readAnswer s x (length e)) k ∙ ap (λ x. readAnswer s n x) l);
       leaves = d .tree ∙ (ap (λ x. treeAfter s x e) p ∙ ap (λ x. treeAfter s (filled n) x) q);
       lists = d .errors ∙ (ap (λ x. errorsAfter s x e) p ∙ ap (λ x. errorsAfter s (filled n) x) q);
     }

@@ -47,7 +47,7 @@ pub did-write : (c : Written) (s l t o o′ : List ℕ) (n : ℕ) (r : Answer) �
 did-write c s l t o o′ n r p q d =
     let k : length o ≡ n = ap length q ∙ length-filled-bytes n in
     record {
-      answers = d .answers ∙ (ap (λ x. writeAnswer s x (length o) (c .junk)) p ∙ ap (λ x. writeAnswer s (treeIn c l) x (c .junk)) k);
+      answers = d .answers .same ∙ (ap (λ x. writeAnswer s x (length o) (c .junk)) p ∙ ap (λ x. writeAnswer s (treeIn c l) x (c .junk)) k);
       leaves = d .output ∙ (ap (λ x. outputAfter s x o (c .junk)) p ∙ ap (λ x. outputAfter s (treeIn c l) x (c .junk)) q);
     }
 

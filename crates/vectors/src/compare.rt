@@ -6,9 +6,11 @@ ghost use lib.ListN.{length, replicate, drop};
 ghost use Rattle.syntax.specs.Layout.{array};
 ghost use Rattle.vectors.specs.Stored.{shorts};
 ghost use Rattle.vectors.specs.Agreement.{Tells, Stores, filled, laid, laidLength, left};
+use crate::stored::SHORT;
 use crate::stored::short;
 use syntax::answer::Answer;
 use syntax::answer::number;
+use syntax::layout::SIZES;
 
 // What is stored of a slice's arrays: the first has so many words for its capacity, the second for its size.
 pub struct Arrays {
@@ -52,7 +54,7 @@ fn are_stored(words: &[u32], stored: &[u8]) -> bool
 {
     let mut i = 0;
     while i < words.len() {
-        if words[i] != short(stored, 2 * i) {
+        if words[i] != short(stored, SHORT * i) {
             return false;
         }
         i += 1;
@@ -82,7 +84,7 @@ fn is_laid_out(slice: &[u32], a: Arrays, first: &[u8], second: &[u8]) -> bool
         ++ drop (laidLength a) (filled (length (now (slice .entry)))))
         ⌝ }
 {
-    let middle = 2 + a.capacity;
+    let middle = SIZES + a.capacity;
     let end = middle + a.size;
     if slice.len() < end {
         return false;
@@ -93,7 +95,7 @@ fn is_laid_out(slice: &[u32], a: Arrays, first: &[u8], second: &[u8]) -> bool
     if slice[1] != a.capacity as u32 {
         return false;
     }
-    if !is_array(&slice[2..middle], first, a.count) {
+    if !is_array(&slice[SIZES..middle], first, a.count) {
         return false;
     }
     if !is_array(&slice[middle..end], second, a.used) {
@@ -125,7 +127,7 @@ pub fn is_left(answer: Answer, slice: &[u32], a: Arrays, first: &[u8], second: &
 {
     match number(answer) {
         0 => is_laid_out(slice, a, first, second),
-        5 => is_zeroed(slice, 2 + a.capacity + a.size),
+        5 => is_zeroed(slice, SIZES + a.capacity + a.size),
         _ => are_all(slice, FILLING),
     }
 }

@@ -13,9 +13,20 @@ mod texts;
 mod written;
 
 use libc::STDOUT_FILENO;
+use replay::LONGEST;
 use replay::Turn;
 use replay::replay_next;
+use syntax::layout::ERROR_WORDS_A_BYTE;
+use syntax::layout::TREE_WORDS_A_BYTE;
 use texts::replay_next_text;
+
+// Tree and errors have room for sources of 4,096 bytes, and for their sizes; longer sources are refused.
+const READ_ROOM: usize = 4_100;
+
+// The bytes of a listing, and of a text.
+const LISTING_ROOM: usize = 200_000;
+
+const OUTPUT_ROOM: usize = 65_536;
 
 // How many cases a file has, and how many of them differ.
 struct Tally {
@@ -111,35 +122,35 @@ fn replay_all(
     }
 }
 
-// Room for a source, for its listing, and for slices. Sources of 4,096 bytes can be read into these; longer ones are refused.
-fn source_room() -> [u8; 1_000_001]
+// Room for a source, for its listing, for slices and for a text.
+fn source_room() -> [u8; LONGEST]
     ensures { λ r. ⌜ 1000001 ≡ length r ⌝ }
 {
-    [0; 1_000_001]
+    [0; LONGEST]
 }
 
-fn listing_room() -> [u8; 200_000]
+fn listing_room() -> [u8; LISTING_ROOM]
     ensures { λ r. ⌜ 200000 ≡ length r ⌝ }
 {
-    [0; 200_000]
+    [0; LISTING_ROOM]
 }
 
-fn tree_room() -> [u32; 65_600]
+fn tree_room() -> [u32; TREE_WORDS_A_BYTE * READ_ROOM]
     ensures { λ r. ⌜ 65600 ≡ length r ⌝ }
 {
-    [0; 65_600]
+    [0; TREE_WORDS_A_BYTE * READ_ROOM]
 }
 
-fn errors_room() -> [u32; 28_700]
+fn errors_room() -> [u32; ERROR_WORDS_A_BYTE * READ_ROOM]
     ensures { λ r. ⌜ 28700 ≡ length r ⌝ }
 {
-    [0; 28_700]
+    [0; ERROR_WORDS_A_BYTE * READ_ROOM]
 }
 
-fn output_room() -> [u8; 65_536]
+fn output_room() -> [u8; OUTPUT_ROOM]
     ensures { λ r. ⌜ 65536 ≡ length r ⌝ }
 {
-    [0; 65_536]
+    [0; OUTPUT_ROOM]
 }
 
 // Replays the file that an argument names. Names of files of the writing call start with a 't'.

@@ -9,12 +9,22 @@ use crate::compare::FILLING;
 use crate::compare::fill;
 use crate::compare::is_left;
 use crate::stored::Case;
+use crate::stored::ERROR_BYTES;
+use crate::stored::HEAD;
+use crate::stored::MARK_BYTES;
+use crate::stored::SHORT;
 use crate::stored::case_of;
 use crate::stored::repeat;
 use parser::read::read;
 use syntax::answer::Answer;
 use syntax::answer::number;
 use syntax::answer::value;
+use syntax::layout::GROUP_SIZE;
+use syntax::layout::MARKS_A_BYTE;
+use syntax::limits::MAX_LENGTH;
+
+// The longest source of a case: one that is refused for its length.
+pub const LONGEST: usize = MAX_LENGTH + 1;
 
 // What came of the next case of a file.
 pub enum Turn {
@@ -61,12 +71,12 @@ fn is_tree(case: Case, answer: Answer, n: usize, listing: &[u8], tree: &[u32]) -
 {
     let arrays = Arrays {
         count: case.marks,
-        capacity: 8 * n,
+        capacity: MARKS_A_BYTE * n,
         used: case.marks,
-        size: 8 * n,
+        size: MARKS_A_BYTE * n,
     };
-    let places = 2 * case.marks;
-    let end = 4 * case.marks;
+    let places = SHORT * case.marks;
+    let end = MARK_BYTES * case.marks;
     is_left(
         answer,
         tree,
@@ -89,11 +99,11 @@ fn is_list(case: Case, answer: Answer, n: usize, listing: &[u8], errors: &[u32])
     let arrays = Arrays {
         count: case.faults,
         capacity: n,
-        used: 6 * case.faults,
-        size: 6 * n,
+        used: GROUP_SIZE * case.faults,
+        size: GROUP_SIZE * n,
     };
-    let kinds = 4 * case.marks;
-    let groups = kinds + 2 * case.faults;
+    let kinds = MARK_BYTES * case.marks;
+    let groups = kinds + SHORT * case.faults;
     is_left(
         answer,
         errors,
@@ -133,7 +143,7 @@ fn has_room(case: Case, source: usize, listing: usize, tree: usize, errors: usiz
     let stored = case.stored;
     let t = case.tree;
     let e = case.errors;
-    if length > 1_000_001 {
+    if length > LONGEST {
         return false;
     }
     if length > source {
@@ -148,13 +158,13 @@ fn has_room(case: Case, source: usize, listing: usize, tree: usize, errors: usiz
     if e > errors {
         return false;
     }
-    if marks > 8 * length {
+    if marks > MARKS_A_BYTE * length {
         return false;
     }
     if faults > length {
         return false;
     }
-    if 4 * marks + 14 * faults > listing {
+    if MARK_BYTES * marks + ERROR_BYTES * faults > listing {
         return false;
     }
     true
@@ -172,7 +182,7 @@ fn replay(
     ensures { λ r. ⌜ Replayed case (now (source .entry)) (now (source .exit)) (now (listing .entry)) r ⌝ }
 {
     let length = case.length;
-    let size = 4 * case.marks + 14 * case.faults;
+    let size = MARK_BYTES * case.marks + ERROR_BYTES * case.faults;
     let t = case.tree;
     let e = case.errors;
     repeat(&mut source[0..length], case.stored);
@@ -200,12 +210,12 @@ pub fn replay_next(
     tree: &mut [u32],
     errors: &mut [u32],
 ) -> Turn {
-    let mut head = [0u8; 32];
+    let mut head = [0u8; HEAD];
     let got = io::read_full(fd, &mut head);
     if got == 0 {
         return Turn::End;
     }
-    if got < 32 {
+    if got < HEAD {
         return Turn::Unreadable;
     }
     let case = case_of(&head);
@@ -215,7 +225,11 @@ pub fn replay_next(
     if !fetch(fd, source, case.stored) {
         return Turn::Unreadable;
     }
-    if !fetch(fd, listing, 4 * case.marks + 14 * case.faults) {
+    if !fetch(
+        fd,
+        listing,
+        MARK_BYTES * case.marks + ERROR_BYTES * case.faults,
+    ) {
         return Turn::Unreadable;
     }
     if replay(case, source, listing, tree, errors) {

@@ -4,6 +4,20 @@ ghost use Prim.Native.Nat.{_+_, _≤_, _<_};
 ghost use mathlib.Core.Path.{_≡_};
 ghost use lib.ListN.{length};
 ghost use Rattle.vectors.specs.Stored.{shortAt, longAt, caseIn, Repeats};
+use syntax::layout::ERROR_WORDS_A_BYTE;
+
+// The bytes of a number.
+pub const SHORT: usize = 2;
+
+pub const LONG: usize = 4;
+
+// The bytes of the numbers that a case starts with.
+pub const HEAD: usize = 8 * LONG;
+
+// The bytes of a listing for each mark, a kind and a place, and for each error, a kind and a group.
+pub const MARK_BYTES: usize = 2 * SHORT;
+
+pub const ERROR_BYTES: usize = ERROR_WORDS_A_BYTE * SHORT;
 
 // How many bytes of the source are stored, and how many it has; the words of the lent slices; the answer; how many marks and
 // errors there are.
@@ -41,7 +55,7 @@ pub fn long(bytes: &[u8], at: usize) -> u32
     short(bytes, at) + 65536 * short(bytes, at + 2)
 }
 
-pub fn case_of(head: &[u8; 32]) -> Case
+pub fn case_of(head: &[u8; HEAD]) -> Case
     ensures { λ r. ⌜ r ≡ caseIn (now (head .entry)) ⌝ }
 {
     Case {

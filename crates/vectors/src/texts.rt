@@ -7,7 +7,9 @@ ghost use Rattle.vectors.specs.Written.{filledBytes, Holds, WroteFilled,
 use crate::replay::Turn;
 use crate::replay::fetch;
 use crate::replay::is_answer;
+use crate::stored::LONG;
 use crate::stored::repeat;
+use crate::written::HEAD;
 use crate::written::Written;
 use crate::written::lay_tree;
 use crate::written::written_of;
@@ -16,6 +18,9 @@ use syntax::answer::Answer;
 
 // What an output holds before the call. No text has this byte by itself.
 const FILLING: u8 = 170;
+
+// The most words of a case's tree, and the most bytes of its text.
+const MOST: usize = 1_000_000;
 
 fn fill_bytes(output: &mut [u8])
     ensures { λ r. ⌜ now (output .exit) ≡ filledBytes (length (now (output .entry))) ⌝ }
@@ -109,7 +114,7 @@ fn agrees_text(
     if !is_answer(answer, case.number, case.value) {
         return false;
     }
-    let words = 4 * case.firsts + 4 * case.seconds;
+    let words = LONG * case.firsts + LONG * case.seconds;
     is_text(output, &listing[words..])
 }
 
@@ -146,13 +151,13 @@ fn has_room_for(case: Written, source: usize, listing: usize, tree: usize, outpu
     if seconds > t - middle {
         return false;
     }
-    if t > 1_000_000 {
+    if t > MOST {
         return false;
     }
-    if text > 1_000_000 {
+    if text > MOST {
         return false;
     }
-    if 4 * firsts + 4 * seconds + text > listing {
+    if LONG * firsts + LONG * seconds + text > listing {
         return false;
     }
     true
@@ -172,7 +177,7 @@ fn replay_text(
     ensures { λ r. ⌜ Rewritten case (now (source .entry)) (now (source .exit)) (now (listing .entry)) r ⌝ }
 {
     let length = case.length;
-    let size = 4 * case.firsts + 4 * case.seconds + case.text;
+    let size = LONG * case.firsts + LONG * case.seconds + case.text;
     let t = case.tree;
     let o = case.output;
     repeat(&mut source[0..length], case.stored);
@@ -193,12 +198,12 @@ pub fn replay_next_text(
     tree: &mut [u32],
     output: &mut [u8],
 ) -> Turn {
-    let mut head = [0u8; 44];
+    let mut head = [0u8; HEAD];
     let got = io::read_full(fd, &mut head);
     if got == 0 {
         return Turn::End;
     }
-    if got < 44 {
+    if got < HEAD {
         return Turn::Unreadable;
     }
     let case = written_of(&head);
@@ -208,7 +213,11 @@ pub fn replay_next_text(
     if !fetch(fd, source, case.stored) {
         return Turn::Unreadable;
     }
-    if !fetch(fd, listing, 4 * case.firsts + 4 * case.seconds + case.text) {
+    if !fetch(
+        fd,
+        listing,
+        LONG * case.firsts + LONG * case.seconds + case.text,
+    ) {
         return Turn::Unreadable;
     }
     if replay_text(case, source, listing, tree, output) {

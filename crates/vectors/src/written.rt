@@ -6,7 +6,11 @@ ghost use lib.ListN.{length};
 ghost use Rattle.syntax.specs.Layout.{array};
 ghost use Rattle.vectors.specs.Written.{writtenIn, longs, Holds, treeIn};
 use crate::compare::fill;
+use crate::stored::LONG;
 use crate::stored::long;
+
+// The bytes of the numbers that a case starts with.
+pub const HEAD: usize = 11 * LONG;
 
 // How many bytes of the source are stored, and how many it has; the words of the tree, and where its second array starts; the
 // bytes of the output; the flag; the answer; how many words are stored of both parts of the tree; the bytes of the text.
@@ -24,7 +28,7 @@ pub struct Written {
     pub text: usize,
 }
 
-pub fn written_of(head: &[u8; 44]) -> Written
+pub fn written_of(head: &[u8; HEAD]) -> Written
     ensures { λ r. ⌜ r ≡ writtenIn (now (head .entry)) ⌝ }
 {
     Written {
@@ -49,7 +53,7 @@ fn copy(words: &mut [u32], stored: &[u8])
 {
     let mut i = 0;
     while i < words.len() {
-        words[i] = long(stored, 4 * i);
+        words[i] = long(stored, LONG * i);
         i += 1;
     }
 }
@@ -69,8 +73,8 @@ pub fn lay_tree(case: Written, listing: &[u8], tree: &mut [u32])
     ensures { λ r. ⌜ now (tree .exit) ≡ treeIn case (now (listing .entry)) ⌝ }
 {
     let middle = case.middle;
-    let seconds = 4 * case.firsts;
-    let end = seconds + 4 * case.seconds;
+    let seconds = LONG * case.firsts;
+    let end = seconds + LONG * case.seconds;
     lay(&mut tree[0..middle], &listing[0..seconds], case.firsts);
     lay(&mut tree[middle..], &listing[seconds..end], case.seconds);
 }

@@ -36,7 +36,7 @@ returns : tie.Need-returns Inv-loop μ-loop
 returns c =
     going-end (c .before .before .before .before .before .before .before .before .before .before .pre)
     (c .before .before .before .before .before .loop .inv .1) _
-    (c .before .before .before .before .before .loop .inv .0) (c .before .before .before .entry-after .ensures .0)
+    (c .before .before .before .before .before .loop .inv .0) (c .before .before .before .entry-after .ensures .0 .same)
     (c .match .keys2)
 
 mul-i : tie.Need-mul-i Inv-loop μ-loop
@@ -47,7 +47,7 @@ cast-list c = let f =
     found (c .before .before .before .before .before .before .before .before .before .before .before .before .pre)
     (c .before .before .before .before .before .before .before .loop .inv .1) _
     (c .before .before .before .before .before .before .before .loop .inv .0)
-    (c .before .before .before .before .before .entry-after .ensures .0) (c .before .start .given .1) in
+    (c .before .before .before .before .before .entry-after .ensures .0 .same) (c .before .start .given .1) in
     omega (
       arith,
       f .some,
@@ -63,7 +63,7 @@ slice-write-list c = let f =
     found (c .before .before .before .before .before .before .before .before .before .before .before .before .pre)
     (c .before .before .before .before .before .before .before .loop .inv .1) _
     (c .before .before .before .before .before .before .before .loop .inv .0)
-    (c .before .before .before .before .before .entry-after .ensures .0) (c .before .start .given .1) in
+    (c .before .before .before .before .before .entry-after .ensures .0 .same) (c .before .start .given .1) in
     omega (
       arith,
       f .before,
@@ -83,7 +83,7 @@ cast-list-2 c = let f =
     found (c .before .before .before .before .before .before .before .before .before .before .before .before .pre)
     (c .before .before .before .before .before .before .before .loop .inv .1) _
     (c .before .before .before .before .before .before .before .loop .inv .0)
-    (c .before .before .before .before .before .entry-after .ensures .0) (c .before .start .given .1) in
+    (c .before .before .before .before .before .entry-after .ensures .0 .same) (c .before .start .given .1) in
     omega (
       arith,
       f .within,
@@ -102,7 +102,7 @@ slice-write-list-2 c =
     found (c .before .before .before .before .before .before .before .before .before .before .before .before .pre)
     (c .before .before .before .before .before .before .before .loop .inv .1) _
     (c .before .before .before .before .before .before .before .loop .inv .0)
-    (c .before .before .before .before .before .entry-after .ensures .0) (c .before .start .given .1) in
+    (c .before .before .before .before .before .entry-after .ensures .0 .same) (c .before .start .given .1) in
     omega (
       arith,
       f .before,
@@ -122,7 +122,7 @@ loop-less c = let f =
     found (c .before .before .before .before .before .before .before .before .before .before .before .before .pre)
     (c .before .before .before .before .before .before .before .loop .inv .1) _
     (c .before .before .before .before .before .before .before .loop .inv .0)
-    (c .before .before .before .before .before .entry-after .ensures .0) (c .before .start .given .1) in
+    (c .before .before .before .before .before .entry-after .ensures .0 .same) (c .before .start .given .1) in
     omega (arith, f .before, f .some, f .within)
 
 loop-again : tie.Need-loop-again Inv-loop μ-loop
@@ -132,7 +132,7 @@ loop-again c = (
   going-next (c .before .before .before .before .before .before .before .before .before .before .before .before .pre)
       (c .before .before .before .before .before .before .before .loop .inv .1) _
       (c .before .before .before .before .before .before .before .loop .inv .0)
-      (c .before .before .before .before .before .entry-after .ensures .0) (c .before .start .given .1),
+      (c .before .before .before .before .before .entry-after .ensures .0 .same) (c .before .start .given .1),
 )
 
 pub list-entries-spec : {M : Type 1} → statement M

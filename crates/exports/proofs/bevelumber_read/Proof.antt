@@ -1,7 +1,6 @@
 -- `bevelumber_read` meets its contract: it tells what the reading call answers.
 use borrow.Author.Needs.{needs}
-use mathlib.Core.Path.{_∙_, ap}
-use Rattle.syntax.specs.Answer.{numberOf, valueOf}
+use mathlib.Core.Path.{_∙_}
 use Rattle.exports.proofs.bevelumber_read.Statement.{statement}
 use Rattle.exports.proofs.bevelumber_read.Tie as tie
 
@@ -23,8 +22,8 @@ same-length-2 c = search needs
 returns : tie.Need-returns
 returns c =
     let did = c .before .before .before .before .before .before .read .ensures in
-    let told = c .number .ensures ∙ ap numberOf (did .answers) in
-    let gave = c .before .value .ensures ∙ ap valueOf (did .answers) in
+    let told = c .number .ensures ∙ did .answers .number in
+    let gave = c .before .value .ensures ∙ did .answers .value in
     (told, (gave, (did .tree, did .errors)))
 
 pub bevelumber-read-spec : {M : Type 1} → statement M

@@ -1,7 +1,6 @@
 -- `bevelumber_write` meets its contract: it tells what the writing call answers.
 use borrow.Author.Needs.{needs}
-use mathlib.Core.Path.{_∙_, ap}
-use Rattle.syntax.specs.Answer.{numberOf, valueOf}
+use mathlib.Core.Path.{_∙_}
 use Rattle.exports.proofs.bevelumber_write.Statement.{statement}
 use Rattle.exports.proofs.bevelumber_write.Tie as tie
 
@@ -20,8 +19,8 @@ same-length c = search needs
 returns : tie.Need-returns
 returns c =
     let did = c .before .before .before .before .write .ensures in
-    let told = c .number .ensures ∙ ap numberOf (did .answers) in
-    let gave = c .before .value .ensures ∙ ap valueOf (did .answers) in
+    let told = c .number .ensures ∙ did .answers .number in
+    let gave = c .before .value .ensures ∙ did .answers .value in
     (told, (gave, did .output))
 
 pub bevelumber-write-spec : {M : Type 1} → statement M

@@ -11,6 +11,7 @@ use Rattle.syntax.specs.Reader.{Out, ok, bad, deep, after, _>>=_, _>>_, pure, T
 use Rattle.syntax.specs.Helper.{skipBlank, skipUnicodeEscapeSequence, getIdentifier}
 use Rattle.syntax.specs.Pattern.{Inside, getPattern}
 use Rattle.syntax.specs.Expression.{Inline, string, number, variable, function, inner, message, term, inlineKind}
+use Rattle.syntax.specs.Expression.{Expression, inline, select, isTermAttribute, noTermAttribute}
 use Rattle.syntax.specs.Expression.{asInline, escapeTurn, stringTurn, stringLiteral, asString, numberLiteral}
 use Rattle.syntax.specs.Expression.{callArguments, getCallArguments, getAttributeAccessor, termReference}
 use Rattle.syntax.specs.Expression.{variableReference, messageReference, functionReference, referenceBy, reference}
@@ -21,6 +22,7 @@ use Rattle.syntax.specs.Expression.{variant, variantKind, endVariants, variantW
 use Rattle.syntax.specs.Expression.{getVariants, selector, alone, needsLineEnd, selectFrom, afterInline, inSelect}
 use Rattle.syntax.specs.Expression.{inlineOrSelect, getExpression, braced, tooDeep, level}
 use Rattle.laws.specs.Bytes.{pick, startsWith-some}
+use Rattle.laws.specs.Attribute.{bracedOnce, braced-once}
 use Rattle.laws.specs.Bounds as Bounds
 use Rattle.laws.specs.Bounds.{Uses, uses-nil, uses-text, uses-less, uses-after, uses-node, Bounded, used, stopped}
 use Rattle.laws.specs.Bounds.{bounded-less, after-bounded, wrap-bounded, next-bounded, Bounds, bind-by, bind}
@@ -31,12 +33,13 @@ use Rattle.laws.specs.Bounds.Helper.{expectByte-bounds, numberLiteral-bo
 use Rattle.laws.specs.Bounds.Pattern.{InsideBounds, spare, pattern-bounds}
 
 -- the room to spare of a select, past its selector
-abbrev ofSelect : Bool → ℕ
-ofSelect v = elim v [ true ↦ 16 | false ↦ 0 ]
+abbrev ofSelect : Expression → ℕ
+ofSelect (inline i) = 0
+ofSelect select = 16
 
-select-le : (v : Bool) → ofSelect v ≤ 16
-select-le true = omega arith
-select-le false = omega arith
+select-le : (e : Expression) → ofSelect e ≤ 16
+select-le (inline i) = omega arith
+select-le select = omega arith
 
 -- ---- readers of no nesting
 
@@ -165,25 +168,22 @@ module _ {n : ℕ} where
   asInline-bounded l (stopped k h) = stopped k h
   asInline-bounded l (Bounds.tooDeep k h g) = Bounds.tooDeep k h g
 
-  none : Bounds n ofSelect (pure false)
-  unfolding pure
-  none = record { on = λ s. used {a = false} (uses-nil 0 (omega arith) (omega arith)) }
+  attribute-bounds : (v : Bool) → Bounds n (λ _. 0) (noTermAttribute v)
+  unfolding noTermAttribute
+  attribute-bounds true = fail-bounds _
+  attribute-bounds false = pure-bounds tt
 
-  alone-bounds : (sh : Inline) → Bounds n ofSelect (alone sh)
-  unfolding alone
-  alone-bounds string = none
-  alone-bounds number = none
-  alone-bounds variable = none
-  alone-bounds function = none
-  alone-bounds (message i a) = none
-  alone-bounds (term true) = fail-bounds _
-  alone-bounds (term false) = none
-  alone-bounds inner = none
+  alone-bounds : (i : Inline) → Bounds n ofSelect (alone i)
+  unfolding alone pure
+  alone-bounds i =
+      less (λ e. omega arith)
+      (then {d = ofSelect} (attribute-bounds (isTermAttribute (inline i)))
+      (record { on = λ s. used {a = inline i} (uses-nil 0 (omega arith) (omega arith)) }))
 
-  inSelect-bounded : {s : List ℕ} (o : Out Bool) → Bounded n (λ v. 4 + ofSelect v) s o → Bounded n (λ _. 4) s (inSelect o)
+  inSelect-bounded : {s : List ℕ} (o : Out Expression) → Bounded n (λ v. 4 + ofSelect v) s o → Bounded n (λ _. 4) s (inSelect o)
   unfolding inSelect
-  inSelect-bounded (ok true ms k) (used u) = used (uses-less {c = 18} (omega arith) (uses-node {c = 20} 14 (omega arith) u))
-  inSelect-bounded (ok false ms k) (used u) = used u
+  inSelect-bounded (ok select ms k) (used u) = used (uses-less {c = 18} (omega arith) (uses-node {c = 20} 14 (omega arith) u))
+  inSelect-bounded (ok (inline i) ms k) (used u) = used u
   inSelect-bounded (bad f k) (stopped j h) = stopped j h
   inSelect-bounded (deep k) (Bounds.tooDeep j h g) = Bounds.tooDeep j h g
 
@@ -371,7 +371,7 @@ module _ {n : ℕ} {sub : Inside} (law : InsideBounds n sub) where
       (then (expectByte-bounds 45)
       (then (expectByte-bounds 62)
       (then inline-bounds
-      (bind eol-bounds (λ v. then (lineEnd-bounds v) (then blank-bounds (then variants-bounds (pure-bounds true))))))))
+      (bind eol-bounds (λ v. then (lineEnd-bounds v) (then blank-bounds (then variants-bounds (pure-bounds select))))))))
 
   afterInline-bounds : (sh : Inline) → Bounds n ofSelect (afterInline sub sh)
   unfolding afterInline
@@ -392,10 +392,11 @@ module _ {n : ℕ} {sub : Inside} (law : InsideBounds n sub) where
   }
 
   pub braced-bounds : Bounds (suc n) (λ _. 20) (braced sub)
-  unfolding braced
+  unfolding bracedOnce
   braced-bounds =
-      then-inside (omega arith) (expectByte-bounds 123)
-      (then blank-bounds (then expression-bounds (then inline-bounds (expectByte-bounds 125))))
+      rw (braced-once sub)
+      (then-inside (omega arith) (expectByte-bounds 123)
+      (then blank-bounds (then expression-bounds (then inline-bounds (expectByte-bounds 125)))))
 
 pub level-bounds : (n : ℕ) → InsideBounds n (level n)
 unfolding level tooDeep

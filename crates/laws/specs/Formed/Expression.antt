@@ -14,12 +14,14 @@ use Rattle.syntax.specs.Marks.{Mark, plain, node}
 use Rattle.syntax.specs.Reader.{Out, ok, bad, deep, _>>=_, pure, wrap, inNode, Turn}
 use Rattle.syntax.specs.Pattern.{Inside, getPattern}
 use Rattle.syntax.specs.Expression.{Inline, string, number, variable, function, inner, message, term, inlineKind}
+use Rattle.syntax.specs.Expression.{Expression, inline, select, isTermAttribute, noTermAttribute}
 use Rattle.syntax.specs.Expression.{keyText, getVariantKey, needsValue, variant, variantKind, endVariants, variantWith}
 use Rattle.syntax.specs.Expression.{afterStar, turnAfter, variantTurn, getVariants, selector, alone, needsLineEnd}
 use Rattle.syntax.specs.Expression.{selectFrom, afterInline, inSelect, inlineOrSelect, getExpression, braced, level}
-use Rattle.syntax.specs.Expression as Expression
+use Rattle.syntax.specs.Expression.{tooDeep as deepest}
 use Rattle.syntax.specs.Shape.{stepIn, stepBy, finalBy, models, among, step, final, opens, stay}
 use Rattle.laws.specs.Bytes.{pick}
+use Rattle.laws.specs.Attribute.{bracedOnce, braced-once}
 use Rattle.laws.specs.Shape.Run.{AllKnown, run-known}
 use Rattle.laws.specs.Formed.Edge.{edge, edge-add, edge-byte}
 use Rattle.laws.specs.Formed.Reader.{Stand, at, ended, anywhere, by, closes, leads-nil, leads-after, leads-end}
@@ -72,16 +74,14 @@ module _ {n k : ℕ} where
   selector-makes (message i false) = fail-makes _
   selector-makes inner = fail-makes _
 
-  alone-makes : {g : Stand} {f : Bool → Stand} → Makes n k g f (pure false) → (a : Inline) → Makes n k g f (alone a)
+  attribute-makes : {g : Stand} (v : Bool) → Makes n k g (λ _. g) (noTermAttribute v)
+  unfolding noTermAttribute
+  attribute-makes true = fail-makes _
+  attribute-makes {g} false = pure-makes tt (λ b. leads-nil g)
+
+  alone-makes : {g : Stand} {f : Expression → Stand} (i : Inline) → Makes n k g f (pure (inline i)) → Makes n k g f (alone i)
   unfolding alone
-  alone-makes m string = m
-  alone-makes m number = m
-  alone-makes m variable = m
-  alone-makes m function = m
-  alone-makes m (message i a) = m
-  alone-makes m (term true) = fail-makes _
-  alone-makes m (term false) = m
-  alone-makes m inner = m
+  alone-makes i m = then (attribute-makes (isTermAttribute (inline i))) m
 
   turnAfter-made : {S A : Type 0} {g : Stand} {f : S → Stand} {e : A → Stand} {s : List ℕ} {t : Turn S A}
       → edge s 1 ≡ true → TurnMade n k g f e (drop 1 s) t → TurnMade n k g f e s (turnAfter 1 t)
@@ -123,30 +123,30 @@ module _ {n : ℕ} {sub : Inside} (law : InsideFormed n sub) where
       (λ q. turnAfter-made (edge-byte 42 refl s q) (star-made true h (drop 1 s))) (λ q. star-made false h s)) false
 
   -- a select's variants, where f says what its marks do
-  select-makes : {k : ℕ} {g : Stand} (f : Bool → Stand) → Makes n k g (λ _. f true) (getVariants sub) → (a : Inline)
+  select-makes : {k : ℕ} {g : Stand} (f : Expression → Stand) → Makes n k g (λ _. f select) (getVariants sub) → (a : Inline)
       → Makes n k g f (selectFrom sub a)
   unfolding selectFrom
   select-makes f m a =
       then (selector-makes a) (then (expectByte-makes 45 refl) (then (expectByte-makes 62 refl) (then spaces-makes (bind eol-makes
-      (λ v. then (lineEnd-makes v) (then blank-makes (then m (pure-makes true (λ b. leads-nil (f true))))))))))
+      (λ v. then (lineEnd-makes v) (then blank-makes (then m (pure-makes select (λ b. leads-nil (f select))))))))))
 
-  inlineOrSelect-makes : {k : ℕ} (f : Bool → Stand) → ((a : Inline) → step k 0 (inlineKind a) ≡ some 1)
-      → Makes n k (at 1) (λ _. f true) (getVariants sub)
-      → Makes n k (at 1) f (pure false) → Makes n k (at 0) f (inlineOrSelect sub)
+  inlineOrSelect-makes : {k : ℕ} (f : Expression → Stand) → ((a : Inline) → step k 0 (inlineKind a) ≡ some 1)
+      → Makes n k (at 1) (λ _. f select) (getVariants sub)
+      → ((a : Inline) → Makes n k (at 1) f (pure (inline a))) → Makes n k (at 0) f (inlineOrSelect sub)
   unfolding inlineOrSelect afterInline
   inlineOrSelect-makes {k} f z m p = bind (inline-makes law z false) (λ a. then blank-makes (record {
     on =
         λ s. pick (Made n k (at 1) f s) (startsWith 45 s && second (λ b. eqb b 62) s) _ _
-        (λ q. select-makes f m a .on s) (λ q. alone-makes p a .on s);
+        (λ q. select-makes f m a .on s) (λ q. alone-makes a (p a) .on s);
   }))
 
-  inSelect-made : {s : List ℕ} (o : Out Bool) → Made n 14 (at 0) (λ _. at 1) s o
-      → Made n 13 (at 0) (λ v. elim v [ true ↦ anywhere | false ↦ ended ]) s o
+  inSelect-made : {s : List ℕ} (o : Out Expression) → Made n 14 (at 0) (λ _. at 1) s o
+      → Made n 13 (at 0) (λ e. elim e [ inline a ↦ ended | select ↦ anywhere ]) s o
       → Made n 13 (at 0) (λ _. ended) s (inSelect o)
   unfolding inSelect Kind.isText opens step stepBy stepIn final finalBy models among
-  inSelect-made (ok true ms j) (made e l) m =
+  inSelect-made (ok select ms j) (made e l) m =
       made e (leads-end {t = 1} refl (leads-node 14 refl refl (zero-add n) (leads-end {t = 1} refl l)))
-  inSelect-made (ok false ms j) m (made e l) = made e l
+  inSelect-made (ok (inline a) ms j) m (made e l) = made e l
   inSelect-made (bad f j) m m′ = stopped
   inSelect-made (deep j) m m′ = tooDeep
 
@@ -156,17 +156,19 @@ module _ {n : ℕ} {sub : Inside} (law : InsideFormed n sub) where
     on =
         λ s. inSelect-made (inlineOrSelect sub s)
         (inlineOrSelect-makes (λ _. at 1) (λ a. inline-steps a .1) variants-makes
-        (pure-makes false (λ b. by stay)) .on s)
-        (inlineOrSelect-makes (λ v. elim v [ true ↦ anywhere | false ↦ ended ]) (λ a. inline-steps a .0)
-        (forget variants-makes) (pure-makes false (λ b. closes stay refl)) .on s);
+        (λ a. pure-makes (inline a) (λ b. by stay)) .on s)
+        (inlineOrSelect-makes (λ e. elim e [ inline a ↦ ended | select ↦ anywhere ]) (λ a. inline-steps a .0)
+        (forget variants-makes) (λ a. pure-makes (inline a) (λ b. closes stay refl)) .on s);
   }
 
   braced-makes : Makes n 13 (at 0) (λ _. ended) (braced sub)
-  unfolding braced
-  braced-makes = then (expectByte-makes 123 refl) (then blank-makes (then expression-makes (then spaces-makes (expectByte-makes 125 refl))))
+  unfolding bracedOnce
+  braced-makes =
+      rw (braced-once sub)
+      (then (expectByte-makes 123 refl) (then blank-makes (then expression-makes (then spaces-makes (expectByte-makes 125 refl)))))
 
 pub level-formed : (n : ℕ) → InsideFormed n (level n)
-unfolding level Expression.tooDeep inNode wrap Kind.isText opens among
+unfolding level deepest inNode wrap Kind.isText opens among
 level-formed zero = record { braced = λ k q r z. record { on = λ s. tooDeep }; parenthesised = λ k q r z. record { on = λ s. tooDeep } }
 level-formed (suc n) = record {
   braced = λ k q r z. let o : opens 13 + n ≡ suc n = omega arith in node-makes 13 refl z o (braced-makes (level-formed n));

@@ -15,11 +15,13 @@ use Rattle.syntax.specs.Reader.{ok, bad, deep, fail, after, Turn, again, done}
 use Rattle.syntax.specs.Helper.{skipBlank, expectByte, getIdentifier, getNumberLiteral}
 use Rattle.syntax.specs.Pattern.{Inside}
 use Rattle.syntax.specs.Expression.{Inline, string, number, variable, function, inner, message, term, argumentTurn}
+use Rattle.syntax.specs.Expression.{Expression, inline, select, isTermAttribute, noTermAttribute}
 use Rattle.syntax.specs.Expression.{parenthesised, keyText, getVariantKey, needsValue, variant, variantKind}
 use Rattle.syntax.specs.Expression.{endVariants, variantWith, afterStar, turnAfter, variantTurn, getVariants, selector}
 use Rattle.syntax.specs.Expression.{alone, needsLineEnd, selectFrom, afterInline, inSelect, inlineOrSelect}
 use Rattle.syntax.specs.Expression.{getExpression, braced, tooDeep, level}
 use Rattle.laws.specs.Bytes.{Whole, whole-tail, nonempty, Stop, byCase, pick, pick₂}
+use Rattle.laws.specs.Attribute.{bracedOnce, braced-once}
 use Rattle.laws.specs.Bounds.Expression.{level-bounds}
 use Rattle.laws.specs.Stable.{Mode, loose, Upto, Reads, Closes, Strict, from-any, bind, then, then-closes}
 use Rattle.laws.specs.Stable.{then-strict, strict-then, inner-bind, pure-reads, fail-reads, node-reads}
@@ -75,16 +77,14 @@ selector-reads (message n true) = fail-reads loose Errors.MessageAttributeAsSele
 selector-reads (message n false) = fail-reads loose Errors.MessageReferenceAsSelector
 selector-reads inner = fail-reads loose Errors.ExpectedSimpleExpressionAsSelector
 
-alone-reads : (sh : Inline) → Reads loose (alone sh)
+attribute-reads : (v : Bool) → Reads loose (noTermAttribute v)
+unfolding noTermAttribute
+attribute-reads true = fail-reads loose Errors.TermAttributeAsPlaceable
+attribute-reads false = pure-reads loose tt
+
+alone-reads : (i : Inline) → Reads loose (alone i)
 unfolding alone
-alone-reads string = pure-reads loose false
-alone-reads number = pure-reads loose false
-alone-reads variable = pure-reads loose false
-alone-reads function = pure-reads loose false
-alone-reads (message n a) = pure-reads loose false
-alone-reads (term true) = fail-reads loose Errors.TermAttributeAsPlaceable
-alone-reads (term false) = pure-reads loose false
-alone-reads inner = pure-reads loose false
+alone-reads i = then (attribute-reads (isTermAttribute (inline i))) (pure-reads loose (inline i))
 
 lineEnd-reads : (v : Bool) → Reads loose (needsLineEnd v)
 unfolding needsLineEnd
@@ -105,11 +105,15 @@ arrow-same b bs y w =
 
 inSelect-relabels : Relabels inSelect
 unfolding inSelect
-inSelect-relabels = relabels inSelect (λ a ms k. tt) (λ a ms k. elim a [ true ↦ node 14 ms | false ↦ ms ]) good (λ e k. refl) (λ k. refl)
+inSelect-relabels = relabels inSelect (λ e ms k. e) marks good (λ f k. refl) (λ k. refl)
   where
-    good : (a : Bool) (ms : List Mark) (k : ℕ) → inSelect (ok a ms k) ≡ ok tt (elim a [ true ↦ node 14 ms | false ↦ ms ]) k
-    good true ms k = refl
-    good false ms k = refl
+    marks : Expression → List Mark → ℕ → List Mark
+    marks (inline i) ms k = ms
+    marks select ms k = node 14 ms
+
+    good : (e : Expression) (ms : List Mark) (k : ℕ) → inSelect (ok e ms k) ≡ ok e (marks e ms k) k
+    good (inline i) ms k = refl
+    good select ms k = refl
 
 module _ (sub : Inside) (law : InsideLaw sub) where
   variant-reads : Reads loose (variant sub)
@@ -197,7 +201,7 @@ module _ (sub : Inside) (law : InsideLaw sub) where
   select-reads sh =
       then (selector-reads sh)
       (then (byte 45 (λ e. omega arith)) (then (byte 62 (λ e. omega arith)) (then (inline-reads loose tt)
-      (bind eol-reads (λ v. then (lineEnd-reads v) (then blank (then variants-reads (pure-reads loose true))))))))
+      (bind eol-reads (λ v. then (lineEnd-reads v) (then blank (then variants-reads (pure-reads loose select))))))))
 
   afterInline-reads : (sh : Inline) → Reads loose (afterInline sub sh)
   unfolding afterInline
@@ -212,19 +216,21 @@ module _ (sub : Inside) (law : InsideLaw sub) where
       (bind (Inline.inline-reads sub law false) (λ sh. then blank (afterInline-reads sh)))
 
   braced-closes : Closes (braced sub)
-  unfolding braced
+  unfolding bracedOnce
   braced-closes =
-      then-closes (byte 123 (λ e. omega arith))
+      rw (braced-once sub)
+      (then-closes (byte 123 (λ e. omega arith))
       (then-closes blank
-      (then-closes expression-reads (then-closes (inline-reads loose tt) (expectByte-closes 125 (λ e. omega arith)))))
+      (then-closes expression-reads (then-closes (inline-reads loose tt) (expectByte-closes 125 (λ e. omega arith))))))
 
   braced-strict : Strict (braced sub)
-  unfolding braced
+  unfolding bracedOnce
   braced-strict =
-      then-strict (byte 123 (λ e. omega arith))
+      rw (braced-once sub)
+      (then-strict (byte 123 (λ e. omega arith))
       (then-strict blank
       (then-strict expression-reads
-      (then-strict (inline-reads loose tt) (expectByte-strict 125 (λ e. omega arith) (λ e. omega arith)))))
+      (then-strict (inline-reads loose tt) (expectByte-strict 125 (λ e. omega arith) (λ e. omega arith))))))
 
   parenthesised-closes : Closes (parenthesised sub)
   unfolding parenthesised

@@ -56,7 +56,7 @@ use denote.Triple.Walked.{goes-gave-slice, Walks, ends-at, walked, walk-meets}
 use denote.Exit.{yes}
 use denote.Triple.Clauses.{ensured, lasts}
 use Rattle.syntax.specs.declared.next.Next.{Next}
-use Rattle.syntax.specs.Next.{nextAnswer, NextTree}
+use Rattle.syntax.specs.Next.{nextAnswer, Answered, NextTree}
 use Rattle.syntax.proofs.next.Next as N
 use Rattle.syntax.proofs.next.Next.Laws as N′
 use Rattle.reader.specs.Moved.{moved}
@@ -183,7 +183,10 @@ module _ {M : Type 1} (𝓤 : URA M) (H : Heap 𝓤) (A : Atoms 𝓤) (W : Given
 
   -- what the callee says of its answer, the reader's last value and the tree's last list
   abbrev Said : Next → Reader × (List ℕ × Unit {0}) → Type 0
-  Said r zs = (r ≡ nextAnswer (now source) n (length ys)) × (zs .0 ≡ moved h (length ys)) × NextTree (now source) n ys (zs .1 .0)
+  Said r zs =
+      Answered (length (now source)) r (nextAnswer (now source) n (length ys))
+      × (zs .0 ≡ moved h (length ys))
+      × NextTree (now source) n ys (zs .1 .0)
 
   exits : (r : Next) (w : Val) (zs : Reader × (List ℕ × Unit {0})) → Said r zs → length (zs .1 .0) ≡ length ys
       → ent 𝓤

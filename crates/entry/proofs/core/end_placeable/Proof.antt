@@ -1,8 +1,7 @@
 -- `core::end_placeable` meets its contract.
 use Rattle.entry.proofs.Places.{found-within}
-use Rattle.entry.specs.Shape.{placeableEnd}
 use Rattle.entry.specs.Shape.{plainly}
-use Rattle.entry.proofs.Ends.{ended-at, ended-bad, placeable-quiet, placeable-found}
+use Rattle.entry.proofs.Ends.{ended-bad, placeable-at, placeable-bad}
 use native.Mathlib.Omega.{arith}
 use mathlib.Core.Path.{ap, _∙_}
 use borrow.Author.Needs.{needs}
@@ -13,32 +12,28 @@ enum-known-exp : tie.Need-enum-known-exp
 enum-known-exp c = search needs
 
 skip-blank-inline-requires : tie.Need-skip-blank-inline-requires
-skip-blank-inline-requires c κs = (rw (c .before .exp .given .1) at (c .before .before .before .before .pre .0)) .inside
+skip-blank-inline-requires c κs = (rw (c .before .exp .given .1) at (c .before .before .before .before .pre)) .inside
 
 expect-byte-requires : tie.Need-expect-byte-requires
 expect-byte-requires c κs =
     record {
       inside = c .skip-blank-inline .ensures .within;
-      short = (rw (c .before .before .exp .given .1) at (c .before .before .before .before .before .pre .0)) .short;
+      short = (rw (c .before .before .exp .given .1) at (c .before .before .before .before .before .pre)) .short;
     }
 
 enum-known-end : tie.Need-enum-known-end
 enum-known-end c = search needs
 
 without-attribute-requires : tie.Need-without-attribute-requires
-without-attribute-requires c κs = (
-  rw
-      (c .before .before .before .before .before .before .exp .given .1) at (c .before .before .before .before .before
-      .before .before .before .before .pre .1),
-  omega (
-    arith,
-    found-within (c .before .before .before .expect-byte .ensures) (c .before .end .given .1),
-    (rw
-        (c .before .before .before .before .before .before .exp .given .1) at (c .before .before .before .before .before
-        .before .before .before .before .pre .0))
-        .short,
-  ),
-)
+without-attribute-requires c κs =
+    omega (
+      arith,
+      found-within (c .before .before .before .expect-byte .ensures) (c .before .end .given .1),
+      (rw
+          (c .before .before .before .before .before .before .exp .given .1) at (c .before .before .before .before .before
+          .before .before .before .before .pre))
+          .short,
+    )
 
 enum-known-e : tie.Need-enum-known-e
 enum-known-e c = search needs
@@ -51,21 +46,16 @@ enum-known-exp-3 c = search needs
 
 returns : tie.Need-returns
 returns c = c .without-attribute .ensures
-    ∙ ended-at placeableEnd
-    (c .before .before .before .before .before .before .before .before .before .before .args .source .now) _
-    placeable-quiet
-    (ap plainly (c .before .before .before .before .before .before .before .exp .given .1))
-    (placeable-found (c .before .before .before .before .before .skip-blank-inline .ensures)
-    (c .before .before .before .before .expect-byte .ensures))
-    (c .before .before .end .given .1)
+    ∙ (rw (c .before .before .before .before .before .before .before .exp .given .1)
+    (placeable-at _ (c .before .before .before .before .before .skip-blank-inline .ensures)
+    (c .before .before .before .before .expect-byte .ensures) _ (c .before .before .end .given .1)))
 
 returns-2 : tie.Need-returns-2
 returns-2 c =
-    ended-bad placeableEnd
-    (c .before .before .before .before .before .before .before .before .before .args .source .now) _
+    ended-bad _ (c .before .before .before .before .before .before .before .before .before .args .source .now) _
     (ap plainly (c .before .before .before .before .before .before .exp .given .1))
-    (placeable-found (c .before .before .before .before .skip-blank-inline .ensures)
-    (c .before .before .before .expect-byte .ensures))
+    (placeable-bad _ (c .before .before .before .before .skip-blank-inline .ensures)
+    (c .before .before .before .expect-byte .ensures) (c .before .e .given .1))
     (c .before .e .given .1)
 
 returns-3 : tie.Need-returns-3

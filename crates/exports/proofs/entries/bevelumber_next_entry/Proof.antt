@@ -1,7 +1,6 @@
 -- `bevelumber_next_entry` meets its contract: it tells what the call from a place answers.
 use borrow.Author.Needs.{needs}
-use mathlib.Core.Path.{_∙_, ap}
-use Rattle.syntax.specs.Next.{numberOf, valueOf}
+use mathlib.Core.Path.{_∙_}
 use Rattle.exports.proofs.entries.bevelumber_next_entry.Statement.{statement}
 use Rattle.exports.proofs.entries.bevelumber_next_entry.Tie as tie
 
@@ -20,8 +19,8 @@ same-length c = search needs
 returns : tie.Need-returns
 returns c =
     let did = c .before .before .before .before .next-entry .ensures in
-    let told = c .number .ensures ∙ ap numberOf (did .answers) in
-    let gave = c .before .value .ensures ∙ ap (valueOf _) (did .answers) in
+    let told = c .number .ensures ∙ did .answers .number in
+    let gave = c .before .value .ensures ∙ did .answers .value in
     (told, (gave, (did .place, did .tree)))
 
 pub bevelumber-next-entry-spec : {M : Type 1} → statement M

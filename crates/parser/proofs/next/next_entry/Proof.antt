@@ -1,6 +1,7 @@
 -- `next::next_entry` meets its contract.
 use mathlib.Core.Path.{ap, _∙_}
 use Rattle.syntax.specs.Next.{placeAfter}
+use Rattle.laws.specs.Answered.{told}
 use borrow.Author.Needs.{needs}
 use Rattle.parser.proofs.next.next_entry.Statement.{statement}
 use Rattle.parser.proofs.next.next_entry.Tie as tie
@@ -17,7 +18,7 @@ same-length c = search needs
 returns : tie.Need-returns
 returns c =
     record {
-      answers = c .before .before .before .answer .ensures .0;
+      answers = told _ (c .before .before .before .answer .ensures .0);
       place = c .place-after .ensures ∙ ap (placeAfter _ _) (c .before .before .before .answer .ensures .0);
       tree = c .before .before .before .answer .ensures .1;
     }

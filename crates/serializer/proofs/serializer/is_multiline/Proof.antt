@@ -10,7 +10,6 @@ use Rattle.syntax.specs.Serializer.{nodes, isMultiline}
 use Rattle.tree.specs.Walk.{kindAt, nodeAt, after, innerAt, Open}
 use Rattle.tree.proofs.Sizes.{sizes}
 use Rattle.tree.proofs.Walk.{at-count, inside-count, enter}
-use Rattle.tree.proofs.Words.{after-word}
 use Rattle.serializer.proofs.Patterns.{element-next, multiline-first, multiline-later, multiline-none}
 use Rattle.serializer.proofs.serializer.is_multiline.Statement.{statement}
 use Rattle.serializer.proofs.serializer.is_multiline.Tie as tie
@@ -62,22 +61,24 @@ returns c =
     (omega (arith, c .before .before .before .kind-at .ensures, c .before .before .if1 .taken))
     (sym (c .before .is-multiline-element .ensures) ∙ c .if2 .taken))
 
-after-node-requires : tie.Need-after-node-requires Inv-loop μ-loop
-after-node-requires c κs = tt
+after-element-requires : tie.Need-after-element-requires Inv-loop μ-loop
+after-element-requires c κs =
+    let e =
+    element-next (c .before .before .before .before .loop .inv .0)
+    (omega (arith, c .before .before .before .kind-at .ensures, c .before .before .if1 .taken)) .follows .child in (
+      c .before .before .before .before .before .before .before .pre .0,
+      record { boundary = _; kind = e .kind; at = e .at },
+    )
 
 loop-less : tie.Need-loop-less Inv-loop μ-loop
 unfolding after
 loop-less c =
     let tree = c .before .before .before .before .before .before .before .before .args .tree .now in
     let fit = sizes tree (c .before .before .before .before .before .before .before .before .pre .0) in
-    let g =
-    element-next (c .before .before .before .before .before .loop .inv .0)
-    (omega (arith, c .before .before .before .before .kind-at .ensures, c .before .before .before .if1 .taken)) in
     omega (
       arith,
       inside-count tree fit (c .before .before .before .before .before .loop .inv .0 .here),
-      c .after-node .ensures,
-      after-word tree fit (g .follows .child .at),
+      c .after-element .ensures,
     )
 
 loop-again : tie.Need-loop-again Inv-loop μ-loop
@@ -87,10 +88,7 @@ loop-again c =
     let l : kindAt (marksIn tree) (c .before .before .before .before .before .loop .next) < Kind.closing 0 =
     omega (arith, c .before .before .before .before .kind-at .ensures, c .before .before .before .if1 .taken) in
     let g = element-next (c .before .before .before .before .before .loop .inv .0) l in
-    rw
-    (c .after-node .ensures
-    ∙ after-word tree (sizes tree (c .before .before .before .before .before .before .before .before .pre .0))
-    (g .follows .child .at)) (
+    rw (c .after-element .ensures) (
       record { state = g .state; least = g .least; here = g .follows .on },
       c .before .before .before .before .before .loop .inv .1
           ∙ multiline-later (c .before .before .before .before .before .loop .inv .0) source l
@@ -115,7 +113,7 @@ is-multiline-spec =
     kind-at-requires
     is-multiline-element-requires
     returns
-    after-node-requires
+    after-element-requires
     loop-less
     loop-again
     returns-2)

@@ -12,14 +12,14 @@ use Rattle.entry.proofs.expression.get_inline_expression.Reads as get-i
 use Rattle.entry.proofs.marks.insert.Reads as insert-reads
 use borrow.Author.Needs.{needs}
 use native.Mathlib.Omega.{arith}
-use mathlib.Core.Path.{refl, ap, _∙_}
+use mathlib.Core.Path.{ap, _∙_}
 use Prim.Native.Nat.{ℕ, _-_}
 use mathlib.Core.Bool.{false}
 use Rattle.syntax.specs.Expression.{level}
 use Rattle.laws.specs.Bounds.Expression.{level-bounds, inline-expression-bounds, variants-bounds}
 use Rattle.entry.specs.Shape.{plainly}
 use Rattle.entry.proofs.Shapes.{kept, kept-at, closable, closed-long, plain-did, shaped}
-use Rattle.entry.proofs.Selects.{did-alone, did-refused, did-select, not-expression, expression-stop, plain-shape, select-attribute}
+use Rattle.entry.proofs.Selects.{did-alone, did-refused, did-select, not-expression, expression-stop}
 
 abbrev pub env : ℕ → lts.Claims
 env t = (
@@ -199,22 +199,20 @@ pub returns-2 : (t : ℕ) → lts.Need-returns-2 (env t) (get-expression-at t) o
 returns-2 t c = let v = rw (c .before .end .given .1) at (c .before .before .before .after-inline .ensures) in
     let f =
     shaped _ (c .before .before .before .before .before .before .before .before .before .get-inline-expression .ensures)
-    (c .before .before .before .before .before .r .given .1) in (
-      did-alone
-          (level
-          (c .before .before .before .before .before .before .before .before .before .before .before .before .before .args
-          .left))
-          (c .before .before .before .before .before .before .before .before .before .before .before .before .before .args
-          .source .now)
-          (f .found) (v .0)
-          (v .3
-          (level
-          (c .before .before .before .before .before .before .before .before .before .before .before .before .before .args
-          .left))
-          _ _
-          (f .shape)),
-      v .2,
-    )
+    (c .before .before .before .before .before .r .given .1) in
+    did-alone
+    (level
+    (c .before .before .before .before .before .before .before .before .before .before .before .before .before .args
+    .left))
+    (c .before .before .before .before .before .before .before .before .before .before .before .before .before .args
+    .source .now)
+    (f .found) (f .shape) (v .0)
+    (v .2
+    (level
+    (c .before .before .before .before .before .before .before .before .before .before .before .before .before .args
+    .left))
+    _ _
+    (f .shape))
 
 pub same-length-3 : (t : ℕ) → lts.Need-same-length-3 (env t) (get-expression-at t) own.Post
 same-length-3 t c = closed-long _ _ (c .before .before .before .close .ensures)
@@ -236,27 +234,25 @@ returns-3 t c = let v =
     .before .before .before .before .before .before .before .before .get-inline-expression .ensures)
     (c .before .before .before .before .before .before .before .before .before .before .before .before .before .before
     .before .before .before .before .r .given .1) in
-    rw (c .expressed .ensures, plain-shape, select-attribute) (
-      did-select
-          (level
-          (c .before .before .before .before .before .before .before .before .before .before .before .before .before .before
-          .before .before .before .before .before .before .before .before .before .before .before .before .args .left))
-          (c .before .before .before .before .before .before .before .before .before .before .before .before .before .before
-          .before .before .before .before .before .before .before .before .before .before .before .before .args .source .now)
-          (f .found) (omega (arith, v .0))
-          (v .2
-          (level
-          (c .before .before .before .before .before .before .before .before .before .before .before .before .before .before
-          .before .before .before .before .before .before .before .before .before .before .before .before .args .left))
-          _ _
-          (f .shape))
-          (c .before .before .before .before .before .before .before .before .before .before .before .insert .ensures .1)
-          (rw
-          (c .before .before .before .before .before .before .before .before .before .before .before .insert
-          .ensures .0) at (c .before .before .before .before .before .before .before .get-variants .ensures))
-          (c .before .before .before .close .ensures),
-      refl,
-    )
+    rw (c .expressed .ensures)
+    (did-select
+    (level
+    (c .before .before .before .before .before .before .before .before .before .before .before .before .before .before
+    .before .before .before .before .before .before .before .before .before .before .before .before .args .left))
+    (c .before .before .before .before .before .before .before .before .before .before .before .before .before .before
+    .before .before .before .before .before .before .before .before .before .before .before .before .args .source .now)
+    (f .found) (omega (arith, v .0))
+    (v .2
+    (level
+    (c .before .before .before .before .before .before .before .before .before .before .before .before .before .before
+    .before .before .before .before .before .before .before .before .before .before .before .before .args .left))
+    _ _
+    (f .shape))
+    (c .before .before .before .before .before .before .before .before .before .before .before .insert .ensures .1)
+    (rw
+    (c .before .before .before .before .before .before .before .before .before .before .before .insert
+    .ensures .0) at (c .before .before .before .before .before .before .before .get-variants .ensures))
+    (c .before .before .before .close .ensures))
 
 pub same-length-4 : (t : ℕ) → lts.Need-same-length-4 (env t) (get-expression-at t) own.Post
 same-length-4 t c = c .before .before .before .before .before .before .before .before .before .get-inline-expression .ensures .wrote .long
@@ -265,19 +261,17 @@ pub returns-4 : (t : ℕ) → lts.Need-returns-4 (env t) (get-expression-at t) o
 returns-4 t c = let v = rw (c .before .e .given .1) at (c .before .before .before .after-inline .ensures) in
     let f =
     shaped _ (c .before .before .before .before .before .before .before .before .before .get-inline-expression .ensures)
-    (c .before .before .before .before .before .r .given .1) in (
-      did-refused
-          (level
-          (c .before .before .before .before .before .before .before .before .before .before .before .before .before .args
-          .left))
-          (c .before .before .before .before .before .before .before .before .before .before .before .before .before .args
-          .source .now)
-          (f .found)
-          (v .1
-          (level
-          (c .before .before .before .before .before .before .before .before .before .before .before .before .before .args
-          .left))
-          _ _
-          (f .shape)),
-      refl,
-    )
+    (c .before .before .before .before .before .r .given .1) in
+    did-refused
+    (level
+    (c .before .before .before .before .before .before .before .before .before .before .before .before .before .args
+    .left))
+    (c .before .before .before .before .before .before .before .before .before .before .before .before .before .args
+    .source .now)
+    (f .found)
+    (v .1
+    (level
+    (c .before .before .before .before .before .before .before .before .before .before .before .before .before .args
+    .left))
+    _ _
+    (f .shape))

@@ -19,8 +19,8 @@ returns c =
 mul-width : tie.Need-mul-width
 mul-width c = search needs
 
-put-spaces-requires : tie.Need-put-spaces-requires
-put-spaces-requires c κs = search needs
+put-indent-requires : tie.Need-put-indent-requires
+put-indent-requires c κs = search needs
 
 add-t7 : tie.Need-add-t7
 add-t7 c = search needs
@@ -29,8 +29,8 @@ same-length : tie.Need-same-length
 same-length c = search needs
 
 returns-2 : tie.Need-returns-2
-returns-2 c = wrote-spaces (omega arith) (c .before .before .put-spaces .ensures) refl
+returns-2 c = wrote-spaces (omega arith) (c .before .before .put-indent .ensures) refl
 
 pub write-indent-spec : {M : Type 1} → statement M
 write-indent-spec =
-    tie.close (tie.spec returns mul-width put-spaces-requires add-t7 same-length returns-2)
+    tie.close (tie.spec returns mul-width put-indent-requires add-t7 same-length returns-2)
