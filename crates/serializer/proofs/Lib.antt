@@ -1,7 +1,6 @@
 -- What the proofs of the functions share.
 pub mod Pieces
 pub mod Texts
-pub mod Skips
 pub mod Comments
 pub mod Patterns
 pub mod References

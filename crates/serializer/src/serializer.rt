@@ -21,7 +21,6 @@ ghost use Rattle.serializer.specs.Comment.{CommentAt, lineOf};
 ghost use Rattle.serializer.specs.Serialize.{oneIf, lower, Ready, Went, Done, Begun, patternIn, selectIn};
 ghost use Rattle.serializer.specs.Serialize.{argumentsIn, patternStart, openingBraces, closingBraces, bracesOf};
 ghost use Rattle.serializer.specs.Serialize.{sigil, quoted, referenceOf, keyAt, argumentName, Named};
-use crate::walk::after_node;
 use crate::walk::kind_at;
 use crate::walk::text_at;
 use crate::writer::TextWriter;
@@ -38,6 +37,7 @@ use syntax::kind::STRING;
 use syntax::kind::TERM_REFERENCE;
 use syntax::kind::TEXT;
 use syntax::kind::VARIABLE;
+use tree::marks::after_node;
 
 // Where the serializer stands: in the text, and in the marks.
 pub struct Serializer {

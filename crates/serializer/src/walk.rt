@@ -7,8 +7,7 @@ ghost use Rattle.utf8.specs.Utf8.{isBoundary};
 ghost use Rattle.syntax.specs.Layout.{count, marksIn};
 ghost use Rattle.syntax.specs.Tests.{sizesFit};
 ghost use Rattle.syntax.specs.Serializer.{textOf};
-ghost use Rattle.tree.specs.Walk.{kindAt, nodeAt, after, NodeAt, TextAt};
-use syntax::kind::CLOSING;
+ghost use Rattle.tree.specs.Walk.{kindAt, nodeAt, TextAt};
 use syntax::layout::SIZES;
 
 pub fn kind_at(tree: &[u32], mark: usize) -> u32
@@ -29,23 +28,4 @@ pub fn text_at<'a>(source: &'a [u8], tree: &[u32], mark: usize) -> &'a [u8]
     let start = tree[places + mark] as usize;
     let end = tree[places + (mark + 1)] as usize;
     &source[start..end]
-}
-
-// The mark after the node that starts at a mark.
-pub fn after_node(tree: &[u32], mark: usize) -> usize
-    requires { ⌜ sizesFit (now tree) ≡ true ⌝ }
-    requires { ⌜ NodeAt (marksIn (now tree)) mark ⌝ }
-    ensures { λ r. ⌜ r ≡ after (marksIn (now (tree .entry))) mark ⌝ }
-{
-    let mut depth: usize = 1;
-    let mut next = mark + 1;
-    while 0 < depth {
-        if kind_at(tree, next) < CLOSING {
-            depth += 1;
-        } else {
-            depth -= 1;
-        }
-        next += 1;
-    }
-    next
 }
