@@ -1,4 +1,6 @@
 // Prints where each entry of a source on standard input starts and where its reading stopped.
+#![tactic(auto)]
+
 ghost use Rattle.std.specs.Prelude.{◌≤◌, length};
 ghost use Rattle.entries.specs.Listed.{max_source, Lent, Listed};
 

@@ -1,4 +1,6 @@
 // One entry: its bytes are read into marks, or into an error.
+#![tactic(auto)]
+
 pub mod border;
 mod bytes;
 mod comment;

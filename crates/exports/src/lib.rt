@@ -1,4 +1,6 @@
 // The C functions of the static library: the calls on numbers and slices, a slice as its pointer and then its length.
+#![tactic(auto)]
+
 ghost use Rattle.std.specs.Prelude.{◌≡◌, length};
 ghost use Rattle.syntax.specs.Answer.{number_of, value_of};
 ghost use Rattle.syntax.specs.Reading.{read_answer, tree_after, errors_after};

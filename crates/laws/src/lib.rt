@@ -1,1 +1,2 @@
 // The laws of the definitions stand in specs/.
+#![tactic(auto)]

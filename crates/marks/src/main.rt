@@ -1,4 +1,6 @@
 // Prints the listing of a source on standard input: its marks and its errors.
+#![tactic(auto)]
+
 ghost use Rattle.std.specs.Prelude.{◌≤◌, length};
 ghost use Rattle.marks.specs.Report.{max_source, Lent, Reported};
 

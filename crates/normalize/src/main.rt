@@ -1,4 +1,6 @@
 // Writes the normal text of a source on standard input. Junk is written as it stands, so that nothing is lost.
+#![tactic(auto)]
+
 ghost use Rattle.normalize.specs.Normal.{Normalized};
 
 use libc::{STDERR_FILENO, STDIN_FILENO, STDOUT_FILENO};

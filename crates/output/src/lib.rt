@@ -1,4 +1,6 @@
 // Text into a lent output, with its count: a byte is stored where there is room for it, and counted everywhere. So with no output
 // a text is counted only. Each function answers the count after what it put.
+#![tactic(auto)]
+
 pub mod number;
 pub mod text;

@@ -1,4 +1,6 @@
 // The parser: a file is read, entry by entry, into marks and errors.
+#![tactic(auto)]
+
 mod junk;
 mod layout;
 mod list;

@@ -1,5 +1,7 @@
 // A thin reader over a borrowed source, as the Rust's Parser is: it answers, call by call, where the next entry starts and
 // where its reading stopped. `next_entry` does the work; what is here is proved by hand.
+#![tactic(auto)]
+
 ghost use Rattle.std.specs.Prelude.{◌≡◌, length};
 ghost use Rattle.syntax.specs.Next.{first_place, next_answer, Answered, NextTree};
 ghost use Rattle.reader.specs.Moved.{moved};

@@ -1,4 +1,6 @@
 // The serializer: a tree's marks are written as normal text.
+#![tactic(auto)]
+
 mod message;
 mod resource;
 mod serializer;

@@ -1,1 +1,2 @@
 // The grammar of the standard stands in specs/.
+#![tactic(auto)]

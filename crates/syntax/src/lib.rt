@@ -1,5 +1,7 @@
 // The types that the calls of the parser and the serializer answer with, the numbers that they share, and tests on a byte. What is
 // right is defined in specs/.
+#![tactic(auto)]
+
 pub mod answer;
 pub mod bytes;
 pub mod errors;

@@ -1,4 +1,5 @@
 // UTF-8: whether bytes are well formed, and where a character starts.
+#![tactic(auto)]
 
 ghost use Rattle.std.specs.Prelude.{◌≡◌, [], ◌∷◌, ◌+◌, ◌≤◌, ◌<◌, length, drop, replicate};
 ghost use Rattle.utf8.specs.Utf8.{◌‥◌, fits, whole, width, first_ill_formed, FoundFrom, is_boundary, checked_of};

@@ -1,6 +1,8 @@
 // Replays stored calls: each stored source is read again, and the answer and every word of both slices are compared with what the
 // Rust gave; each stored tree is written again, and the answer and every byte of the output compared. The words of the command line
 // name the files, which compare/vectors.py and compare/texts.py make.
+#![tactic(auto)]
+
 ghost use Rattle.std.specs.Prelude.{◌≤◌, ◌≡◌, length};
 ghost use Rattle.vectors.specs.Agreement.{over, differing};
 

@@ -1,0 +1,11 @@
+-- `utf8::check` meets its contract. The loop's invariant: what the definition finds in the source it finds from `at` on. Assumes nothing.
+use Prim.Native.Nat.{◌-◌}
+use lib.ListN.{length}
+use Rattle.utf8.specs.Utf8.{FoundFrom}
+use Rattle.utf8.proofs.check.Given as goal
+
+abbrev pub invariant-loop-at : goal.invariant-loop-at
+invariant-loop-at l = FoundFrom l.source l.at
+
+abbrev pub decreases-loop-at : goal.decreases-loop-at
+decreases-loop-at l = length l.source - l.at
