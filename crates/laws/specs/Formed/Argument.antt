@@ -69,9 +69,7 @@ module _ {n : ℕ} {sub : Inside} (law : InsideFormed n sub) where
 
   named-made : (names : List (List ℕ)) (i j : ℕ) (s : List ℕ) → edge s i ≡ true → edge s j ≡ true
       → Made n 25 (by_names names) by_names s (named_argument sub names i j s)
-  named-made names i j s e f = from names (λ q z. unfold named_argument ◌>>◌ in
-      (pick (Made n 25 (at q) by_names s) (is_among (take i s) names) _ _ (λ h. stopped)
-      (λ h. next-made (argument q z) (λ _. separator-makes (take i s ∷ names)))))
+  named-made names i j s e f = from names argued
     where
       argument : (q : ℕ) → step 25 q 26 ≡ some 1
           → Made n 25 (at q) (λ _. at 1) s (wrap 26 (after (text_node 9 0 i) j (named_value sub (drop j s))))
@@ -79,6 +77,11 @@ module _ {n : ℕ} {sub : Inside} (law : InsideFormed n sub) where
           (wrap-made 26 refl z (zero-add n)
           (after-made j f (by (run-text (edge s) 9 0 i refl refl refl e (omega arith)))
           (named_value-makes.on (drop j s))))
+
+      argued : (q : ℕ) → step 25 q 26 ≡ some 1 → Made n 25 (at q) by_names s (named_argument sub names i j s)
+      argued q z = unfold named_argument ◌>>◌ in
+          (pick (Made n 25 (at q) by_names s) (is_among (take i s) names) _ _ (λ h. stopped)
+          (λ h. next-made (argument q z) (λ _. separator-makes (take i s ∷ names))))
 
       from : {o : Out (List (List ℕ))} (names : List (List ℕ))
           → ((q : ℕ) → step 25 q 26 ≡ some 1 → Made n 25 (at q) by_names s o) → Made n 25 (by_names names) by_names s o

@@ -12,7 +12,6 @@ use Rattle.syntax.specs.Core.{Entry, as_comment, get_entry, to_next_entry, line_
 use Rattle.laws.specs.Bytes.{by_case, clash, pick}
 use Rattle.laws.specs.Answers.{Holds, TurnHolds, loop-holds}
 use Rattle.laws.specs.Lines.{starts-later, starts-add, eol-starts}
-use Rattle.laws.specs.Bounds.{used}
 use Rattle.laws.specs.Bounds.Comment.{is_over}
 use Rattle.laws.specs.Bounds.Pattern.{InsideBounds}
 use Rattle.laws.specs.Lines.Lands.{Lands, Stays, stays-stay, block-starts, entry-lands}
