@@ -15,7 +15,7 @@ import sys
 
 CAMEL = re.compile(r"(?<![A-Za-z0-9_'])[a-z][a-z0-9]*(?:[A-Z][a-z0-9]*)+(?![A-Za-z0-9_'])")
 WORD = re.compile(r"(?<![A-Za-z0-9_'])[a-z][a-z0-9_]*(?![A-Za-z0-9_'])")
-STRING = re.compile(r'b?"(?:[^"\\]|\\.)*"')
+STRING = re.compile(r'b?"(?:[^"\\\n]|\\.)*"')
 # Names that a respelled one would fall together with in their file: these are renamed first.
 FIRST = {
     "crates/standard/specs/Arguments.antt": {"same_bytes": "same-flip", "named_value": "literal-named"},
@@ -49,7 +49,8 @@ def main(argv):
     for path in files(top):
         text = first = open(path, encoding="utf-8").read()
         for old, new in FIRST.get(os.path.relpath(path, top), {}).items():
-            first = re.sub(rf"(?<![A-Za-z0-9_'-]){old}(?![A-Za-z0-9_'-])", new, first)
+            if old in {snake(m.group()) for m in CAMEL.finditer(text)}:
+                first = re.sub(rf"(?<![A-Za-z0-9_'-]){old}(?![A-Za-z0-9_'-])", new, first)
         bare = outside_strings(first, lambda t: t)
         found = {m.group() for m in CAMEL.finditer(STRING.sub("", bare))}
         own |= found

@@ -20,7 +20,7 @@ fn is_escaped(b: u8) -> bool
 // An escape, whose backslash stands here.
 fn skip_escape(source: &[u8], at: usize) -> Place
     requires { Inside source.now (at + 1) }
-    ensures { Turned source.now at (escapeTurn (drop at source.now) (drop (at + 1) source.now)) result }
+    ensures { Turned source.now at (escape_turn (drop at source.now) (drop (at + 1) source.now)) result }
 {
     let next = at + 1;
     if next == source.len() {

@@ -76,10 +76,10 @@ module _ (d : Dialect) where
   -- MessageReference = Identifier AttributeAccessor?
   -- Departure blank-before-dot: (blank? AttributeAccessor)?
   unfoldable pub MessageReference : Parser Form
-  MessageReference = in-node Kind.messageReference do
+  MessageReference = in-node Kind.message_reference do
     Identifier Kind.identifier
     opt tt (given d.blank-before-dot (blank? >> AttributeAccessor) / AttributeAccessor)
-    pure messageReference
+    pure message_reference
 
   -- block_text = blank_block blank_inline indented_char inline_text?
   -- Departure cr-continues: / blank_block CR !LF inline_text?
@@ -100,12 +100,12 @@ module _ (d : Dialect) where
 
     -- TermReference = "-" Identifier AttributeAccessor? CallArguments?
     unfoldable pub TermReference : Parser Form
-    TermReference = in-node Kind.termReference do
+    TermReference = in-node Kind.term_reference do
       minus
       Identifier Kind.identifier
       attribute ← opt false (AttributeAccessor >> pure true)
       opt tt sub.CallArguments
-      pure (termReference attribute)
+      pure (term_reference attribute)
 
     -- InlineExpression = StringLiteral / NumberLiteral / FunctionReference / MessageReference / TermReference /
     -- VariableReference / inline_placeable
@@ -117,7 +117,7 @@ module _ (d : Dialect) where
         / MessageReference
         / TermReference
         / VariableReference
-        / (sub.inline-placeable >> pure nestedPlaceable)
+        / (sub.inline-placeable >> pure nested_placeable)
 
     -- StringLiteral / NumberLiteral
     -- Departures named-no-minus: without "-"; named-reference: / FunctionReference / MessageReference
@@ -129,7 +129,7 @@ module _ (d : Dialect) where
 
     -- NamedArgument = Identifier blank? ":" blank? (StringLiteral / NumberLiteral)
     unfoldable pub NamedArgument : Parser Arg
-    NamedArgument = in-node Kind.namedArgument do
+    NamedArgument = in-node Kind.named_argument do
       name ← Identifier Kind.identifier
       blank?
       colon
@@ -169,7 +169,7 @@ module _ (d : Dialect) where
     -- Patterns
 
     unfoldable pub raw-placeable : Parser Raw
-    raw-placeable s = rawPlaceable (sub.inline-placeable s)
+    raw-placeable s = raw_placeable (sub.inline-placeable s)
 
     -- block_placeable = blank_block blank_inline? inline_placeable
     unfoldable pub block-placeable : Parser (List Raw)
@@ -188,7 +188,7 @@ module _ (d : Dialect) where
         / block-placeable
 
     unfoldable pub dedented-pattern : Parser (Unit {0})
-    dedented-pattern s = inPattern d s (some PatternElement s)
+    dedented-pattern s = in_pattern d s (some PatternElement s)
 
     -- Pattern = PatternElement+
     -- Rules A4 to A7. Departure block-commits: !block-brace behind it
@@ -210,7 +210,7 @@ module _ (d : Dialect) where
 
     -- DefaultVariant = line_end blank? "*" VariantKey blank_inline? Pattern
     unfoldable pub DefaultVariant : Parser (Unit {0})
-    DefaultVariant = in-node Kind.defaultVariant do
+    DefaultVariant = in-node Kind.default_variant do
       line-end
       blank?
       star
@@ -314,7 +314,7 @@ module _ (d : Dialect) where
   unfoldable pub CommentLine : Parser Item
   CommentLine = do
     l ← sigil
-    void (space >> as-text Kind.commentLine (many comment-char)) / A1 d
+    void (space >> as-text Kind.comment_line (many comment-char)) / A1 d
     line-end
     pure (comment l)
 
@@ -324,13 +324,13 @@ module _ (d : Dialect) where
     -- from the definition of that reading
     unfoldable pub swallowing-junk : Parser Item
     swallowing-junk s =
-        elim (getEntry (level n) s) [
+        elim (get_entry (level n) s) [
           | ok e ms k ↦ fails
-          | bad f k ↦ let j = junkEnd k s in fits junk (textNode Kind.junk 0 j) j
+          | bad f k ↦ let j = junk_end k s in fits junk (text_node Kind.junk 0 j) j
           | deep k ↦ fails
         ]
 
-    -- Junk = junk_line (!"#" !"-" ![a-zA-Z] junk_line)*
+    -- Junk = junk_line (!"#" !"-" ![a-z_a-Z] junk_line)*
     -- Departure junk-swallows: swallowing-junk / junk-lines
     unfoldable pub Junk : Parser Item
     Junk = given d.junk-swallows swallowing-junk / junk-lines

@@ -52,9 +52,9 @@ any-char = one (λ b. true)
 unfoldable pub special-quoted-char : Parser (Unit {0})
 special-quoted-char = quote / backslash
 
--- unicode_escape = "\u" [0-9a-fA-F]{4} / "\U" [0-9a-fA-F]{6}
+-- unicode_escape = "\u" [0-9a-f_a-F]{4} / "\U" [0-9a-f_a-F]{6}
 unfoldable pub unicode-escape : Parser (Unit {0})
-unicode-escape = (backslash >> letter-u >> times 4 (one isHex)) / (backslash >> letter-U >> times 6 (one isHex))
+unicode-escape = (backslash >> letter-u >> times 4 (one is_hex)) / (backslash >> letter-U >> times 6 (one is_hex))
 
 -- special_text_char = "{" / "}"
 unfoldable pub special-text-char : Parser (Unit {0})
@@ -72,9 +72,9 @@ indented-char = text-char but open-bracket but star but dot
 unfoldable pub comment-char : Parser (Unit {0})
 comment-char = any-char but line-end
 
--- Identifier = [a-zA-Z] [a-zA-Z0-9_-]*. A text of the kind; answers its bytes
+-- Identifier = [a-z_a-Z] [a-z_a-Z0-9_-]*. A text of the kind; answers its bytes
 unfoldable pub Identifier : ℕ → Parser (List ℕ)
-Identifier kind = as-text kind (one isLetter >> many (one isNamePart))
+Identifier kind = as-text kind (one is_letter >> many (one is_name_part))
 
 -- digits ("." digits)?
 unfoldable pub unsigned : Parser (Unit {0})
@@ -98,7 +98,7 @@ unfoldable pub VariantKey : Parser (Unit {0})
 VariantKey = do
   open-bracket
   blank?
-  void (NumberLiteral Kind.numberKey) / void (Identifier Kind.identifierKey)
+  void (NumberLiteral Kind.number_key) / void (Identifier Kind.identifier_key)
   blank?
   close-bracket
 
@@ -149,7 +149,7 @@ junk-line = do
   LF / eof
 
 unfoldable pub entry-start : Parser (Unit {0})
-entry-start = hash / minus / one isLetter
+entry-start = hash / minus / one is_letter
 
 -- Junk = junk_line (!"#" !"-" ![a-z_a-Z] junk_line)*
 unfoldable pub junk-lines : Parser Item
