@@ -2,9 +2,9 @@
 ghost use Rattle.core.specs.Prelude.{◌≡◌};
 ghost use Rattle.entry.specs.Border.{readable, DidTry, roomy, DidPut, Skipped};
 
-use crate::core::get_entry;
 use crate::helper::skip_blank_block;
 use crate::marks::put;
+use crate::parser_core::get_entry;
 use syntax::errors::ParserError;
 use syntax::layout::{MARKS_A_BYTE, SIZES, TREE_WORDS_A_BYTE};
 use syntax::limits::MAX_LENGTH;

@@ -21,16 +21,16 @@ ghost use Rattle.entry.specs.Argument.{name_of, name_in, positional_at, EndedNam
 ghost use Rattle.entry.specs.Shape.{is_argument, start_of, non_literal_start, Followed, followed_by, is_arrow};
 ghost use Rattle.entry.specs.Shape.{alone_at, selector_at, content_at, telling};
 
-use crate::core::{
-    NextVariant, end_placeable, get_attribute_accessor, get_variant_key, needs_value, next_variant,
-    skip_after, variant_kind,
-};
 use crate::errors::error;
 use crate::helper::{
     Place, expect_byte, get_identifier, get_identifier_unchecked, get_number_literal, is_callee,
     is_current_byte, is_identifier_start, skip_blank, skip_blank_inline, skip_eol, take_byte_if,
 };
 use crate::marks::{Read, close, insert, put, put_found, put_text};
+use crate::parser_core::{
+    NextVariant, end_placeable, get_attribute_accessor, get_variant_key, needs_value, next_variant,
+    skip_after, variant_kind,
+};
 use crate::pattern::{TextTurn, finish, start, text_turn, with_placeable};
 use crate::string::skip_string_literal;
 use syntax::bytes::{is_ascii_alphabetic, is_ascii_digit};
@@ -44,7 +44,7 @@ use syntax::layout::SIZES;
 
 // What was read, of ast::InlineExpression and ast::Expression: of a message reference, where its identifier ends; of a
 // message or term reference, whether it has an attribute.
-#[derive(Drop)]
+#[derive(Clone, Copy)]
 pub enum Expression {
     StringLiteral,
     NumberLiteral,
@@ -76,7 +76,7 @@ pub fn expressed(r: Read, exp: Expression) -> ReadExpression
 
 // ---- get_expression
 
-#[cycle(argument_arguments_get_call_arguments_get_expression_get_inline_expression_get_pattern_get_placeable_get_variants_reference_term_variant)]
+#[cycle(placeable)]
 pub fn get_expression(
     source: &[u8],
     at: usize,
@@ -265,7 +265,7 @@ fn non_literal(b: u8, letter: bool) -> Start
     Start::Nothing
 }
 
-#[cycle(argument_arguments_get_call_arguments_get_expression_get_inline_expression_get_pattern_get_placeable_get_variants_reference_term_variant)]
+#[cycle(placeable)]
 pub fn get_inline_expression(
     source: &[u8],
     at: usize,
@@ -354,7 +354,7 @@ pub fn get_variable_reference(
 }
 
 // A term reference, from its '-' on.
-#[cycle(argument_arguments_get_call_arguments_get_expression_get_inline_expression_get_pattern_get_placeable_get_variants_reference_term_variant)]
+#[cycle(placeable)]
 pub fn term(
     source: &[u8],
     at: usize,
@@ -384,7 +384,7 @@ pub fn term(
 }
 
 // A function or message reference, from its first letter on.
-#[cycle(argument_arguments_get_call_arguments_get_expression_get_inline_expression_get_pattern_get_placeable_get_variants_reference_term_variant)]
+#[cycle(placeable)]
 pub fn reference(
     source: &[u8],
     at: usize,
@@ -459,7 +459,7 @@ pub fn check_callee(source: &[u8], start: usize, end: usize, r: Read) -> Read
 
 // ---- get_call_arguments
 
-#[cycle(argument_arguments_get_call_arguments_get_expression_get_inline_expression_get_pattern_get_placeable_get_variants_reference_term_variant)]
+#[cycle(placeable)]
 pub fn get_call_arguments(
     source: &[u8],
     at: usize,
@@ -515,7 +515,7 @@ pub enum ReadArgument {
     Deep(usize),
 }
 
-#[cycle(argument_arguments_get_call_arguments_get_expression_get_inline_expression_get_pattern_get_placeable_get_variants_reference_term_variant)]
+#[cycle(placeable)]
 pub fn arguments(
     source: &[u8],
     at: usize,
@@ -560,7 +560,7 @@ pub enum Name {
 }
 
 // An argument after n marks, of which those from `named` on are of the named arguments just before it.
-#[cycle(argument_arguments_get_call_arguments_get_expression_get_inline_expression_get_pattern_get_placeable_get_variants_reference_term_variant)]
+#[cycle(placeable)]
 pub fn argument(
     source: &[u8],
     at: usize,
@@ -750,7 +750,7 @@ fn same_bytes(source: &[u8], a: usize, b: usize, c: usize, d: usize) -> bool
 }
 
 // From '{' through '}'.
-#[cycle(argument_arguments_get_call_arguments_get_expression_get_inline_expression_get_pattern_get_placeable_get_variants_reference_term_variant)]
+#[cycle(placeable)]
 pub fn get_placeable(
     source: &[u8],
     at: usize,
@@ -771,7 +771,7 @@ pub fn get_placeable(
     end_placeable(source, exp)
 }
 
-#[cycle(argument_arguments_get_call_arguments_get_expression_get_inline_expression_get_pattern_get_placeable_get_variants_reference_term_variant)]
+#[cycle(placeable)]
 pub fn get_variants(
     source: &[u8],
     at: usize,
@@ -804,7 +804,7 @@ pub fn get_variants(
 }
 
 // A variant from its '[' on, with the blanks after it.
-#[cycle(argument_arguments_get_call_arguments_get_expression_get_inline_expression_get_pattern_get_placeable_get_variants_reference_term_variant)]
+#[cycle(placeable)]
 fn variant(
     source: &[u8],
     at: usize,
@@ -832,7 +832,7 @@ fn variant(
     skip_after(source, r)
 }
 
-#[cycle(argument_arguments_get_call_arguments_get_expression_get_inline_expression_get_pattern_get_placeable_get_variants_reference_term_variant)]
+#[cycle(placeable)]
 pub fn get_pattern(
     source: &[u8],
     at: usize,

@@ -4,11 +4,11 @@
 pub mod border;
 mod bytes;
 mod comment;
-mod core;
 mod errors;
 mod expression;
 mod helper;
 mod marks;
+mod parser_core;
 mod pattern;
 mod string;
 mod text;

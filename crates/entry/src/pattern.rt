@@ -24,7 +24,7 @@ use syntax::kind::{PATTERN_END, TEXT, TEXT_END};
 use syntax::layout::SIZES;
 
 // Where in its pattern a text stands.
-#[derive(Drop)]
+#[derive(Clone, Copy)]
 pub enum TextElementPosition {
     InitialLineStart,
     LineStart,
@@ -33,7 +33,7 @@ pub enum TextElementPosition {
 
 // What is known while a pattern is read: the place; the count of marks; where the next text stands; the count of marks
 // through the last element that is not blank; the common indent, or the source's length where there is none yet.
-#[derive(Drop)]
+#[derive(Clone, Copy)]
 pub struct Reading {
     pub at: usize,
     pub n: usize,

@@ -10,7 +10,7 @@ ghost use Rattle.entry.specs.declared.text.TextRead.TheVariants.{Text};
 use crate::helper::skip_blank_inline;
 
 // What ended a text.
-#[derive(Drop)]
+#[derive(Clone, Copy)]
 pub enum TextElementTermination {
     LineFeed,
     Crlf,
@@ -19,7 +19,7 @@ pub enum TextElementTermination {
 }
 
 // A text that was found: its length, whether it is blank, and what ended it.
-#[derive(Drop)]
+#[derive(Clone, Copy)]
 pub struct TextSlice {
     pub size: usize,
     pub blank: bool,

@@ -526,7 +526,7 @@ impl Serializer {
         self
     }
 
-    #[cycle(serialize_call_arguments_serialize_element_serialize_expression_serialize_inline_expression_serialize_pattern_serialize_select_expression_serialize_variant)]
+    #[cycle(pattern)]
     pub fn serialize_pattern(self, source: &[u8], tree: &[u32], output: &mut [u8]) -> Self
         requires { Ready source.now tree.now self (Kind.pattern ∷ []) (pattern_in source.now) }
         ensures { Done tree.now output.old output.new self result (pattern_in source.now) }
@@ -539,7 +539,7 @@ impl Serializer {
         s.end_pattern(start_on_newline)
     }
 
-    #[cycle(serialize_call_arguments_serialize_element_serialize_expression_serialize_inline_expression_serialize_pattern_serialize_select_expression_serialize_variant)]
+    #[cycle(pattern)]
     fn serialize_element(self, source: &[u8], tree: &[u32], output: &mut [u8]) -> Self
         requires { Ready source.now tree.now self elements (element_of source.now) }
         ensures { Done tree.now output.old output.new self result (element_of source.now) }
@@ -553,7 +553,7 @@ impl Serializer {
         written.end_placeable(output, kind)
     }
 
-    #[cycle(serialize_call_arguments_serialize_element_serialize_expression_serialize_inline_expression_serialize_pattern_serialize_select_expression_serialize_variant)]
+    #[cycle(pattern)]
     fn serialize_expression(self, source: &[u8], tree: &[u32], output: &mut [u8]) -> Self
         requires { Ready source.now tree.now self expressions (expression_of source.now) }
         ensures { Done tree.now output.old output.new self result
@@ -565,7 +565,7 @@ impl Serializer {
         self.serialize_inline_expression(source, tree, output)
     }
 
-    #[cycle(serialize_call_arguments_serialize_element_serialize_expression_serialize_inline_expression_serialize_pattern_serialize_select_expression_serialize_variant)]
+    #[cycle(pattern)]
     fn serialize_inline_expression(self, source: &[u8], tree: &[u32], output: &mut [u8]) -> Self
         requires { Ready source.now tree.now self inline (inline_of source.now) }
         ensures { Done tree.now output.old output.new self result (inline_of source.now) }
@@ -596,7 +596,7 @@ impl Serializer {
         called.next()
     }
 
-    #[cycle(serialize_call_arguments_serialize_element_serialize_expression_serialize_inline_expression_serialize_pattern_serialize_select_expression_serialize_variant)]
+    #[cycle(pattern)]
     fn serialize_select_expression(self, source: &[u8], tree: &[u32], output: &mut [u8]) -> Self
         requires { Ready source.now tree.now self (Kind.select ∷ []) (select_in source.now) }
         ensures { Done tree.now output.old output.new self result (select_in source.now) }
@@ -624,7 +624,7 @@ impl Serializer {
         }
     }
 
-    #[cycle(serialize_call_arguments_serialize_element_serialize_expression_serialize_inline_expression_serialize_pattern_serialize_select_expression_serialize_variant)]
+    #[cycle(pattern)]
     fn serialize_variant(self, source: &[u8], tree: &[u32], output: &mut [u8]) -> Self
         requires ready { Ready source.now tree.now self variants (variant_of source.now) }
         requires le_indent { 1 ≤ self.writer.indent }
@@ -635,7 +635,7 @@ impl Serializer {
         written.next()
     }
 
-    #[cycle(serialize_call_arguments_serialize_element_serialize_expression_serialize_inline_expression_serialize_pattern_serialize_select_expression_serialize_variant)]
+    #[cycle(pattern)]
     fn serialize_call_arguments(self, source: &[u8], tree: &[u32], output: &mut [u8]) -> Self
         requires { Ready source.now tree.now self (Kind.arguments ∷ []) (arguments_in source.now) }
         ensures { Done tree.now output.old output.new self result
