@@ -1,5 +1,5 @@
 -- `block_at` meets its contract: in the loop the bytes so far have been stored.
-use Prim.Native.Nat.{◌+◌, ◌≤◌, ◌-◌}
+use Prim.Native.Nat.{◌+◌}
 use native.Mathlib.Omega.{arith}
 use mathlib.Core.Path.{◌≡◌, refl, ap, ◌∙◌}
 use lib.ListN.{set, get_or, take, drop, replicate, length-drop}

@@ -1,11 +1,9 @@
 -- `block_at` meets its contract: in the loop the bytes so far have been stored.
-use Prim.Native.Nat.{◌+◌, ◌≤◌, ◌-◌}
-use native.Mathlib.Omega.{arith}
-use mathlib.Core.Path.{◌≡◌, refl, ap, ◌∙◌}
-use lib.ListN.{set, get_or, take, drop, replicate, length-drop}
+use Prim.Native.Nat.{◌≤◌, ◌-◌}
+use mathlib.Core.Path.{◌≡◌}
+use lib.ListN.{take, drop, replicate}
 use lib.Seq.{sets}
 use Rattle.output.specs.Put.{block}
-use Rattle.output.proofs.Stores.{block_more, block-all}
 use Rattle.output.proofs.text.block_at.Given as goal
 
 abbrev pub invariant-loop-i : goal.invariant-loop-i

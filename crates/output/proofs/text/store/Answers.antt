@@ -1,7 +1,7 @@
 -- `store` meets its contract: in the loop the bytes so far have been stored.
-use Prim.Native.Nat.{◌+◌, ◌≤◌, ◌-◌}
+use Prim.Native.Nat.{◌+◌}
 use native.Mathlib.Omega.{arith}
-use mathlib.Core.Path.{◌≡◌, refl, ap, ◌∙◌}
+use mathlib.Core.Path.{refl, ap, ◌∙◌}
 use lib.ListN.{length, set, get_or, take}
 use lib.Seq.{sets, length-sets, take_all}
 use Rattle.output.proofs.Stores.{sets-one}

@@ -1,10 +1,8 @@
 -- `store` meets its contract: in the loop the bytes so far have been stored.
-use Prim.Native.Nat.{◌+◌, ◌≤◌, ◌-◌}
-use native.Mathlib.Omega.{arith}
-use mathlib.Core.Path.{◌≡◌, refl, ap, ◌∙◌}
-use lib.ListN.{length, set, get_or, take}
-use lib.Seq.{sets, length-sets, take_all}
-use Rattle.output.proofs.Stores.{sets-one}
+use Prim.Native.Nat.{◌≤◌, ◌-◌}
+use mathlib.Core.Path.{◌≡◌}
+use lib.ListN.{length, take}
+use lib.Seq.{sets}
 use Rattle.output.proofs.text.store.Given as goal
 
 abbrev pub invariant-loop-i : goal.invariant-loop-i

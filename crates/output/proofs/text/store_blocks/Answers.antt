@@ -1,7 +1,7 @@
 -- `store_blocks` meets its contract: in the loop the bytes so far have been stored.
-use Prim.Native.Nat.{◌+◌, ◌≤◌, ◌-◌}
+use Prim.Native.Nat.{◌+◌, ◌-◌}
 use native.Mathlib.Omega.{arith}
-use mathlib.Core.Path.{◌≡◌, refl, sym, ap, ap₂, ◌∙◌}
+use mathlib.Core.Path.{refl, sym, ap, ap₂, ◌∙◌}
 use lib.ListN.{length, take, drop, length-drop}
 use lib.Seq.{sets, length-sets, take_all}
 use Rattle.output.specs.Put.{block}
@@ -43,8 +43,7 @@ loop-i-smaller c = omega arith
 pub loop-i-preserved : goal.loop-i-preserved
 loop-i-preserved c =
     let start = c.args in
-    let loop = c.loop-i in
-    (
+    let loop = c.loop-i in (
       omega arith,
       (
         omega arith,

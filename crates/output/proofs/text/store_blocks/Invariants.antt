@@ -1,11 +1,9 @@
 -- `store_blocks` meets its contract: in the loop the bytes so far have been stored.
 use Prim.Native.Nat.{◌+◌, ◌≤◌, ◌-◌}
-use native.Mathlib.Omega.{arith}
-use mathlib.Core.Path.{◌≡◌, refl, sym, ap, ap₂, ◌∙◌}
-use lib.ListN.{length, take, drop, length-drop}
-use lib.Seq.{sets, length-sets, take_all}
+use mathlib.Core.Path.{◌≡◌}
+use lib.ListN.{length, take}
+use lib.Seq.{sets}
 use Rattle.output.specs.Put.{block}
-use Rattle.output.proofs.Stores.{sets_more, sets_over, block-length}
 use Rattle.output.proofs.text.store_blocks.Given as goal
 
 abbrev pub invariant-loop-i : goal.invariant-loop-i

@@ -1,12 +1,11 @@
 -- `store_indent` meets its contract: in the loop the levels so far have been stored.
-use Prim.Native.Nat.{◌+◌, ◌*◌, ◌≤◌, ◌-◌}
+use Prim.Native.Nat.{◌+◌, ◌*◌}
 use native.Mathlib.Omega.{arith}
 use mathlib.Core.Path.{◌≡◌, refl, ap, ◌∙◌}
 use lib.ListN.{length, replicate}
 use lib.Seq.{sets, length-sets}
 use Rattle.syntax.specs.Byte as Byte
 use Rattle.syntax.specs.Serializer.{indent_width}
-use borrow.Author.Rules.{rules}
 use Rattle.output.proofs.Stores.{sets-repeat}
 use Rattle.output.proofs.text.store_indent.Goals as goal
 
