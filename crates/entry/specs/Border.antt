@@ -1,5 +1,5 @@
 -- What the functions that the crate above calls need, and what they did with it or without.
-use Rattle.core.specs.Prelude.{◌≡◌, ℕ, ◌+◌, ◌*◌, Bool, true, false, ◌&&◌, List, [], ◌∷◌, length, drop, nat_le, nat_lt}
+use Rattle.std.specs.Prelude.{◌≡◌, ℕ, ◌+◌, ◌*◌, Bool, true, false, ◌&&◌, List, [], ◌∷◌, length, drop, nat_le, nat_lt}
 use Rattle.syntax.specs.Limits.{max_length}
 use Rattle.syntax.specs.Layout.{sizes, tree_capacity, tree_layout}
 use Rattle.syntax.specs.Helper.{skip_blank_block}

@@ -1,7 +1,7 @@
 -- What the contracts say of a reader with marks: the code's answer is the definition's, moved to a place of the source,
 -- and the tree's words
 -- became what they were with the definition's marks after the first n.
-use Rattle.core.specs.Prelude.{◌≡◌, ℕ, ◌+◌, ◌*◌, ◌^◌, ◌<◌, ◌≤◌, Bool, true, false, List, [], ◌∷◌, length, drop, ◌==◌}
+use Rattle.std.specs.Prelude.{◌≡◌, ℕ, ◌+◌, ◌*◌, ◌^◌, ◌<◌, ◌≤◌, Bool, true, false, List, [], ◌∷◌, length, drop, ◌==◌}
 use Rattle.syntax.specs.Limits.{max_length}
 use Rattle.syntax.specs.declared.errors.ParserError.{ParserError}
 use Rattle.syntax.specs.declared.errors.ErrorKind.TheVariants.{MissingValue}

@@ -1,5 +1,5 @@
 -- How a reader of an entry answers.
-use Rattle.core.specs.Prelude.{ℕ}
+use Rattle.std.specs.Prelude.{ℕ}
 use Rattle.syntax.specs.Core.{Entry, comment, message, term}
 use Rattle.entry.specs.Did.{Says}
 use Rattle.entry.specs.declared.border.ReadEntry.{ReadEntry}

@@ -1,15 +1,15 @@
 -- How a message, a term or an attribute starts, and what a message or a term has.
-use Rattle.core.specs.Prelude.{◌≡◌, ℕ, ◌+◌, ◌≤◌, not, List, length, drop, ◌==◌}
+use Rattle.std.specs.Prelude.{◌≡◌, ℕ, ◌+◌, ◌≤◌, not, List, length, drop, ◌==◌}
 use Rattle.syntax.specs.Byte as Byte
 use Rattle.syntax.specs.Kind as Kind
 use Rattle.syntax.specs.Reader.{Reader, ◌>>=◌, ◌>>◌, pure}
 use Rattle.syntax.specs.Helper.{skip_blank_inline, expect_byte, get_identifier}
 use Rattle.syntax.specs.Core as Core
 use Rattle.entry.specs.Did.{Says, Did}
-use Rattle.entry.specs.declared.core.Name.{Name}
-use Rattle.entry.specs.declared.core.Name.TheVariants as names
-use Rattle.entry.specs.declared.core.Fields.{Fields}
-use Rattle.entry.specs.declared.core.Fields.TheVariants as fields
+use Rattle.entry.specs.declared.parser_core.Name.{Name}
+use Rattle.entry.specs.declared.parser_core.Name.TheVariants as names
+use Rattle.entry.specs.declared.parser_core.Fields.{Fields}
+use Rattle.entry.specs.declared.parser_core.Fields.TheVariants as fields
 
 -- the identifier and the '=' with which messages, terms and attributes start; answers the identifier's length
 unfoldable pub get_name : Reader ℕ

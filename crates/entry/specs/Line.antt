@@ -1,5 +1,5 @@
 -- A turn of a comment, as places of the source.
-use Rattle.core.specs.Prelude.{◌≡◌, ℕ, ◌-◌, ◌≤◌, List, [], length}
+use Rattle.std.specs.Prelude.{◌≡◌, ℕ, ◌-◌, ◌≤◌, List, [], length}
 use Rattle.syntax.specs.Kind as Kind
 use Rattle.syntax.specs.Marks.{text_node}
 use Rattle.syntax.specs.Errors.{up_fault}

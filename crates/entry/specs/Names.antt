@@ -1,5 +1,5 @@
 -- The named arguments whose marks stand in a tree, by their names.
-use Rattle.core.specs.Prelude.{◌≡◌, ℕ, suc, ◌+◌, ◌-◌, ◌*◌, ◌<◌, ◌≤◌, Bool, true, false, List, [], ◌∷◌, ◌++◌, length, take, drop, nat_lt, slice_index, slice_index_or, slice_range}
+use Rattle.std.specs.Prelude.{◌≡◌, ℕ, suc, ◌+◌, ◌-◌, ◌*◌, ◌<◌, ◌≤◌, Bool, true, false, List, [], ◌∷◌, ◌++◌, length, take, drop, nat_lt, slice_index, slice_index_or, slice_range}
 use Rattle.syntax.specs.Kind as Kind
 use Rattle.syntax.specs.Expression.{is_among}
 use Rattle.entry.specs.Tree.{Word, word, marks_from}

@@ -1,5 +1,5 @@
 -- Places of the source: what the functions that write no marks ask and answer.
-use Rattle.core.specs.Prelude.{◌≡◌, ℕ, ◌+◌, ◌-◌, ◌<◌, ◌≤◌, Bool, true, false, List, [], ◌∷◌, length, drop, nat_lt}
+use Rattle.std.specs.Prelude.{◌≡◌, ℕ, ◌+◌, ◌-◌, ◌<◌, ◌≤◌, Bool, true, false, List, [], ◌∷◌, length, drop, nat_lt}
 use Rattle.syntax.specs.Limits.{max_length}
 use Rattle.syntax.specs.Byte as Byte
 use Rattle.syntax.specs.Bytes.{starts_with, eol}

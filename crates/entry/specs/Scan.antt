@@ -1,5 +1,5 @@
 -- The scan of a string literal: its plain bytes, and a turn as a place.
-use Rattle.core.specs.Prelude.{◌≡◌, ℕ, ◌-◌, ◌<◌, ◌≤◌, Bool, not, ◌||◌, List, [], length, ◌==◌}
+use Rattle.std.specs.Prelude.{◌≡◌, ℕ, ◌-◌, ◌<◌, ◌≤◌, Bool, not, ◌||◌, List, [], length, ◌==◌}
 use Rattle.syntax.specs.Byte as Byte
 use Rattle.syntax.specs.declared.errors.ParserError.{ParserError}
 use Rattle.syntax.specs.Reader.{Out, Turn, again, done}

@@ -1,5 +1,5 @@
 -- What was read as an expression, in the code's terms.
-use Rattle.core.specs.Prelude.{◌≡◌, ℕ, ◌+◌, ◌-◌, ◌≤◌, Bool, true, false, not, ◌&&◌, List, [], ◌∷◌, length, drop, ◌==◌, nat_eq}
+use Rattle.std.specs.Prelude.{◌≡◌, ℕ, ◌+◌, ◌-◌, ◌≤◌, Bool, true, false, not, ◌&&◌, List, [], ◌∷◌, length, drop, ◌==◌, nat_eq}
 use Rattle.syntax.specs.Byte as Byte
 use Rattle.syntax.specs.Kind as Kind
 use Rattle.syntax.specs.Bytes.{starts_with, starts, second, is_letter, is_digit}
@@ -29,9 +29,9 @@ use Rattle.entry.specs.declared.expression.ReadExpression.TheVariants.{Ok, Bad, 
 use Rattle.entry.specs.declared.expression.Start.{Start}
 use Rattle.entry.specs.declared.expression.Start.TheVariants.{String, Number, Reference, Term, Variable, Literal, Nothing}
 use Rattle.entry.specs.declared.expression.Start.TheVariants as starts-of
-use Rattle.entry.specs.declared.core.NextVariant.{NextVariant}
-use Rattle.entry.specs.declared.core.NextVariant.TheVariants.{Variant, End}
-use Rattle.entry.specs.declared.core.NextVariant.TheVariants as nexts
+use Rattle.entry.specs.declared.parser_core.NextVariant.{NextVariant}
+use Rattle.entry.specs.declared.parser_core.NextVariant.TheVariants.{Variant, End}
+use Rattle.entry.specs.declared.parser_core.NextVariant.TheVariants as nexts
 use Rattle.entry.specs.declared.expression.AfterInline.{AfterInline}
 use Rattle.entry.specs.declared.expression.AfterInline.TheVariants.{Alone}
 use Rattle.entry.specs.declared.expression.AfterInline.TheVariants as follows

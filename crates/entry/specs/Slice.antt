@@ -1,5 +1,5 @@
 -- What the reader of a text in a pattern answers.
-use Rattle.core.specs.Prelude.{◌≡◌, ℕ, ◌+◌, ◌≤◌, List, [], length}
+use Rattle.std.specs.Prelude.{◌≡◌, ℕ, ◌+◌, ◌≤◌, List, [], length}
 use Rattle.syntax.specs.Errors.{fault_at}
 use Rattle.syntax.specs.declared.errors.ErrorKind.TheVariants as kinds
 use Rattle.syntax.specs.Reader.{Out, ok, bad}

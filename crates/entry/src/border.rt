@@ -1,5 +1,5 @@
 // What the crate above calls. The functions ask nothing: each tests what the readers ask, and says what it did in every case.
-ghost use Rattle.core.specs.Prelude.{◌≡◌};
+ghost use Rattle.std.specs.Prelude.{◌≡◌};
 ghost use Rattle.entry.specs.Border.{readable, DidTry, roomy, DidPut, Skipped};
 
 use crate::helper::skip_blank_block;

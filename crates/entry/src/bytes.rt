@@ -1,5 +1,5 @@
 // Tests on a byte, those of the grammar.
-ghost use Rattle.core.specs.Prelude.{◌≡◌, ◌||◌, ◌==◌};
+ghost use Rattle.std.specs.Prelude.{◌≡◌, ◌||◌, ◌==◌};
 ghost use Rattle.syntax.specs.Byte as Byte;
 ghost use Rattle.syntax.specs.Bytes.{is_digit, is_name_part, is_callee_part};
 

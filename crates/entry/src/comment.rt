@@ -1,5 +1,5 @@
 // comment.rs: comments, line by line.
-ghost use Rattle.core.specs.Prelude.{◌≡◌, ◌+◌, true, not, ◌&&◌, ◌||◌, drop, ◌==◌, nat_eq};
+ghost use Rattle.std.specs.Prelude.{◌≡◌, ◌+◌, true, not, ◌&&◌, ◌||◌, drop, ◌==◌, nat_eq};
 ghost use Rattle.syntax.specs.Comment.{level_of, line_length, line_end_used, comment_turn, get_comment};
 ghost use Rattle.entry.specs.Place.{Inside, Passed, is_eol};
 ghost use Rattle.entry.specs.Did.{Did, Entered};

@@ -1,5 +1,5 @@
 // errors.rs: its macro.
-ghost use Rattle.core.specs.Prelude.{◌≡◌, ◌≤◌};
+ghost use Rattle.std.specs.Prelude.{◌≡◌, ◌≤◌};
 ghost use Rattle.syntax.specs.Limits.{max_length};
 ghost use Rattle.syntax.specs.Errors.{fault_at};
 

@@ -1,6 +1,6 @@
 // expression.rs: inline expressions and what holds them. With them stand those of core.rs and pattern.rs that call them and are
 // called by them: get_placeable, get_variants and get_pattern; a cycle of calls has one proof.
-ghost use Rattle.core.specs.Prelude.{◌≡◌, ℕ, ◌+◌, ◌-◌, ◌<◌, ◌≤◌, Bool, true, false, ◌&&◌, List, [], length, take, drop, ◌==◌};
+ghost use Rattle.std.specs.Prelude.{◌≡◌, ℕ, ◌+◌, ◌-◌, ◌<◌, ◌≤◌, Bool, true, false, ◌&&◌, List, [], length, take, drop, ◌==◌};
 ghost use Rattle.syntax.specs.Limits.{max_length};
 ghost use Rattle.syntax.specs.Byte as Byte;
 ghost use Rattle.syntax.specs.Bytes.{starts_with, starts, run, is_letter, is_name_part};

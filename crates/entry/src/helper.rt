@@ -1,5 +1,5 @@
 // helper.rs: places of the source, and what stands there.
-ghost use Rattle.core.specs.Prelude.{◌≡◌, ℕ, ◌≤◌, min, ◌||◌, length, drop, ◌==◌};
+ghost use Rattle.std.specs.Prelude.{◌≡◌, ℕ, ◌≤◌, min, ◌||◌, length, drop, ◌==◌};
 ghost use Rattle.syntax.specs.Byte as Byte;
 ghost use Rattle.syntax.specs.Bytes.{starts_with, starts, spaces, eol, run, all, first_width};
 ghost use Rattle.syntax.specs.Bytes.{is_letter, is_digit, is_hex, is_name_part, is_callee_part};

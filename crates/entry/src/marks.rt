@@ -1,5 +1,5 @@
 // Marks in a lent tree: two words of sizes, then as many kinds as the tree holds, then as many places.
-ghost use Rattle.core.specs.Prelude.{◌≡◌, ◌+◌, ◌^◌, ◌<◌, ◌≤◌, [], ◌∷◌};
+ghost use Rattle.std.specs.Prelude.{◌≡◌, ◌+◌, ◌^◌, ◌<◌, ◌≤◌, [], ◌∷◌};
 ghost use Rattle.syntax.specs.Kind.{closing};
 ghost use Rattle.entry.specs.Tree.{word, Step, Fits, Inserted};
 ghost use Rattle.entry.specs.Did.{Closable, Closed, Textable, Texted};

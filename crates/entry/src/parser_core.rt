@@ -1,5 +1,5 @@
 // core.rs: entries, and the parts of placeables and variants. get_placeable and get_variants themselves stand in expression.rt.
-ghost use Rattle.core.specs.Prelude.{◌≡◌, ◌+◌, ◌≤◌, ◌||◌, [], drop, ◌==◌};
+ghost use Rattle.std.specs.Prelude.{◌≡◌, ◌+◌, ◌≤◌, ◌||◌, [], drop, ◌==◌};
 ghost use Rattle.syntax.specs.Limits.{max_length};
 ghost use Rattle.syntax.specs.Byte as Byte;
 ghost use Rattle.syntax.specs.Bytes.{starts, is_digit};

@@ -1,6 +1,6 @@
 // pattern.rs: patterns. The common indent is known only where a pattern ends. Until then a text at the start of a line is marked
 // from the line's start on, by a kind of its own; at the end the marks are settled. get_pattern itself stands in expression.rt.
-ghost use Rattle.core.specs.Prelude.{◌≡◌, ◌+◌, ◌^◌, ◌<◌, ◌≤◌, min, true, false, [], ◌∷◌, map, length, drop};
+ghost use Rattle.std.specs.Prelude.{◌≡◌, ◌+◌, ◌^◌, ◌<◌, ◌≤◌, min, true, false, [], ◌∷◌, map, length, drop};
 ghost use Rattle.syntax.specs.Limits.{max_length};
 ghost use Rattle.syntax.specs.Byte as Byte;
 ghost use Rattle.syntax.specs.Kind as Kind;

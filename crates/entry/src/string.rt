@@ -1,5 +1,5 @@
 // The string literal of expression.rs.
-ghost use Rattle.core.specs.Prelude.{◌≡◌, ◌+◌, drop};
+ghost use Rattle.std.specs.Prelude.{◌≡◌, ◌+◌, drop};
 ghost use Rattle.syntax.specs.Bytes.{starts, run};
 ghost use Rattle.syntax.specs.Reader.{repeat};
 ghost use Rattle.syntax.specs.Expression.{escape_turn, string_turn, string_literal};

@@ -1,5 +1,5 @@
 // pattern.rs: get_text_slice, which is handed the bytes that remain.
-ghost use Rattle.core.specs.Prelude.{◌≡◌, ◌≤◌, length, take, drop};
+ghost use Rattle.std.specs.Prelude.{◌≡◌, ◌≤◌, length, take, drop};
 ghost use Rattle.syntax.specs.Limits.{max_length};
 ghost use Rattle.syntax.specs.Bytes.{starts, run};
 ghost use Rattle.syntax.specs.Pattern.{is_text_byte, ends_in_cr};
