@@ -1,0 +1,12 @@
+-- `marks::after_node` meets its contract: in the loop, as many nodes are open as are counted.
+use Prim.Native.Nat.{◌-◌}
+use native.Mathlib.Omega.{arith}
+use Rattle.tree.proofs.Words.{kind-inside, Passing, none_passed, passing-first, passing-open}
+use Rattle.tree.proofs.Words.{passing-close, passing-last, passing-end}
+use Rattle.tree.proofs.marks.after_node.Given as goal
+
+abbrev pub invariant-loop-next : goal.invariant-loop-next
+invariant-loop-next l = Passing l.tree l.mark l.depth l.next
+
+abbrev pub decreases-loop-next : goal.decreases-loop-next
+decreases-loop-next l = l.count - l.next
