@@ -42,3 +42,6 @@ unfolding outcome state_of
 returns c =
     enter-goes _ _ _ _ _ _ c.requires.room c.requires.fits c.requires.child_value c.requires.child_value_2
     (rw c.needs.ensures at c.if-left-needs.false) c.opens.ensures
+
+pub overflow_sub-result : goal.overflow_sub-result
+overflow_sub-result c = omega (arith, opens-needs c.args.child, c.needs.ensures, c.opens.ensures)

@@ -1,8 +1,6 @@
 -- `marks::after_node` meets its contract: in the loop, as many nodes are open as are counted.
 use Prim.Native.Nat.{◌-◌}
-use native.Mathlib.Omega.{arith}
-use Rattle.tree.proofs.Words.{kind-inside, Passing, none_passed, passing-first, passing-open}
-use Rattle.tree.proofs.Words.{passing-close, passing-last, passing-end}
+use Rattle.tree.proofs.Words.{Passing}
 use Rattle.tree.proofs.marks.after_node.Given as goal
 
 abbrev pub invariant-loop-next : goal.invariant-loop-next
