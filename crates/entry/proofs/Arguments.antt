@@ -1,5 +1,5 @@
 -- Arguments of a call: their names, what follows them, and one argument as it is read.
-use Rattle.core.specs.Prelude.{◌≡◌, ℕ, ◌+◌, ◌-◌, ◌*◌, ◌<◌, ◌≤◌, Bool, true, false, not, List, [], ◌∷◌, length, take, drop}
+use Rattle.std.specs.Prelude.{◌≡◌, ℕ, ◌+◌, ◌-◌, ◌*◌, ◌<◌, ◌≤◌, Bool, true, false, not, List, [], ◌∷◌, length, take, drop}
 use mathlib.Core.Path.{refl, sym, ap, ap₂, subst, ◌∙◌}
 use native.Mathlib.Nat.{add-zero, add_assoc}
 use native.Mathlib.Omega.{arith}
@@ -314,22 +314,22 @@ module _ {cap at n : ℕ} {t t₁ : List ℕ} (s : List ℕ) (sub : Inside) (bef
           (did-lost arguing (lost-fail (drop v.k (drop at s)) refl refl) (step-none cap (n + 0) t₁))))
 
 -- a named argument, from its value on
-named_end : {cap at n n₁ p : ℕ} {t t₁ t₂ t₃ : List ℕ} {r : ReadExpression} {x : ReadArgument} (s : List ℕ)
+named_end : (p : ℕ) {cap at n n₁ : ℕ} {t t₁ t₂ t₃ : List ℕ} {r : ReadExpression} {x : ReadArgument} (s : List ℕ)
     (name : List ℕ) (before : List (List ℕ)) (o : Out Inline)
     → Step cap n t t₁ (word 26 0 ∷ []) → n₁ ≡ n + 1
     → Did (expressing p) cap at n₁ t₁ t₂ r o → EndedNamed s cap t₂ t₃ r x
     → Did arguing cap at n t t₃ x (next (drop at s) (λ _. separator (name ∷ before)) (wrap 26 o))
 unfolding ◌>>◌ next wrap
-named_end {cap} {at} {n} {n₁} {p} {t} {t₁} {t₂} {t₃} {r} {x} s name before (ok i ms k) w e d z =
+named_end p {cap} {at} {n} {n₁} {t} {t₁} {t₂} {t₃} {r} {x} s name before (ok i ms k) w e d z =
     let y : NamedAs s cap t₂ t₃ (expressions.Ok (shape_at p i) (at + k) (n₁ + length ms)) x = rw d.answers at z.holds in
     let f : Found cap at n₁ (at + k) (n₁ + length ms) t₁ t₂ (ok i ms k) =
     record { value = i; ms = ms; k = k; is = refl; place = refl; count = refl; wrote = d.wrote } in
     did_then s (λ _. wrap 26 (ok i ms k)) (separator (name ∷ before)) (found-wrap 26 w e f y.1 refl)
     (record { answers = y.0 name before; wrote = rw (separator-quiet, words-none) (step-none cap (n₁ + length ms + 1) t₃) })
-named_end {cap} {at} {n} {n₁} {p} {t} {t₁} {t₂} {t₃} {r} {x} s name before (bad f k) w e d z =
+named_end p {cap} {at} {n} {n₁} {t} {t₁} {t₂} {t₃} {r} {x} s name before (bad f k) w e d z =
     let y : NamedAs s cap t₂ t₃ (expressions.Bad (up_fault at f) (at + k)) x = rw d.answers at z.holds in
     record { answers = y.0; wrote = rw (y.1, words-none) (step-failed w e (step_cut d.wrote)) }
-named_end {cap} {at} {n} {n₁} {p} {t} {t₁} {t₂} {t₃} {r} {x} s name before (deep k) w e d z =
+named_end p {cap} {at} {n} {n₁} {t} {t₁} {t₂} {t₃} {r} {x} s name before (deep k) w e d z =
     let y : NamedAs s cap t₂ t₃ (expressions.Deep (at + k)) x = rw d.answers at z.holds in
     record { answers = y.0; wrote = rw (y.1, words-none) (step-failed w e (step_cut d.wrote)) }
 
@@ -394,7 +394,7 @@ module _ {cap at n n₁ n₂ e c p : ℕ} {t t₁ t₂ t₃ t₄ : List ℕ} {r 
     (d : Did (expressing p) cap p n₂ t₂ t₃ r (get_inline_expression (level left) true (drop p s)))
     (z : EndedNamed s cap t₃ t₄ r x) where
   once-did : Did arguing cap at n t t₄ x (argument_of (level left) before (drop at s))
-  once-did = rw (once_is s (level left) before _ v h) (named_end s (take v.size (drop at s)) before _ w₁ e₁ whole z)
+  once-did = rw (once_is s (level left) before _ v h) (named_end _ s (take v.size (drop at s)) before _ w₁ e₁ whole z)
     where
       value : Did (expressing p) cap c n₂ t₂ t₃ r (named_value (level left) (drop c s))
       value = unfold named_value in

@@ -1,6 +1,6 @@
 -- Readers at places of the source: one after the other, as the definitions have them.
 -- An answer of the code is taken apart into `Found`, `Lost` or `Far` of the definition's answer, and made of one.
-use Rattle.core.specs.Prelude.{◌≡◌, ℕ, ◌+◌, List, [], ◌∷◌, ◌++◌, map, length, drop}
+use Rattle.std.specs.Prelude.{◌≡◌, ℕ, ◌+◌, List, [], ◌∷◌, ◌++◌, map, length, drop}
 use mathlib.Core.Path.{refl, sym, ap, ap₂, ◌∙◌}
 use mathlib.Core.Logic.{⊎_elim}
 use native.Mathlib.Nat.{add-zero, add_assoc}

@@ -1,5 +1,5 @@
 -- Entries: names, values, attributes, and what messages and terms have.
-use Rattle.core.specs.Prelude.{◌≡◌, ℕ, zero, suc, ◌+◌, ◌-◌, ◌*◌, ◌<◌, ◌≤◌, Bool, true, false, not, ◌||◌, eqb, List, [], ◌∷◌, ◌++◌, length, drop}
+use Rattle.std.specs.Prelude.{◌≡◌, ℕ, zero, suc, ◌+◌, ◌-◌, ◌*◌, ◌<◌, ◌≤◌, Bool, true, false, not, ◌||◌, eqb, List, [], ◌∷◌, ◌++◌, length, drop}
 use mathlib.Core.Path.{refl, sym, ap, ap₂, ◌∙◌}
 use mathlib.Core.Logic.{⊎_elim}
 use native.Mathlib.Nat.{add-zero, add_assoc}
@@ -47,10 +47,10 @@ use Rattle.entry.specs.declared.marks.Read.{Read}
 use Rattle.entry.specs.declared.marks.Read.TheVariants.{Ok, Bad, Deep}
 use Rattle.entry.specs.declared.border.ReadEntry.{ReadEntry}
 use Rattle.entry.specs.declared.border.ReadEntry.TheVariants as entries
-use Rattle.entry.specs.declared.core.Fields.{Fields}
-use Rattle.entry.specs.declared.core.Fields.TheVariants as has
-use Rattle.entry.specs.declared.core.Name.{Name}
-use Rattle.entry.specs.declared.core.Name.TheVariants as names
+use Rattle.entry.specs.declared.parser_core.Fields.{Fields}
+use Rattle.entry.specs.declared.parser_core.Fields.TheVariants as has
+use Rattle.entry.specs.declared.parser_core.Name.{Name}
+use Rattle.entry.specs.declared.parser_core.Name.TheVariants as names
 use Rattle.entry.specs.contracts.marks.Read.{the_type}
 use Rattle.entry.proofs.Steps.{step-none, step_cut}
 use Rattle.entry.proofs.Places.{found_at, found-bad, found_within, expect-yes, expect-no, identifier-read}

@@ -1,5 +1,5 @@
 -- References: attributes, calls, and results that fail inside a node.
-use Rattle.core.specs.Prelude.{◌≡◌, ℕ, ◌+◌, ◌-◌, Bool, true, false, ltb, List, [], ◌∷◌, ◌++◌, length, take, drop}
+use Rattle.std.specs.Prelude.{◌≡◌, ℕ, ◌+◌, ◌-◌, Bool, true, false, ltb, List, [], ◌∷◌, ◌++◌, length, take, drop}
 use mathlib.Core.Path.{refl, sym, ap, ap₂, ◌∙◌}
 use native.Mathlib.Nat.{add-zero}
 use native.Mathlib.Omega.{arith}
@@ -31,14 +31,14 @@ use Rattle.entry.proofs.Places.{identifier-some, identifier-none, expect-yes}
 use Rattle.entry.proofs.Dids.{Found, did-bind, did_pure, stop-bind, step-failed, words-none}
 
 -- an inline expression that failed inside its node
-pub inline-stop : {b cap at n n₁ kind : ℕ} {t t₁ t₂ : List ℕ} (x : Expression) (r : Read) (o : Out Inline)
+pub inline-stop : (b : ℕ) {cap at n n₁ kind : ℕ} {t t₁ t₂ : List ℕ} (x : Expression) (r : Read) (o : Out Inline)
     → Step cap n t t₁ (word kind 0 ∷ []) → n₁ ≡ n + 1 → Did reading cap at n₁ t₁ t₂ r o → ((a m : ℕ) → r ≡ Ok a m → ⊥)
     → Did (expressing b) cap at n t t₂ (with_shape x r) (as_inline o)
 unfolding as_inline
-inline-stop x r (ok i ms k) s e d h = absurd (h _ _ d.answers)
-inline-stop x r (bad f k) s e d h =
+inline-stop b x r (ok i ms k) s e d h = absurd (h _ _ d.answers)
+inline-stop b x r (bad f k) s e d h =
     record { answers = ap (with_shape x) d.answers; wrote = rw words-none (step-failed s e (step_cut d.wrote)) }
-inline-stop x r (deep k) s e d h =
+inline-stop b x r (deep k) s e d h =
     record { answers = ap (with_shape x) d.answers; wrote = rw words-none (step-failed s e (step_cut d.wrote)) }
 
 -- an attribute has marks
@@ -106,21 +106,21 @@ call-true {e} {a} sub s v ms k w h q = after-true (a - e) (drop a s) (sub.parent
     opened = first ∙ ap (after [] (a - e)) (unfold call_arguments ◌>>◌ in (rw (h, call_arguments)))
 
 -- a call, with the callee tested after it
-callee-did : {b cap a m : ℕ} {t : List ℕ} (name y : List ℕ)
+callee-did : (b : ℕ) {cap a m : ℕ} {t : List ℕ} (name y : List ℕ)
     → Did (expressing b) cap a m t t (with_shape FunctionReference (answer reading a m (function_reference name y)))
     (function_reference name y)
 unfolding function_reference pure fail
-callee-did {b} {cap} {a} {m} {t} name y = by_case (all is_callee_part name)
+callee-did b {cap} {a} {m} {t} name y = by_case (all is_callee_part name)
     (λ q. rw (q, function_reference) (record { answers = refl; wrote = rw words-none (step-none cap m t) }))
     (λ q. rw (q, function_reference) (record { answers = refl; wrote = rw words-none (step-none cap m t) }))
 
-pub did-function : {b cap e m a : ℕ} {t t₁ : List ℕ} (n : ℕ) (r : Read) {r' : Read} (sub : Inside) (s x name : List ℕ)
+pub did-function : (b : ℕ) {cap e m a : ℕ} {t t₁ : List ℕ} (n : ℕ) (r : Read) {r' : Read} (sub : Inside) (s x name : List ℕ)
     → Did reading cap e m t t₁ r (get_call_arguments sub (drop e s)) → Went s e (skip_blank (drop e s)) tt a
     → starts_with Byte.open_parenthesis (drop a s) ≡ true → r' ≡ ended_by (function_reference name) s r → name ≡ take n x
     → Did (expressing b) cap e m t t₁ (with_shape FunctionReference r')
     ((get_call_arguments sub >>= (λ call. reference_by x n call)) (drop e s))
 unfolding ◌>>=◌ next
-did-function {b} {cap} {e} {m} {a} {t} {t₁} n r {r'} sub s x name d w h q en = go (get_call_arguments sub (drop e s)) refl d
+did-function b {cap} {e} {m} {a} {t} {t₁} n r {r'} sub s x name d w h q en = go (get_call_arguments sub (drop e s)) refl d
   where
     go : (o : Out Bool) → get_call_arguments sub (drop e s) ≡ o → Did reading cap e m t t₁ r o
         → Did (expressing b) cap e m t t₁ (with_shape FunctionReference r')
@@ -132,7 +132,7 @@ did-function {b} {cap} {e} {m} {a} {t} {t₁} n r {r'} sub s x name d w h q en =
         record { value = v; ms = ms; k = k; is = p; place = refl; count = refl; wrote = g.wrote } in
         let z : reference_by x n v ≡ function_reference name = ap (reference_by x n) (call-true sub s v ms k w h p)
         ∙ (unfold reference_by in ap function_reference (sym en)) in
-        rw y (did-bind s (get_call_arguments sub) (λ call. reference_by x n call) f (rw z (callee-did name (drop (e + k) s))))
+        rw y (did-bind s (get_call_arguments sub) (λ call. reference_by x n call) f (rw z (callee-did _ name (drop (e + k) s))))
     go (bad f k) p g =
         let y : r' ≡ Bad (up_fault e f) (e + k) = q ∙ ap (ended_by (function_reference name) s) g.answers in
         rw (p, y) (record { answers = refl; wrote = g.wrote })
@@ -177,13 +177,13 @@ no_call {cap} {m} {e} {a} {t} sub s w h =
       wrote = rw words-none (step-none cap m t);
     }
 
-pub did-message : {b cap e m p a k : ℕ} {t t₁ : List ℕ} (n : ℕ) (sub : Inside) (s x : List ℕ)
+pub did-message : (b : ℕ) {cap e m p a k : ℕ} {t t₁ : List ℕ} (n : ℕ) (sub : Inside) (s x : List ℕ)
     → Went s e (skip_blank (drop e s)) tt p → starts_with Byte.open_parenthesis (drop p s) ≡ false
     → (f : Found cap p m a k t t₁ (get_attribute_accessor (drop p s))) → e ≡ b + n
     → Did (expressing b) cap e m t t₁ (expressions.Ok (MessageReference e f.value) a k)
     ((get_call_arguments sub >>= (λ call. reference_by x n call)) (drop e s))
 unfolding no_call
-did-message {b} {cap} {e} {m} {p} {a} {k} {t} {t₁} n sub s x w h f i =
+did-message b {cap} {e} {m} {p} {a} {k} {t} {t₁} n sub s x w h f i =
     did-bind s (get_call_arguments sub) (λ call. reference_by x n call) (no_call sub s w h)
     (unfold reference_by message_reference in
     (did-bind s get_attribute_accessor (λ v. pure (message n v)) f

@@ -1,5 +1,5 @@
 -- An inline expression alone, or with the variants of a select after it.
-use Rattle.core.specs.Prelude.{◌≡◌, ℕ, suc, ◌+◌, ◌-◌, ◌≤◌, false, List, [], ◌∷◌, ◌++◌, length, drop}
+use Rattle.std.specs.Prelude.{◌≡◌, ℕ, suc, ◌+◌, ◌-◌, ◌≤◌, false, List, [], ◌∷◌, ◌++◌, length, drop}
 use mathlib.Core.Path.{refl, sym, ap, ap₂, ◌∙◌}
 use mathlib.Core.List.{append-nil, append_assoc}
 use native.Mathlib.Nat.{add-zero}
@@ -33,13 +33,13 @@ use Rattle.entry.proofs.Dids.{Found, Lost, did-bind, did-lost, words-none, words
 use Rattle.entry.proofs.Dids.{words-length, node-words, fault-up}
 
 -- what fails is no select
-select-stop : {b cap at n : ℕ} {t t₁ : List ℕ} {r : ReadExpression} (o : Out Content)
+select-stop : (b : ℕ) {cap at n : ℕ} {t t₁ : List ℕ} {r : ReadExpression} (o : Out Content)
     → Did (telling (content_at b)) cap at n t t₁ r o → ((x : Expression) (a m : ℕ) → r ≡ expressions.Ok x a m → ⊥)
     → Did (telling (content_at b)) cap at n t t₁ r (in_select o)
 unfolding in_select
-select-stop (ok c ms k) d h = absurd (h _ _ _ d.answers)
-select-stop (bad f k) d h = record { answers = d.answers; wrote = d.wrote }
-select-stop (deep k) d h = record { answers = d.answers; wrote = d.wrote }
+select-stop b (ok c ms k) d h = absurd (h _ _ _ d.answers)
+select-stop b (bad f k) d h = record { answers = d.answers; wrote = d.wrote }
+select-stop b (deep k) d h = record { answers = d.answers; wrote = d.wrote }
 
 told-lost : {A : Type 0} {a j : ℕ} {f : ParserError} (o : Out A) → answer reading a 0 o ≡ Bad f j → Lost a f j o
 told-lost (ok v ms k) e = let z : ◌≡◌ {A = ℕ} 0 1 = cc in absurd (omega arith)
@@ -52,32 +52,32 @@ module _ {cap at n a m : ℕ} {t t₁ : List ℕ} (sub : Inside) (s : List ℕ)
   unfolding inline_or_select ◌>>=◌ next followed_by
   opened = let p : at + f.k ≡ a = sym f.place in rw (f.is, drop-drop, p)
 
-  pub did-alone : {b e : ℕ} {x : Expression} → x ≡ shape_at b f.value → a ≤ e
+  pub did-alone : (b : ℕ) {e : ℕ} {x : Expression} → x ≡ shape_at b f.value → a ≤ e
       → followed_by sub f.value (drop a s) ≡ ok (inline f.value) [] (e - a)
       → Did (telling (content_at b)) cap at n t t₁ (expressions.Ok x e m) (get_expression sub (drop at s))
   unfolding get_expression in_select after
-  did-alone {b} {e} q l h =
+  did-alone b {e} q l h =
       let z : inline_or_select sub (drop at s) ≡ ok (inline f.value) f.ms (f.k + (e - a)) = opened
       ∙ (rw (h, move_up-nil, append-nil)) in
       let i : e ≡ at + (f.k + (e - a)) = omega (arith, f.place) in
       rw (z, q) (record { answers = ap₂ (expressions.Ok (shape_at b f.value)) i f.count; wrote = f.wrote })
 
-  pub did-refused : {b j : ℕ} {e : ParserError} → answer reading a 0 (followed_by sub f.value (drop a s)) ≡ Bad e j
+  pub did-refused : (b : ℕ) {j : ℕ} {e : ParserError} → answer reading a 0 (followed_by sub f.value (drop a s)) ≡ Bad e j
       → Did (telling (content_at b)) cap at n t t₁ (expressions.Bad e j) (get_expression sub (drop at s))
   unfolding get_expression inline_or_select followed_by
-  did-refused {b} h =
-      (select-stop _
+  did-refused b h =
+      (select-stop _ _
       (did-bind s (get_inline_expression sub false) (followed_by sub) f
       (did-lost (telling (content_at b)) (told-lost _ h) (step-none cap m t₁)))
       (λ x c d q. let z : ◌≡◌ {A = ℕ} 0 1 = cc in omega arith))
 
-  pub did-select : {b e : ℕ} {t₂ t₃ t₄ : List ℕ} {r x : Read} → a ≤ e
+  pub did-select : (b : ℕ) {e : ℕ} {t₂ t₃ t₄ : List ℕ} {r x : Read} → a ≤ e
       → followed_by sub f.value (drop a s) ≡ after [] (e - a) ((get_variants sub >> pure select) (drop e s))
       → Inserted cap n m t₁ t₂ (word 14 0)
       → Did reading cap e (m + 1) t₂ t₃ r (get_variants sub (drop e s)) → Closed cap 14 t₃ t₄ r x
       → Did (telling (content_at b)) cap at n t t₄ (with_shape Select x) (get_expression sub (drop at s))
   unfolding get_expression in_select ◌>>◌ next after pure node
-  did-select {b} {e} {t₂} {t₃} {t₄} {r} {x} l h ins d z = go (get_variants sub (drop e s)) refl d
+  did-select b {e} {t₂} {t₃} {t₄} {r} {x} l h ins d z = go (get_variants sub (drop e s)) refl d
     where
       k : ℕ
       k = f.k + (e - a)
@@ -145,12 +145,12 @@ not-expression r h x a m e = ⊎_elim (λ p. zero_one (sym (ap (tag_of the_type)
     zero-two : ◌≡◌ {A = ℕ} 0 2 → ⊥
     zero-two p = omega arith
 
-pub expression-stop : {b cap at n : ℕ} {t t₁ : List ℕ} {r : ReadExpression} (sub : Inside) (y : List ℕ)
+pub expression-stop : (b : ℕ) {cap at n : ℕ} {t t₁ : List ℕ} {r : ReadExpression} (sub : Inside) (y : List ℕ)
     → Did (expressing b) cap at n t t₁ r (get_inline_expression sub false y)
     → ((x : Expression) (a m : ℕ) → r ≡ expressions.Ok x a m → ⊥)
     → Did (telling (content_at b)) cap at n t t₁ r (get_expression sub y)
 unfolding get_expression inline_or_select ◌>>=◌ next in_select
-expression-stop {b} {cap} {at} {n} {t} {t₁} {r} sub y d h = go (get_inline_expression sub false y) refl d
+expression-stop b {cap} {at} {n} {t} {t₁} {r} sub y d h = go (get_inline_expression sub false y) refl d
   where
     go : (o : Out Inline) → get_inline_expression sub false y ≡ o → Did (expressing b) cap at n t t₁ r o
         → Did (telling (content_at b)) cap at n t t₁ r (get_expression sub y)

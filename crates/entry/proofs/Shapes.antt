@@ -1,5 +1,5 @@
 -- What was read as an expression, and results that are closed or gone on with.
-use Rattle.core.specs.Prelude.{◌≡◌, ℕ, ◌+◌, ◌-◌, ◌*◌, ◌≤◌, Bool, List, [], ◌∷◌, length, drop}
+use Rattle.std.specs.Prelude.{◌≡◌, ℕ, ◌+◌, ◌*◌, ◌≤◌, Bool, List, [], ◌∷◌, length, drop}
 use mathlib.Core.Path.{refl, ap, ◌∙◌}
 use mathlib.Core.List.{append-nil}
 use native.Mathlib.Nat.{add-zero}
@@ -23,7 +23,7 @@ use Rattle.entry.specs.declared.expression.ReadExpression.TheVariants as express
 use Rattle.entry.proofs.Steps.{step-none, step_cut}
 use Rattle.entry.proofs.Follows.{attribute-same}
 use Rattle.entry.proofs.Ends.{placeable-quiet}
-use Rattle.entry.proofs.Dids.{Found, did-found, did-bind, did_then, found, found-wrap, quiet, step-failed, words-none}
+use Rattle.entry.proofs.Dids.{Found, did-found, did-bind, did_then, found-wrap, quiet, step-failed, words-none}
 
 -- ---- where results lie
 module _ {A : Type 0} {cap at n : ℕ} {t t₁ : List ℕ} where
@@ -111,12 +111,12 @@ plain-did (bad f k) d = record { answers = ap plainly d.answers; wrote = d.wrote
 plain-did (deep k) d = record { answers = ap plainly d.answers; wrote = d.wrote }
 
 -- the end of a placeable, by what stands in it
-pub did-placeable : {b cap at n : ℕ} {t t₁ : List ℕ} (r : ReadExpression) {x : Read} (s : List ℕ) (p : Reader Content)
+pub did-placeable : (b : ℕ) {cap at n : ℕ} {t t₁ : List ℕ} (r : ReadExpression) {x : Read} (s : List ℕ) (p : Reader Content)
     → Did (telling (content_at b)) cap at n t t₁ r (p (drop at s))
     → x ≡ ended_by (placeable_end (read_attribute r)) s (plainly r)
     → Did reading cap at n t t₁ x ((p >>= λ c. placeable_end (is_term_attribute c)) (drop at s))
 unfolding ◌>>=◌ next
-did-placeable {b} {cap} {at} {n} {t} {t₁} r {x} s p d e = go (p (drop at s)) refl d
+did-placeable b {cap} {at} {n} {t} {t₁} r {x} s p d e = go (p (drop at s)) refl d
   where
     q : Content → Reader (Unit {0})
     q c = placeable_end (is_term_attribute c)
@@ -149,10 +149,10 @@ shaped (bad f k) d e = let q = d.answers in let z : ◌≡◌ {A = ℕ} 0 1 = cc
 shaped (deep k) d e = let q = d.answers in let z : ◌≡◌ {A = ℕ} 0 1 = cc in absurd (omega arith)
 
 -- a reader, and then what its expression is
-pub did-shape : {A : Type 0} {b cap at n : ℕ} {t t₁ : List ℕ} {r : Read} (i : Inline) (p : Reader A) (y : List ℕ)
+pub did-shape : {A : Type 0} (b : ℕ) {cap at n : ℕ} {t t₁ : List ℕ} {r : Read} (i : Inline) (p : Reader A) (y : List ℕ)
     → Did reading cap at n t t₁ r (p y) → Did (expressing b) cap at n t t₁ (with_shape (shape_at b i) r) ((p >> pure i) y)
 unfolding ◌>>◌ next after pure
-did-shape {A} {b} {cap} {at} {n} {t} {t₁} {r} i p y d = go (p y) d
+did-shape {A} b {cap} {at} {n} {t} {t₁} {r} i p y d = go (p y) d
   where
     go : (o : Out A) → Did reading cap at n t t₁ r o → Did (expressing b) cap at n t t₁ (with_shape (shape_at b i) r) (next y (λ _. pure i) o)
     go (ok a ms k) g =
@@ -175,11 +175,11 @@ kind-same b (message n a) = refl
 kind-same b (term a) = refl
 
 -- an inline expression whose node is closed
-pub did-inline : {b cap at n n₁ : ℕ} {t t₁ t₂ t₃ : List ℕ} (x : Expression) (r z : Read) (o : Out Inline)
+pub did-inline : (b : ℕ) {cap at n n₁ : ℕ} {t t₁ t₂ t₃ : List ℕ} (x : Expression) (r z : Read) (o : Out Inline)
     → Step cap n t t₁ (word (shape_kind x) 0 ∷ []) → n₁ ≡ n + 1 → Did (expressing b) cap at n₁ t₁ t₂ (with_shape x r) o
     → Closed cap (shape_kind x) t₂ t₃ r z → Did (expressing b) cap at n t t₃ (with_shape x z) (as_inline o)
 unfolding as_inline found-wrap wrap
-did-inline {b} {cap} {at} {n} {n₁} {t} {t₁} {t₂} {t₃} x r z (ok i ms k) s e d c = go r d.answers c.holds
+did-inline b {cap} {at} {n} {n₁} {t} {t₁} {t₂} {t₃} x r z (ok i ms k) s e d c = go r d.answers c.holds
   where
     go : (r : Read) → with_shape x r ≡ expressions.Ok (shape_at b i) (at + k) (n₁ + length ms)
         → ClosedAs cap (shape_kind x) t₂ t₃ r z
@@ -198,7 +198,7 @@ did-inline {b} {cap} {at} {n} {n₁} {t} {t₁} {t₂} {t₃} x r z (ok i ms k) 
         rw (y.0, ex, ← u) v
     go (Bad f j) q y = let z : ◌≡◌ {A = ℕ} 0 1 = cc in absurd (omega arith)
     go (Deep j) q y = let z : ◌≡◌ {A = ℕ} 0 1 = cc in absurd (omega arith)
-did-inline {b} {cap} {at} {n} {n₁} {t} {t₁} {t₂} {t₃} x r z (bad f k) s e d c = go r d.answers c.holds
+did-inline b {cap} {at} {n} {n₁} {t} {t₁} {t₂} {t₃} x r z (bad f k) s e d c = go r d.answers c.holds
   where
     go : (r : Read) → with_shape x r ≡ expressions.Bad (up_fault at f) (at + k) → ClosedAs cap (shape_kind x) t₂ t₃ r z
         → Did (expressing b) cap at n t t₃ (with_shape x z) (bad f k)
@@ -209,7 +209,7 @@ did-inline {b} {cap} {at} {n} {n₁} {t} {t₁} {t₂} {t₃} x r z (bad f k) s 
           wrote = rw (y.1, words-none) (step-failed s e (step_cut d.wrote));
         }
     go (Deep j) q y = let z : ◌≡◌ {A = ℕ} 0 1 = cc in absurd (omega arith)
-did-inline {b} {cap} {at} {n} {n₁} {t} {t₁} {t₂} {t₃} x r z (deep k) s e d c = go r d.answers c.holds
+did-inline b {cap} {at} {n} {n₁} {t} {t₁} {t₂} {t₃} x r z (deep k) s e d c = go r d.answers c.holds
   where
     go : (r : Read) → with_shape x r ≡ expressions.Deep (at + k) → ClosedAs cap (shape_kind x) t₂ t₃ r z
         → Did (expressing b) cap at n t t₃ (with_shape x z) (deep k)

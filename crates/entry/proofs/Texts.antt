@@ -1,5 +1,5 @@
 -- Texts with their two marks, from the places that the code found.
-use Rattle.core.specs.Prelude.{◌≡◌, ℕ, ◌+◌, ◌-◌, ◌<◌, ◌≤◌, Bool, true, false, ◌||◌, eqb, ltb, List, [], ◌∷◌, length, get_or, drop}
+use Rattle.std.specs.Prelude.{◌≡◌, ℕ, ◌+◌, ◌-◌, ◌<◌, ◌≤◌, Bool, true, false, ◌||◌, eqb, ltb, List, [], ◌∷◌, length, get_or, drop}
 use mathlib.Core.Path.{refl, sym, ap, ap₂, ◌∙◌}
 use mathlib.Core.List.{append-nil}
 use native.Mathlib.Nat.{add-zero}
@@ -28,7 +28,7 @@ use Rattle.entry.specs.Shape.{is_arrow, expressing}
 use Rattle.entry.specs.declared.helper.Place.{Place}
 use Rattle.entry.specs.declared.helper.Place.TheVariants as places
 use Rattle.entry.specs.declared.marks.Read.{Read}
-use Rattle.entry.specs.declared.marks.Read.TheVariants.{Ok, Bad}
+use Rattle.entry.specs.declared.marks.Read.TheVariants.{Ok}
 use Rattle.entry.proofs.Steps.{step-none}
 use Rattle.entry.proofs.Tests.{starts-at, second-next, test-starts}
 use Rattle.entry.proofs.Places.{found_at, found-bad, found_within, identifier-read, number_read, expect-yes}

@@ -8,7 +8,7 @@ use Rattle.syntax.specs.declared.errors.ParserError.{ParserError}
 use Rattle.syntax.specs.declared.errors.ErrorKind.TheVariants.{TermAttributeAsPlaceable, MessageAttributeAsSelector}
 use Rattle.syntax.specs.declared.errors.ErrorKind.TheVariants.{MessageReferenceAsSelector, TermReferenceAsSelector}
 use Rattle.syntax.specs.declared.errors.ErrorKind.TheVariants.{ExpectedSimpleExpressionAsSelector}
-use Rattle.syntax.specs.Reader.{ok, bad, Reader, after, ◌>>=◌, ◌>>◌, pure, Turn, done, turn_of}
+use Rattle.syntax.specs.Reader.{ok, bad, Reader, after, ◌>>◌, pure, Turn, done, turn_of}
 use Rattle.syntax.specs.Helper.{skip_blank, skip_blank_inline, expect_byte}
 use Rattle.syntax.specs.Pattern.{Inside}
 use Rattle.syntax.specs.Expression.{Inline, string, number, variable, function, inner, message, term, get_variants}
