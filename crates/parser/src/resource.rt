@@ -35,7 +35,7 @@ pub enum LastComment {
 }
 
 // How far a file is read: the place of an entry, and the counts of marks and of errors.
-#[derive(Drop)]
+#[derive(Clone, Copy)]
 pub struct State {
     pub at: usize,
     pub marks: usize,

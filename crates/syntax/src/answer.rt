@@ -4,7 +4,7 @@ ghost use Rattle.syntax.specs.Answer.{number_of, value_of};
 
 // Acceptance, with the length of the text where one was written, or the cause of a refusal with what document 01 returns
 // for it.
-#[derive(Drop)]
+#[derive(Clone, Copy)]
 pub enum Answer {
     Accepted(u64),
     TooLong(u64),

@@ -5,7 +5,7 @@ ghost use Rattle.syntax.specs.Next.{number_of, value_of};
 
 // An entry's start and where its reading stopped; that none is left; or that the tree that was lent is too short to read the
 // next one (refusal 3 of document 01), with the words needed.
-#[derive(Drop)]
+#[derive(Clone, Copy)]
 pub enum Next {
     Entry(usize, usize),
     None,
