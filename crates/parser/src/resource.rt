@@ -28,7 +28,7 @@ pub enum Parsed {
 }
 
 // The comment that is attached if a message or a term comes next: where its opening mark stands.
-#[derive(Drop)]
+#[derive(Clone, Copy)]
 pub enum LastComment {
     At(usize),
     None,
