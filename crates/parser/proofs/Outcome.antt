@@ -11,7 +11,7 @@ use lib.ListN.{length, take, drop, replicate}
 use Rattle.syntax.specs.Limits.{max_open}
 use Rattle.syntax.specs.Marks.{Mark}
 use Rattle.syntax.specs.Core.{Error, Reading, read, refused, parse}
-use Rattle.syntax.specs.Layout.{tree_layout, error_layout, array, tree_words, error_words, groups}
+use Rattle.syntax.specs.Layout.{tree_layout, error_layout, array, tree_words, error_words}
 use Rattle.syntax.specs.Answer.{effect_of, slice_by, slice_after}
 use Rattle.syntax.specs.Reading.{answer_of, read_answer, tree_after, errors_after, marks_of, errors_of}
 use Rattle.syntax.specs.declared.answer.Answer.{Answer}
