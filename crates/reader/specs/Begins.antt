@@ -38,6 +38,26 @@ named q s =
     pick (λ o. Holds Named (next s q o)) (starts is_letter s) _ _
     (λ _. named-after (run is_name_part s) (q (run is_name_part s) (drop (run is_name_part s) s))) (λ _. tt)
 
+messaged : (s : List ℕ) (f : Fields) (ms : List Mark) (k : ℕ) → Holds Named (ok f ms k)
+    → Holds (λ e ms k. Begun e s ms) (as_message (ok f ms k))
+unfolding as_message Named
+messaged s f ms k h = pick (Holds (λ e ms k. Begun e s ms)) (f.value || not (eqb f.attributes 0)) _ _ (λ _. h) (λ _. tt)
+
+termed : (s : List ℕ) → starts_with Byte.minus s ≡ true → (f : Fields) (ms : List Mark) (k : ℕ) → Holds Named (ok f ms k)
+    → Holds (λ e ms k. Begun e s ms) (as_term (after [] 1 (ok f ms k)))
+unfolding as_term after Named
+termed s q f ms k h =
+    let (j, ns, e) = h in
+    pick (Holds (λ e ms k. Begun e s ms)) f.value _ _
+    (λ _. (
+      q,
+      j,
+      move_up 1 ns,
+      ap (move_up 1) e ∙ move_up-append 1 (text_node Kind.identifier 0 j) ns
+          ∙ ap (λ r. r ++ move_up 1 ns) (text-up 1 Kind.identifier j),
+    ))
+    (λ _. tt)
+
 module _ (sub : Inside) where
   fields-named : (s : List ℕ) → Holds Named (fields sub s)
   unfolding fields
@@ -56,8 +76,7 @@ module _ (sub : Inside) where
       of_comment q (deep k) = unfold as_comment in tt
 
       of_message : (o : Out Fields) → Holds Named o → Holds (λ e ms k. Begun e s ms) (as_message o)
-      of_message (ok f ms k) h = unfold as_message Named in
-          (pick (Holds (λ e ms k. Begun e s ms)) (f.value || not (eqb f.attributes 0)) _ _ (λ _. h) (λ _. tt))
+      of_message (ok f ms k) h = messaged s f ms k h
       of_message (bad f k) h = unfold as_message in tt
       of_message (deep k) h = unfold as_message in tt
 
@@ -65,16 +84,6 @@ module _ (sub : Inside) where
       term-reads q = unfold term_fields ◌>>◌ next expect_byte in rw (q, expect_byte)
 
       of_term : starts_with Byte.minus s ≡ true → (o : Out Fields) → Holds Named o → Holds (λ e ms k. Begun e s ms) (as_term (after [] 1 o))
-      of_term q (ok f ms k) h = unfold as_term after Named in
-          let (j, ns, e) = h in
-          (pick (Holds (λ e ms k. Begun e s ms)) f.value _ _
-          (λ _. (
-            q,
-            j,
-            move_up 1 ns,
-            ap (move_up 1) e ∙ move_up-append 1 (text_node Kind.identifier 0 j) ns
-                ∙ ap (λ r. r ++ move_up 1 ns) (text-up 1 Kind.identifier j),
-          ))
-          (λ _. tt))
+      of_term q (ok f ms k) h = termed s q f ms k h
       of_term q (bad f k) h = unfold as_term after in tt
       of_term q (deep k) h = unfold as_term after in tt
