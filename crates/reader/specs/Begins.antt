@@ -63,11 +63,15 @@ module _ (sub : Inside) where
   unfolding fields
   fields-named s = named _ s
 
+  term-reads : (s : List ℕ) → starts_with Byte.minus s ≡ true → term_fields sub s ≡ after [] 1 (fields sub (drop 1 s))
+  unfolding term_fields ◌>>◌ next expect_byte
+  term-reads s q = rw (q, expect_byte)
+
   pub entry-begins : (s : List ℕ) → Holds (λ e ms k. Begun e s ms) (get_entry sub s)
   unfolding get_entry
   entry-begins s = pick (Holds (λ e ms k. Begun e s ms)) (starts_with Byte.hash s) _ _ (λ q. of_comment q (get_comment s))
       (λ _. pick (Holds (λ e ms k. Begun e s ms)) (starts_with Byte.minus s) _ _
-      (λ q. rw (term-reads q) (of_term q (fields sub (drop 1 s)) (fields-named (drop 1 s))))
+      (λ q. rw (term-reads s q) (of_term q (fields sub (drop 1 s)) (fields-named (drop 1 s))))
       (λ _. of_message (fields sub s) (fields-named s)))
     where
       of_comment : starts_with Byte.hash s ≡ true → (o : Out ℕ) → Holds (λ e ms k. Begun e s ms) (as_comment o)
@@ -79,9 +83,6 @@ module _ (sub : Inside) where
       of_message (ok f ms k) h = messaged s f ms k h
       of_message (bad f k) h = unfold as_message in tt
       of_message (deep k) h = unfold as_message in tt
-
-      term-reads : starts_with Byte.minus s ≡ true → term_fields sub s ≡ after [] 1 (fields sub (drop 1 s))
-      term-reads q = unfold term_fields ◌>>◌ next expect_byte in rw (q, expect_byte)
 
       of_term : starts_with Byte.minus s ≡ true → (o : Out Fields) → Holds Named o → Holds (λ e ms k. Begun e s ms) (as_term (after [] 1 o))
       of_term q (ok f ms k) h = termed s q f ms k h
