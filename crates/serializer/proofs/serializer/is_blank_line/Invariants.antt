@@ -1,0 +1,17 @@
+-- `is_blank_line` meets its contract: in the loop there were only blanks so far.
+use Prim.Native.Nat.{◌-◌, ◌≤◌}
+use native.Mathlib.Omega.{arith}
+use borrow.Author.Rules.{rules}
+use mathlib.Core.Path.{◌≡◌, refl, sym, ◌∙◌}
+use mathlib.Core.List.{[]}
+use lib.ListN.{length, drop}
+use borrow.Author.Tests.{not-true, not-false}
+use Rattle.syntax.specs.Serializer.{blank_line}
+use Rattle.serializer.proofs.Texts.{blank-on, blank-off, blank-end}
+use Rattle.serializer.proofs.serializer.is_blank_line.Given as goal
+
+abbrev pub invariant-loop-i : goal.invariant-loop-i
+invariant-loop-i l = (l.i ≤ length l.text) × (blank_line [] l.text ≡ blank_line [] (drop l.i l.text))
+
+abbrev pub decreases-loop-i : goal.decreases-loop-i
+decreases-loop-i l = length l.text - l.i
