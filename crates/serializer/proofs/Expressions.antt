@@ -23,7 +23,7 @@ use Rattle.tree.specs.Walk.{kind_at, node_at, after, inner_at, At, TextAt, OneAt
 use Rattle.tree.specs.Walk as Spec
 use Rattle.serializer.specs.Serialize.{pattern_in, select_in, arguments_in, variant_lines, sigil, quoted, reference_of}
 use Rattle.serializer.specs.Serialize.{key_at, argument_name, one_if, Named}
-use Rattle.serializer.proofs.Pieces.{Row, one, two, three, four, row_same, then-assoc, empty-then}
+use Rattle.serializer.proofs.Pieces.{Row, two, three, four, row_same, then-assoc, empty-then}
 use Rattle.tree.proofs.Walk.{at-kind, node-kind, enter, Entered}
 use Rattle.tree.proofs.Children.{must, only, at-as, others, keeps, omits}
 use Rattle.tree.proofs.Contents.{Pair, variant-pair, argument-pair, Held, held}

@@ -10,7 +10,7 @@ use Rattle.utf8.specs.Utf8.{is_boundary}
 use Rattle.syntax.specs.Kind as Kind
 use Rattle.syntax.specs.Bytes.{ascii}
 use Rattle.syntax.specs.Layout.{marks_in}
-use Rattle.syntax.specs.Marks.{Mark, node}
+use Rattle.syntax.specs.Marks.{Mark}
 use Rattle.syntax.specs.Shape.{named, among}
 use Rattle.syntax.specs.Tests.{sizes_fit}
 use Rattle.syntax.specs.Serializer.{Node, nodes_from, nodes, ◌⊕◌, empty, literal, newline, indented, each, first}

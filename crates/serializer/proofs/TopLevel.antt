@@ -13,7 +13,6 @@ use Rattle.syntax.specs.Kind as Kind
 use Rattle.syntax.specs.Bytes.{ascii}
 use Rattle.syntax.specs.Layout.{count, marks_in}
 use Rattle.syntax.specs.Limits.{max_open}
-use Rattle.syntax.specs.Marks.{node}
 use Rattle.syntax.specs.Shape.{named, among, verdict}
 use Rattle.syntax.specs.Tests.{sizes_fit}
 use Rattle.syntax.specs.Serializer.{Node, nodes_from, nodes, Piece, ◌⊕◌, if, name, comment, free_comment, entry, wrote_by, resource}

@@ -18,7 +18,7 @@ use syntax::kind::{ATTRIBUTE, PATTERN};
 impl Serializer {
     // The name of a message, of a term or of an attribute, and the equals sign; the value is next.
     fn serialize_name(self, source: &[u8], tree: &[u32], output: &mut [u8]) -> Self
-        requires tree_value { sizes_fit tree.now ≡ true }
+        requires fit { sizes_fit tree.now ≡ true }
         requires text_at { TextAt (is_boundary source.now) (marks_in tree.now) (self.mark + 1) }
         requires room { Room self.writer (naming source.now (node_at (marks_in tree.now) (self.mark + 1))) }
         ensures { Went output.old output.new self result

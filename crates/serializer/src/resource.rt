@@ -79,8 +79,8 @@ pub fn serialize_resource(
     output: &mut [u8],
     with_junk: bool,
 ) -> TextWriter
-    requires tree_value { sizes_fit tree.now ≡ true }
-    requires tree_value_2 { verdict (is_boundary source.now) max_open (marks_in tree.now) ≡ none }
+    requires fit { sizes_fit tree.now ≡ true }
+    requires accepted { verdict (is_boundary source.now) max_open (marks_in tree.now) ≡ none }
     requires room { Room begun (resource source.now with_junk false (nodes (marks_in tree.now))) }
     ensures { Wrote output.old output.new begun result
         (resource source.now with_junk false (nodes (marks_in tree.now))) }

@@ -99,7 +99,7 @@ fn has_newline(text: &[u8]) -> bool
 
 // Whether the expression at a mark is a select, or a placeable around one, at any depth.
 fn is_select_expr(tree: &[u32], mark: usize) -> bool
-    requires tree_value { sizes_fit tree.now ≡ true }
+    requires fit { sizes_fit tree.now ≡ true }
     requires node_at { NodeAt (marks_in tree.now) mark }
     ensures { (source : List ℕ) (n : ℕ) (more : List Node) → length (node_at (marks_in tree.now) mark).inner < n
         → result ≡ is_select source n (node_at (marks_in tree.now) mark ∷ more) }
@@ -113,7 +113,7 @@ fn is_select_expr(tree: &[u32], mark: usize) -> bool
 
 // Whether the pattern at a mark starts with a text that starts with a dot.
 fn has_leading_text_dot(source: &[u8], tree: &[u32], mark: usize) -> bool
-    requires tree_value { sizes_fit tree.now ≡ true }
+    requires fit { sizes_fit tree.now ≡ true }
     requires at { At (is_boundary source.now) (marks_in tree.now) mark Kind.pattern }
     ensures { result ≡ leading_dot source.now (nodes (node_at (marks_in tree.now) mark).inner) }
 {
@@ -130,7 +130,7 @@ fn has_leading_text_dot(source: &[u8], tree: &[u32], mark: usize) -> bool
 
 // Whether the element at a mark is a text with a newline, or a select.
 fn is_multiline_element(source: &[u8], tree: &[u32], mark: usize) -> bool
-    requires tree_value { sizes_fit tree.now ≡ true }
+    requires fit { sizes_fit tree.now ≡ true }
     requires one_at { OneAt (is_boundary source.now) elements (marks_in tree.now) mark }
     ensures { result ≡ multiline_element source.now (node_at (marks_in tree.now) mark) }
 {
@@ -149,7 +149,7 @@ fn is_multiline_element(source: &[u8], tree: &[u32], mark: usize) -> bool
 
 // The mark after the element at a mark. A text is two marks, and most elements are texts.
 fn after_element(tree: &[u32], mark: usize) -> usize
-    requires tree_value { sizes_fit tree.now ≡ true }
+    requires fit { sizes_fit tree.now ≡ true }
     requires node_at { NodeAt (marks_in tree.now) mark }
     ensures { result ≡ after (marks_in tree.now) mark }
 {
@@ -161,7 +161,7 @@ fn after_element(tree: &[u32], mark: usize) -> usize
 
 // Whether the pattern at a mark has such an element.
 fn is_multiline(source: &[u8], tree: &[u32], mark: usize) -> bool
-    requires tree_value { sizes_fit tree.now ≡ true }
+    requires fit { sizes_fit tree.now ≡ true }
     requires at { At (is_boundary source.now) (marks_in tree.now) mark Kind.pattern }
     ensures { result ≡ is_multiline source.now (nodes (node_at (marks_in tree.now) mark).inner) }
 {
@@ -176,7 +176,7 @@ fn is_multiline(source: &[u8], tree: &[u32], mark: usize) -> bool
 }
 
 fn starts_on_new_line(source: &[u8], tree: &[u32], mark: usize) -> bool
-    requires tree_value { sizes_fit tree.now ≡ true }
+    requires fit { sizes_fit tree.now ≡ true }
     requires at { At (is_boundary source.now) (marks_in tree.now) mark Kind.pattern }
     ensures { result
         ≡ (not (leading_dot source.now (nodes (node_at (marks_in tree.now) mark).inner))
@@ -266,13 +266,13 @@ impl Serializer {
         output: &mut [u8],
         prefix: &[u8],
     ) -> Self
-        requires tree_value { sizes_fit tree.now ≡ true }
+        requires fit { sizes_fit tree.now ≡ true }
         requires comment_at { CommentAt (is_boundary source.now) (marks_in tree.now) self.mark }
         requires room { Room self.writer (comment source.now prefix.now (node_at (marks_in tree.now) self.mark).inner) }
         ensures wrote { Wrote output.old output.new self.writer result.writer
             (comment source.now prefix.now
             (node_at (marks_in tree.now) self.mark).inner) }
-        ensures mark_value { result.mark ≡ after (marks_in tree.now) self.mark }
+        ensures next { result.mark ≡ after (marks_in tree.now) self.mark }
     {
         let mut writer = self.writer;
         let mut mark = self.mark + 1;
@@ -295,7 +295,7 @@ impl Serializer {
         prefix: &[u8],
         wrote_non_junk_entry: bool,
     ) -> Self
-        requires tree_value { sizes_fit tree.now ≡ true }
+        requires fit { sizes_fit tree.now ≡ true }
         requires comment_at { CommentAt (is_boundary source.now) (marks_in tree.now) self.mark }
         requires room { Room self.writer
             (free_comment source.now wrote_non_junk_entry prefix.now
@@ -303,7 +303,7 @@ impl Serializer {
         ensures wrote { Wrote output.old output.new self.writer result.writer
             (free_comment source.now wrote_non_junk_entry prefix.now
             (node_at (marks_in tree.now) self.mark).inner) }
-        ensures mark_value { result.mark ≡ after (marks_in tree.now) self.mark }
+        ensures next { result.mark ≡ after (marks_in tree.now) self.mark }
     {
         let writer = newline_after_entry(self.writer, output, wrote_non_junk_entry);
         let begun = Serializer {
@@ -331,7 +331,7 @@ impl Serializer {
 
     // The text of a T node.
     pub fn serialize_text(self, source: &[u8], tree: &[u32], output: &mut [u8]) -> Self
-        requires tree_value { sizes_fit tree.now ≡ true }
+        requires fit { sizes_fit tree.now ≡ true }
         requires text_at { TextAt (is_boundary source.now) (marks_in tree.now) self.mark }
         requires room { Room self.writer (name source.now (node_at (marks_in tree.now) self.mark)) }
         ensures { Done tree.now output.old output.new self result (name source.now) }
@@ -429,7 +429,7 @@ impl Serializer {
 
     // The key of a variant, from the star up to the closing bracket; the pattern is next.
     fn serialize_variant_key(self, source: &[u8], tree: &[u32], output: &mut [u8]) -> Self
-        requires tree_value { sizes_fit tree.now ≡ true }
+        requires fit { sizes_fit tree.now ≡ true }
         requires one_at { OneAt (is_boundary source.now) variants (marks_in tree.now) self.mark }
         requires le_indent { 1 ≤ self.writer.indent }
         requires room { Room self.writer (key_at source.now (marks_in tree.now) self.mark) }
@@ -451,7 +451,7 @@ impl Serializer {
 
     // The name of a named argument, and the colon; the value is next.
     fn serialize_argument_name(self, source: &[u8], tree: &[u32], output: &mut [u8]) -> Self
-        requires tree_value { sizes_fit tree.now ≡ true }
+        requires fit { sizes_fit tree.now ≡ true }
         requires at { At (is_boundary source.now) (marks_in tree.now) self.mark Kind.named_argument }
         requires room { Room self.writer (argument_name source.now (node_at (marks_in tree.now) (self.mark + 1))) }
         ensures { Went output.old output.new self result
@@ -502,7 +502,7 @@ impl Serializer {
 
     // The name of an argument, if it is a named one; the value is next.
     fn begin_argument(self, source: &[u8], tree: &[u32], output: &mut [u8], named: bool) -> Self
-        requires tree_value { sizes_fit tree.now ≡ true }
+        requires fit { sizes_fit tree.now ≡ true }
         requires at { named ≡ true → At (is_boundary source.now) (marks_in tree.now) self.mark Kind.named_argument }
         requires room { Room self.writer (if named (argument_name source.now (node_at (marks_in tree.now) (self.mark + 1)))) }
         ensures { Went output.old output.new self result

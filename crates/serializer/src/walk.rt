@@ -10,7 +10,7 @@ ghost use Rattle.tree.specs.Walk.{kind_at, node_at, TextAt};
 use syntax::layout::SIZES;
 
 pub fn kind_at(tree: &[u32], mark: usize) -> u32
-    requires tree_value { sizes_fit tree.now ≡ true }
+    requires fit { sizes_fit tree.now ≡ true }
     requires mark_bound { mark < count tree.now }
     ensures { result ≡ kind_at (marks_in tree.now) mark }
 {
@@ -19,7 +19,7 @@ pub fn kind_at(tree: &[u32], mark: usize) -> u32
 
 // The text of the T node that starts at a mark.
 pub fn text_at<'a>(source: &'a [u8], tree: &[u32], mark: usize) -> &'a [u8]
-    requires tree_value { sizes_fit tree.now ≡ true }
+    requires fit { sizes_fit tree.now ≡ true }
     requires text_at { TextAt (is_boundary source.now) (marks_in tree.now) mark }
     ensures { result.now ≡ text_of source.now (node_at (marks_in tree.now) mark) }
 {

@@ -1,5 +1,4 @@
 -- `serialize_resource` meets its contract: in the loop, with the entries that are left the file is written.
-use Prim.Native.Nat.{◌-◌}
 use native.Mathlib.Omega.{arith}
 use borrow.Author.Rules.{rules}
 use mathlib.Core.Path.{ap, ◌∙◌}
@@ -9,15 +8,15 @@ use Rattle.syntax.specs.Serializer.{wrote_by}
 use Rattle.tree.specs.Walk.{after}
 use Rattle.tree.proofs.Sizes.{sizes}
 use Rattle.serializer.proofs.Pieces.{wrote-length}
-use Rattle.serializer.proofs.TopLevel.{Entries, entries-first, entry_next, entries-done}
+use Rattle.serializer.proofs.TopLevel.{entries-first, entry_next, entries-done}
 use Rattle.serializer.proofs.resource.serialize_resource.Goals as goal
 
 pub bounds-tree-0 : goal.bounds-tree-0
 unfolding count capacity
-bounds-tree-0 c = omega (arith, sizes _ c.requires.tree_value)
+bounds-tree-0 c = omega (arith, sizes _ c.requires.fit)
 
 pub overflow_cast-count : goal.overflow_cast-count
-overflow_cast-count c = omega (arith, c.shared_slice_known-3-1.given 0)
+overflow_cast-count c = omega (arith, c.type_inv.tree 0)
 
 pub new-requires : goal.new-requires
 new-requires c = search rules
@@ -29,13 +28,13 @@ loop-serializer-init c =
     c.args.tree.now
     c.args.with_junk
     c.args.output.now
-    c.requires.tree_value_2 c.requires.room)
+    c.requires.accepted c.requires.room)
 
 pub kind_at-kind-requires : goal.kind_at-kind-requires
 unfolding count
 kind_at-kind-requires c =
     record {
-      tree_value = c.requires.tree_value;
+      fit = c.requires.fit;
       mark_bound = c.loop-serializer-test.true;
     }
 
@@ -45,7 +44,7 @@ serialize_entry-next-requires c =
     (entry_next c.args.source.now
     c.args.tree.now
     c.args.with_junk
-    c.requires.tree_value
+    c.requires.fit
     c.loop-serializer.invariant c.loop-serializer-test.true).ready
 
 pub copied-requires : goal.copied-requires
@@ -71,7 +70,7 @@ loop-serializer-preserved c =
     c.args.source.now
     c.args.tree.now
     c.args.with_junk
-    c.requires.tree_value
+    c.requires.fit
     c.loop-serializer.invariant
     c.loop-serializer-test.true).on _
     c.serialize_entry-next.ensures
@@ -88,7 +87,7 @@ shape_of-output c =
     (entries-done c.args.source.now
     c.args.tree.now
     c.args.with_junk
-    c.requires.tree_value
+    c.requires.fit
     c.loop-serializer.invariant (omega (arith, c.loop-serializer-test.false)))
 
 pub returns : goal.returns
@@ -97,5 +96,5 @@ returns c =
     entries-done c.args.source.now
     c.args.tree.now
     c.args.with_junk
-    c.requires.tree_value
+    c.requires.fit
     c.loop-serializer.invariant (omega (arith, c.loop-serializer-test.false))

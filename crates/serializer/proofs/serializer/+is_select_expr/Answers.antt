@@ -1,8 +1,6 @@
 -- `is_select_expr` meets its contract: the marks that are left to look at fall.
-use Prim.Native.Nat.{ℕ, ◌-◌, ◌<◌}
 use native.Mathlib.Omega.{arith}
 use mathlib.Core.Path.{sym, ◌∙◌}
-use Rattle.syntax.specs.Layout.{count}
 use Rattle.tree.proofs.Sizes.{sizes}
 use Rattle.tree.proofs.Walk.{at_count, at-kind}
 use Rattle.serializer.proofs.Patterns.{select-here, select-within, select-other}
@@ -11,33 +9,32 @@ use Rattle.serializer.proofs.serializer.+is_select_expr.Goals as goal
 pub kind_at-requires : goal.kind_at-requires
 kind_at-requires t c =
     record {
-      tree_value = c.requires.tree_value;
-      mark_bound = at_count c.args.tree.now (sizes c.args.tree.now c.requires.tree_value)
-      c.requires.node_at.at;
+      fit = c.requires.fit;
+      mark_bound = at_count c.args.tree.now (sizes c.args.tree.now c.requires.fit)
+          c.requires.node_at.at;
     }
 
 pub overflow_add-mark : goal.overflow_add-mark
 overflow_add-mark t c =
     omega (
       arith,
-      (sizes c.args.tree.now c.requires.tree_value),
+      (sizes c.args.tree.now c.requires.fit),
       at_count c.args.tree.now
-          (sizes c.args.tree.now c.requires.tree_value)
+          (sizes c.args.tree.now c.requires.fit)
           c.requires.node_at.at,
     )
 
 pub is_select_expr-requires : goal.is_select_expr-requires
-is_select_expr-requires t c =
-    (
+is_select_expr-requires t c = (
   omega (
     arith,
     c.decreases,
     at_count c.args.tree.now
-        (sizes c.args.tree.now c.requires.tree_value)
+        (sizes c.args.tree.now c.requires.fit)
         c.requires.node_at.at,
   ),
   (
-    c.requires.tree_value,
+    c.requires.fit,
     (select-within c.requires.node_at.at
         (sym (at-kind c.requires.node_at.at) ∙ sym c.kind_at.ensures
         ∙ c.in-13.is)).there,

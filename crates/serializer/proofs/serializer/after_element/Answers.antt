@@ -10,14 +10,14 @@ use Rattle.serializer.proofs.serializer.after_element.Goals as goal
 pub kind_at-requires : goal.kind_at-requires
 kind_at-requires c =
     let a = c.args in record {
-      tree_value = c.requires.tree_value;
-      mark_bound = at_count a.tree.now (sizes a.tree.now c.requires.tree_value) c.requires.node_at.at;
+      fit = c.requires.fit;
+      mark_bound = at_count a.tree.now (sizes a.tree.now c.requires.fit) c.requires.node_at.at;
     }
 
 pub overflow_add-result : goal.overflow_add-result
 overflow_add-result c =
     let a = c.args in
-        let fit = sizes a.tree.now c.requires.tree_value in
+    let fit = sizes a.tree.now c.requires.fit in
     omega (arith, fit, at_count a.tree.now fit c.requires.node_at.at)
 
 pub returns-then-kind_at-eq-TEXT : goal.returns-then-kind_at-eq-TEXT
@@ -30,4 +30,4 @@ after_node-requires c = tt
 pub returns : goal.returns
 returns c =
     let a = c.args in
-        c.after_node.ensures ∙ after-word a.tree.now (sizes a.tree.now c.requires.tree_value) c.requires.node_at.at
+    c.after_node.ensures ∙ after-word a.tree.now (sizes a.tree.now c.requires.fit) c.requires.node_at.at

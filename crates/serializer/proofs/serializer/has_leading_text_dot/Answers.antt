@@ -13,18 +13,18 @@ pub overflow_add-first : goal.overflow_add-first
 overflow_add-first c =
     omega (
       arith,
-      (sizes c.args.tree.now c.requires.tree_value),
+      (sizes c.args.tree.now c.requires.fit),
       at_count c.args.tree.now
-          (sizes c.args.tree.now c.requires.tree_value) c.requires.at,
+          (sizes c.args.tree.now c.requires.fit) c.requires.at,
     )
 
 pub kind_at-requires : goal.kind_at-requires
 kind_at-requires c =
     record {
-      tree_value = c.requires.tree_value;
+      fit = c.requires.fit;
       mark_bound = inside-count c.args.tree.now
-      (sizes c.args.tree.now c.requires.tree_value)
-      (pattern-first c.requires.at);
+          (sizes c.args.tree.now c.requires.fit)
+          (pattern-first c.requires.at);
     }
 
 pub returns-then-kind_at-ne-TEXT : goal.returns-then-kind_at-ne-TEXT
@@ -36,9 +36,9 @@ returns-then-kind_at-ne-TEXT c =
 pub text_at-text-requires : goal.text_at-text-requires
 text_at-text-requires c =
     record {
-      tree_value = c.requires.tree_value;
+      fit = c.requires.fit;
       text_at = (leading c.requires.at c.args.source.now
-      (sym c.kind_at.ensures ∙ c.if-kind_at-ne-TEXT.false)).text;
+          (sym c.kind_at.ensures ∙ c.if-kind_at-ne-TEXT.false)).text;
     }
 
 pub returns-then-text-eq0 : goal.returns-then-text-eq0

@@ -1,10 +1,8 @@
 -- `has_newline` meets its contract: in the loop there was no newline so far.
-use Prim.Native.Nat.{◌+◌, ◌-◌, ◌≤◌}
+use Prim.Native.Nat.{◌-◌}
 use native.Mathlib.Omega.{arith}
-use mathlib.Core.Path.{◌≡◌, refl, sym, ◌∙◌}
-use mathlib.Core.Bool.{false}
-use mathlib.Core.List.{[]}
-use lib.ListN.{length, take}
+use mathlib.Core.Path.{refl, sym, ◌∙◌}
+use lib.ListN.{length}
 use Rattle.syntax.specs.Serializer.{has_newline}
 use Rattle.serializer.proofs.Texts.{newline-past, newline-within, newline-last}
 use Rattle.serializer.proofs.serializer.has_newline.Goals as goal
@@ -38,8 +36,7 @@ pub loop-at-smaller : goal.loop-at-smaller
 loop-at-smaller c = omega arith
 
 pub loop-at-preserved : goal.loop-at-preserved
-loop-at-preserved c =
-    (
+loop-at-preserved c = (
   omega arith,
   (
     omega arith,

@@ -1,12 +1,10 @@
 -- `has_newline` meets its contract: in the loop there was no newline so far.
 use Prim.Native.Nat.{◌+◌, ◌-◌, ◌≤◌}
-use native.Mathlib.Omega.{arith}
-use mathlib.Core.Path.{◌≡◌, refl, sym, ◌∙◌}
+use mathlib.Core.Path.{◌≡◌}
 use mathlib.Core.Bool.{false}
 use mathlib.Core.List.{[]}
 use lib.ListN.{length, take}
 use Rattle.syntax.specs.Serializer.{has_newline}
-use Rattle.serializer.proofs.Texts.{newline-past, newline-within, newline-last}
 use Rattle.serializer.proofs.serializer.has_newline.Given as goal
 
 abbrev pub invariant-loop-at : goal.invariant-loop-at

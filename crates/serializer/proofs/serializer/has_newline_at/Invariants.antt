@@ -1,14 +1,9 @@
 -- `has_newline_at` meets its contract: in the loop it is told of the bytes so far.
-use Prim.Native.Nat.{ℕ, ◌+◌, ◌≤◌, ◌-◌}
-use native.Mathlib.Omega.{arith}
-use mathlib.Core.Path.{◌≡◌, refl, sym, ap, ◌∙◌}
-use mathlib.Core.Bool.{Bool, ◌||◌}
+use Prim.Native.Nat.{◌≤◌, ◌-◌}
+use mathlib.Core.Path.{◌≡◌}
 use mathlib.Core.List.{[]}
-use lib.Dec.{eqb}
-use lib.ListN.{get_or, take, drop}
-use Rattle.syntax.specs.Byte as Byte
+use lib.ListN.{take, drop}
 use Rattle.syntax.specs.Serializer.{has_newline}
-use Rattle.serializer.proofs.Texts.{newline-more}
 use Rattle.serializer.proofs.serializer.has_newline_at.Given as goal
 
 abbrev pub invariant-loop-i : goal.invariant-loop-i

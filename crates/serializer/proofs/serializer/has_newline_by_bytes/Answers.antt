@@ -1,11 +1,7 @@
 -- `has_newline_by_bytes` meets its contract: in the loop there was no newline so far.
-use Prim.Native.Nat.{◌-◌, ◌≤◌}
 use native.Mathlib.Omega.{arith}
-use mathlib.Core.Path.{◌≡◌, refl, sym, ◌∙◌}
-use mathlib.Core.List.{[]}
-use lib.ListN.{length, drop}
+use mathlib.Core.Path.{refl, sym, ◌∙◌}
 use borrow.Author.Tests.{eq-eqb, ne_eqb}
-use Rattle.syntax.specs.Serializer.{has_newline}
 use Rattle.serializer.proofs.Texts.{newline-on, newline-off, newline-end}
 use Rattle.serializer.proofs.serializer.has_newline_by_bytes.Goals as goal
 
@@ -28,8 +24,7 @@ pub loop-i-smaller : goal.loop-i-smaller
 loop-i-smaller c = omega arith
 
 pub loop-i-preserved : goal.loop-i-preserved
-loop-i-preserved c =
-    (
+loop-i-preserved c = (
   omega arith,
   c.loop-i.invariant.1
       ∙ newline-on _ _ c.loop-i-test.true (ne_eqb _ _ c.if-text-i-eq10.false),

@@ -1,12 +1,9 @@
 -- `has_newline_by_bytes` meets its contract: in the loop there was no newline so far.
 use Prim.Native.Nat.{◌-◌, ◌≤◌}
-use native.Mathlib.Omega.{arith}
-use mathlib.Core.Path.{◌≡◌, refl, sym, ◌∙◌}
+use mathlib.Core.Path.{◌≡◌}
 use mathlib.Core.List.{[]}
 use lib.ListN.{length, drop}
-use borrow.Author.Tests.{eq-eqb, ne_eqb}
 use Rattle.syntax.specs.Serializer.{has_newline}
-use Rattle.serializer.proofs.Texts.{newline-on, newline-off, newline-end}
 use Rattle.serializer.proofs.serializer.has_newline_by_bytes.Given as goal
 
 abbrev pub invariant-loop-i : goal.invariant-loop-i

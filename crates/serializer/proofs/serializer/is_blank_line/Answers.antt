@@ -1,12 +1,7 @@
 -- `is_blank_line` meets its contract: in the loop there were only blanks so far.
-use Prim.Native.Nat.{◌-◌, ◌≤◌}
 use native.Mathlib.Omega.{arith}
 use borrow.Author.Rules.{rules}
-use mathlib.Core.Path.{◌≡◌, refl, sym, ◌∙◌}
-use mathlib.Core.List.{[]}
-use lib.ListN.{length, drop}
-use borrow.Author.Tests.{not-true, not-false}
-use Rattle.syntax.specs.Serializer.{blank_line}
+use mathlib.Core.Path.{refl, sym, ◌∙◌}
 use Rattle.serializer.proofs.Texts.{blank-on, blank-off, blank-end}
 use Rattle.serializer.proofs.serializer.is_blank_line.Goals as goal
 
@@ -24,7 +19,7 @@ returns-then-not-matches_fluent_ws c =
     sym
     (c.loop-i.invariant.1
     ∙ blank-off _ _ c.loop-i-test.true
-    (sym c.matches_fluent_ws.ensures ∙ not-true _ c.if-not-matches_fluent_ws.true-raw))
+    (sym c.matches_fluent_ws.ensures ∙ c.if-not-matches_fluent_ws.true))
 
 pub overflow_add-i : goal.overflow_add-i
 overflow_add-i c = omega arith
@@ -33,12 +28,11 @@ pub loop-i-smaller : goal.loop-i-smaller
 loop-i-smaller c = omega arith
 
 pub loop-i-preserved : goal.loop-i-preserved
-loop-i-preserved c =
-    (
+loop-i-preserved c = (
   omega arith,
   c.loop-i.invariant.1
       ∙ blank-on _ _ c.loop-i-test.true
-      (sym c.matches_fluent_ws.ensures ∙ not-false _ c.if-not-matches_fluent_ws.false-raw),
+      (sym c.matches_fluent_ws.ensures ∙ c.if-not-matches_fluent_ws.false),
 )
 
 pub returns : goal.returns

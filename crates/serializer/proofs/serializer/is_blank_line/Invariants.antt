@@ -1,13 +1,9 @@
 -- `is_blank_line` meets its contract: in the loop there were only blanks so far.
 use Prim.Native.Nat.{◌-◌, ◌≤◌}
-use native.Mathlib.Omega.{arith}
-use borrow.Author.Rules.{rules}
-use mathlib.Core.Path.{◌≡◌, refl, sym, ◌∙◌}
+use mathlib.Core.Path.{◌≡◌}
 use mathlib.Core.List.{[]}
 use lib.ListN.{length, drop}
-use borrow.Author.Tests.{not-true, not-false}
 use Rattle.syntax.specs.Serializer.{blank_line}
-use Rattle.serializer.proofs.Texts.{blank-on, blank-off, blank-end}
 use Rattle.serializer.proofs.serializer.is_blank_line.Given as goal
 
 abbrev pub invariant-loop-i : goal.invariant-loop-i

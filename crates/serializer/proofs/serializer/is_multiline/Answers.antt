@@ -1,13 +1,11 @@
 -- `is_multiline` meets its contract: in the loop, the elements so far take a line each.
-use Prim.Native.Nat.{◌-◌, ◌<◌}
+use Prim.Native.Nat.{◌<◌}
 use native.Mathlib.Omega.{arith}
-use mathlib.Core.Path.{◌≡◌, refl, sym, ap, ◌∙◌}
-use Rattle.utf8.specs.Utf8.{is_boundary}
+use mathlib.Core.Path.{refl, sym, ap, ◌∙◌}
 use Rattle.syntax.specs.Kind as Kind
-use Rattle.syntax.specs.Layout.{count, marks_in}
-use Rattle.syntax.specs.Shape.{start}
+use Rattle.syntax.specs.Layout.{marks_in}
 use Rattle.syntax.specs.Serializer.{nodes, is_multiline}
-use Rattle.tree.specs.Walk.{kind_at, node_at, after, inner_at, Open}
+use Rattle.tree.specs.Walk.{kind_at, after}
 use Rattle.tree.proofs.Sizes.{sizes}
 use Rattle.tree.proofs.Walk.{at_count, inside-count, enter}
 use Rattle.serializer.proofs.Patterns.{element-next, multiline-first, multiline-later, multiline-none}
@@ -17,33 +15,33 @@ pub overflow_add-next : goal.overflow_add-next
 overflow_add-next c =
     omega (
       arith,
-      sizes c.args.tree.now c.requires.tree_value,
+      sizes c.args.tree.now c.requires.fit,
       at_count c.args.tree.now
-          (sizes c.args.tree.now c.requires.tree_value) c.requires.at,
+          (sizes c.args.tree.now c.requires.fit) c.requires.at,
     )
 
 pub loop-mark-init : goal.loop-mark-init
 unfolding Kind.is_text
 loop-mark-init c =
     let m = enter c.requires.at refl in (
-  record { state = 0; least = omega arith; here = m.first },
-  ap (λ ns. is_multiline c.args.source.now (nodes ns)) (sym m.inner),
-)
+      record { state = 0; least = omega arith; here = m.first },
+      ap (λ ns. is_multiline c.args.source.now (nodes ns)) (sym m.inner),
+    )
 
 pub kind_at-requires : goal.kind_at-requires
 kind_at-requires c =
     record {
-      tree_value = c.requires.tree_value;
+      fit = c.requires.fit;
       mark_bound = inside-count c.args.tree.now
-      (sizes c.args.tree.now c.requires.tree_value) c.loop-mark.invariant.0.here;
+          (sizes c.args.tree.now c.requires.fit) c.loop-mark.invariant.0.here;
     }
 
 pub is_multiline_element-requires : goal.is_multiline_element-requires
 is_multiline_element-requires c =
     record {
-      tree_value = c.requires.tree_value;
+      fit = c.requires.fit;
       one_at = (element-next c.loop-mark.invariant.0
-      (omega (arith, c.kind_at.ensures, c.loop-mark-test.true))).follows.child;
+          (omega (arith, c.kind_at.ensures, c.loop-mark-test.true))).follows.child;
     }
 
 pub returns-then-is_multiline_element : goal.returns-then-is_multiline_element
@@ -60,7 +58,7 @@ after_element-next-requires c =
     let e =
     (element-next c.loop-mark.invariant.0
     (omega (arith, c.kind_at.ensures, c.loop-mark-test.true))).follows.child in record {
-      tree_value = c.requires.tree_value;
+      fit = c.requires.fit;
       node_at = record { boundary = _; kind = e.kind; at = e.at };
     }
 
@@ -68,7 +66,7 @@ pub loop-mark-smaller : goal.loop-mark-smaller
 unfolding after
 loop-mark-smaller c =
     let tree = c.args.tree.now in
-    let fit = sizes tree c.requires.tree_value in
+    let fit = sizes tree c.requires.fit in
     omega (
       arith,
       inside-count tree fit c.loop-mark.invariant.0.here,

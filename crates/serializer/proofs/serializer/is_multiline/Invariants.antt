@@ -1,16 +1,12 @@
 -- `is_multiline` meets its contract: in the loop, the elements so far take a line each.
-use Prim.Native.Nat.{◌-◌, ◌<◌}
-use native.Mathlib.Omega.{arith}
-use mathlib.Core.Path.{◌≡◌, refl, sym, ap, ◌∙◌}
+use Prim.Native.Nat.{◌-◌}
+use mathlib.Core.Path.{◌≡◌}
 use Rattle.utf8.specs.Utf8.{is_boundary}
 use Rattle.syntax.specs.Kind as Kind
 use Rattle.syntax.specs.Layout.{count, marks_in}
 use Rattle.syntax.specs.Shape.{start}
 use Rattle.syntax.specs.Serializer.{nodes, is_multiline}
-use Rattle.tree.specs.Walk.{kind_at, node_at, after, inner_at, Open}
-use Rattle.tree.proofs.Sizes.{sizes}
-use Rattle.tree.proofs.Walk.{at_count, inside-count, enter}
-use Rattle.serializer.proofs.Patterns.{element-next, multiline-first, multiline-later, multiline-none}
+use Rattle.tree.specs.Walk.{node_at, inner_at, Open}
 use Rattle.serializer.proofs.serializer.is_multiline.Given as goal
 
 abbrev pub invariant-loop-mark : goal.invariant-loop-mark

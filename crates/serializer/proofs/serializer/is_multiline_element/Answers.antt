@@ -14,14 +14,14 @@ use Rattle.serializer.proofs.serializer.is_multiline_element.Goals as goal
 pub kind_at-requires : goal.kind_at-requires
 kind_at-requires c =
     let t = c.args.tree.now in record {
-      tree_value = c.requires.tree_value;
-      mark_bound = at_count t (sizes t c.requires.tree_value) c.requires.one_at.at;
+      fit = c.requires.fit;
+      mark_bound = at_count t (sizes t c.requires.fit) c.requires.one_at.at;
     }
 
 pub text_at-text-requires : goal.text_at-text-requires
 text_at-text-requires c =
     record {
-      tree_value = c.requires.tree_value;
+      fit = c.requires.fit;
       text_at = element-text c.requires.one_at (sym c.kind_at.ensures ∙ c.if-kind_at-eq-TEXT.true);
     }
 
@@ -36,28 +36,28 @@ returns-then-kind_at-eq-TEXT c =
 pub overflow_add-inner : goal.overflow_add-inner
 overflow_add-inner c =
     let t = c.args.tree.now in
-    let fit = sizes t c.requires.tree_value in
+    let fit = sizes t c.requires.fit in
     omega (arith, fit, at_count t fit c.requires.one_at.at)
 
 pub kind_at-requires-2 : goal.kind_at-requires-2
 kind_at-requires-2 c =
     let t = c.args.tree.now in
     let placed = multiline-placeable c.requires.one_at (λ e. c.if-kind_at-eq-TEXT.false (c.kind_at.ensures ∙ e)) in record {
-      tree_value = c.requires.tree_value;
-      mark_bound = at_count t (sizes t c.requires.tree_value) placed.there.at;
+      fit = c.requires.fit;
+      mark_bound = at_count t (sizes t c.requires.fit) placed.there.at;
     }
 
 pub overflow_add-inner-in-13 : goal.overflow_add-inner-in-13
 overflow_add-inner-in-13 c =
     let t = c.args.tree.now in
-    let fit = sizes t c.requires.tree_value in
+    let fit = sizes t c.requires.fit in
     omega (arith, fit, at_count t fit c.requires.one_at.at)
 
 pub is_select_expr-requires : goal.is_select_expr-requires
 is_select_expr-requires c =
     let placed = multiline-placeable c.requires.one_at (λ e. c.if-kind_at-eq-TEXT.false (c.kind_at.ensures ∙ e)) in
     let a = placed.there.at in record {
-      tree_value = c.requires.tree_value;
+      fit = c.requires.fit;
       node_at = (select-within a (sym (at-kind a) ∙ sym c.kind_at-2.ensures ∙ c.in-13.is)).there;
     }
 

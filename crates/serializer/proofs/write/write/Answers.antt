@@ -13,9 +13,6 @@ enum_known-answer c = search rules
 pub returns-in-Refused : goal.returns-in-Refused
 returns-in-Refused c = refused _ _ _ _ _ (sym c.in-Refused.is ∙ c.test_tree.ensures)
 
-pub enum_told-1 : goal.enum_told-1
-enum_told-1 c = search rules
-
 pub write_into-requires : goal.write_into-requires
 write_into-requires c = passing _ _ (sym c.in_default.is ∙ c.test_tree.ensures)
 

@@ -12,8 +12,8 @@ slice_bounds-serialize_resource-end-2 c = search rules
 pub serialize_resource-counted-requires : goal.serialize_resource-counted-requires
 serialize_resource-counted-requires c =
     let ready = c.requires in record {
-      tree_value = ready.sizes;
-      tree_value_2 = ready.shape;
+      fit = ready.sizes;
+      accepted = ready.shape;
       room = roomy _ _ _ ready;
     }
 
@@ -26,8 +26,8 @@ returns-then-output-length c = no_room _ _ _ _ _ _ c.serialize_resource-counted.
 pub serialize_resource-requires : goal.serialize_resource-requires
 serialize_resource-requires c =
     let ready = c.requires in record {
-      tree_value = ready.sizes;
-      tree_value_2 = ready.shape;
+      fit = ready.sizes;
+      accepted = ready.shape;
       room = roomy _ _ _ ready;
     }
 

@@ -16,7 +16,7 @@ pub bounds-item-length : goal.bounds-item-length
 bounds-item-length c = search rules
 
 pub overflow_cast-result : goal.overflow_cast-result
-overflow_cast-result c = omega (arith, c.shared_slice_known-1.given (length c.args.item.now - 1))
+overflow_cast-result c = omega (arith, c.type_inv.item (length c.args.item.now - 1))
 
 pub returns : goal.returns
 returns c = last_byte _ _ c.if-length-eq0.false

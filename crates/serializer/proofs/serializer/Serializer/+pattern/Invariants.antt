@@ -1,40 +1,21 @@
 -- The measures and the invariants.
-use Prim.Native.Nat.{ℕ, ◌-◌}
-use native.Mathlib.Omega.{arith}
-use borrow.Author.Rules.{rules}
-use mathlib.Core.Path.{refl, sym, ap, ◌∙◌}
-use mathlib.Core.Bool.{true, false}
+use Prim.Native.Nat.{◌-◌}
+use mathlib.Core.Bool.{false}
 use Rattle.syntax.specs.Kind as Kind
-use Rattle.syntax.specs.Bytes.{ascii}
 use Rattle.syntax.specs.Layout.{count, marks_in}
-use Rattle.syntax.specs.Shape.{among, models}
-use Rattle.syntax.specs.Serializer.{nodes, literal, if, ◌⊕◌}
-use Rattle.laws.specs.Text.{separated_of, argument_of, separated-none, separated-is}
-use Rattle.tree.specs.Walk.{node_at, after, inner_at, arguments}
-use Rattle.tree.proofs.Sizes.{sizes}
-use Rattle.serializer.proofs.Pieces.{then-assoc, going, room-first, going_on, gone, wrote-length, wrote_then}
-use Rattle.serializer.proofs.Pieces.{room-before, room_after}
-use Rattle.tree.proofs.Walk.{at_count, after-count}
-use Rattle.serializer.proofs.Rows.{Rows, rows-first, rows-count, rows-turn, rows-done}
-use Rattle.serializer.proofs.Expressions.{arguments-entered, arguments-parts, argued}
-use Prim.Native.Nat.{ℕ, ◌+◌, ◌-◌, ◌*◌, ◌<◌}
+use Rattle.syntax.specs.Serializer.{nodes}
+use Rattle.laws.specs.Text.{separated_of}
+use Rattle.tree.specs.Walk.{inner_at}
+use Rattle.serializer.proofs.Rows.{Rows}
+use Prim.Native.Nat.{◌+◌, ◌-◌, ◌*◌}
 use Rattle.syntax.specs.Layout.{count}
-use Prim.Native.Nat.{ℕ, ◌+◌, ◌-◌}
-use mathlib.Core.Path.{refl, ap, ◌∙◌}
+use Prim.Native.Nat.{◌+◌, ◌-◌}
 use Rattle.syntax.specs.Serializer.{nodes, each}
 use Rattle.laws.specs.Text.{element_of}
-use Rattle.tree.specs.Walk.{after, inner_at, elements}
-use Rattle.serializer.proofs.Pieces.{going, room-first, going_on, gone, wrote-length, one-most, room_within, wrote-within}
-use Rattle.tree.proofs.Walk.{at_count}
-use Rattle.serializer.proofs.Parts.{pattern-at, pattern-entered, pattern-parts}
-use mathlib.Core.Bool.{true}
-use Rattle.syntax.specs.Serializer.{nodes, each, newline, ◌⊕◌}
-use Rattle.laws.specs.Text.{variant_of}
-use Rattle.tree.specs.Walk.{node_at, after, inner_at, variants}
+use Rattle.tree.specs.Walk.{inner_at}
+use Rattle.syntax.specs.Serializer.{nodes, each}
+use Rattle.tree.specs.Walk.{inner_at}
 use Rattle.serializer.specs.Serialize.{variant_lines}
-use Rattle.serializer.proofs.Pieces.{going, room-first, going_on, gone, wrote-length, wrote_then, room-before}
-use Rattle.serializer.proofs.Pieces.{room_after, room_within, wrote-within}
-use Rattle.serializer.proofs.Expressions.{chosen}
 use Rattle.serializer.proofs.serializer.Serializer.+pattern.Given as goal
 
 abbrev pub invariant-serialize_call_arguments-loop-output : goal.invariant-serialize_call_arguments-loop-output

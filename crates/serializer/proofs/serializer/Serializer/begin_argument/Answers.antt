@@ -10,7 +10,7 @@ pub serialize_argument_name-requires : goal.serialize_argument_name-requires
 unfolding if
 serialize_argument_name-requires c =
     record {
-      tree_value = c.requires.tree_value;
+      fit = c.requires.fit;
       at = c.requires.at c.if-named.true;
       room = rw c.if-named.true at c.requires.room;
     }

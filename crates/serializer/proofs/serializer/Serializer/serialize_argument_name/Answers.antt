@@ -15,7 +15,7 @@ use Rattle.serializer.proofs.serializer.Serializer.serialize_argument_name.Goals
 pub next-entered-requires : goal.next-entered-requires
 next-entered-requires c =
     let tree = c.args.tree.now in
-    let fit = sizes tree c.requires.tree_value in
+    let fit = sizes tree c.requires.fit in
     omega (arith, fit, at_count tree fit c.requires.at)
 
 pub serialize_text-named-requires : goal.serialize_text-named-requires
@@ -28,7 +28,7 @@ serialize_text-named-requires c =
     (node_at (marks_in tree) (c.args.self.mark + 1)))
     c.requires.room in
     rw c.next-entered.ensures (record {
-      tree_value = c.requires.tree_value;
+      fit = c.requires.fit;
       text_at = (argument-pair c.requires.at).key;
       room = room-first g0;
     })

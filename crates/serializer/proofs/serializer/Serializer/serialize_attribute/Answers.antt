@@ -1,7 +1,6 @@
 -- `Serializer::serialize_attribute` meets its contract.
 use Prim.Native.Nat.{◌+◌}
 use native.Mathlib.Omega.{arith}
-use borrow.Author.Rules.{rules}
 use mathlib.Core.Path.{◌≡◌, ap, ◌∙◌}
 use Rattle.syntax.specs.Kind as Kind
 use Rattle.syntax.specs.Layout.{marks_in}
@@ -49,7 +48,7 @@ serialize_name-named-requires c =
     c.requires.room)
     c.newline-line.ensures)
     c.write_literal.ensures in record {
-      tree_value = c.requires.fit;
+      fit = c.requires.fit;
       text_at = p.key;
       room = room-first g;
     }

@@ -1,13 +1,12 @@
 -- `Serializer::serialize_attributes` meets its contract: in the loop, with the attributes that are left all are written.
-use Prim.Native.Nat.{◌+◌, ◌-◌}
+use Prim.Native.Nat.{◌+◌}
 use native.Mathlib.Omega.{arith}
 use mathlib.Core.Path.{sym, ap, ◌∙◌}
-use Rattle.syntax.specs.Layout.{count}
 use Rattle.tree.specs.Walk.{after}
 use Rattle.tree.proofs.Sizes.{sizes}
 use Rattle.serializer.proofs.Pieces.{wrote-length}
 use Rattle.tree.proofs.Walk.{inside-count}
-use Rattle.serializer.proofs.Messages.{Attributes, attributes-first, attribute-next, attributes-done, attributes-wrote}
+use Rattle.serializer.proofs.Messages.{attributes-first, attribute-next, attributes-done, attributes-wrote}
 use Rattle.serializer.proofs.serializer.Serializer.serialize_attributes.Goals as goal
 
 pub indent-requires : goal.indent-requires
@@ -30,11 +29,11 @@ loop-output-init c =
 pub kind_at-requires : goal.kind_at-requires
 kind_at-requires c =
     record {
-      tree_value = c.requires.fit;
+      fit = c.requires.fit;
       mark_bound = inside-count c.args.tree.now
-      (sizes c.args.tree.now
-      c.requires.fit)
-      c.loop-output.invariant.here;
+          (sizes c.args.tree.now
+          c.requires.fit)
+          c.loop-output.invariant.here;
     }
 
 pub serialize_attribute-written-requires : goal.serialize_attribute-written-requires

@@ -1,13 +1,7 @@
 -- `Serializer::serialize_attributes` meets its contract: in the loop, with the attributes that are left all are written.
-use Prim.Native.Nat.{◌+◌, ◌-◌}
-use native.Mathlib.Omega.{arith}
-use mathlib.Core.Path.{sym, ap, ◌∙◌}
+use Prim.Native.Nat.{◌-◌}
 use Rattle.syntax.specs.Layout.{count}
-use Rattle.tree.specs.Walk.{after}
-use Rattle.tree.proofs.Sizes.{sizes}
-use Rattle.serializer.proofs.Pieces.{wrote-length}
-use Rattle.tree.proofs.Walk.{inside-count}
-use Rattle.serializer.proofs.Messages.{Attributes, attributes-first, attribute-next, attributes-done, attributes-wrote}
+use Rattle.serializer.proofs.Messages.{Attributes}
 use Rattle.serializer.proofs.serializer.Serializer.serialize_attributes.Given as goal
 
 abbrev pub invariant-loop-output : goal.invariant-loop-output

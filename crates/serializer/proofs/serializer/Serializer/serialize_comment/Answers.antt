@@ -1,12 +1,10 @@
 -- `Serializer::serialize_comment` meets its contract: in the loop, with the lines that are left the comment is written.
-use Prim.Native.Nat.{◌-◌}
 use native.Mathlib.Omega.{arith}
 use mathlib.Core.Path.{sym, ◌∙◌}
-use Rattle.syntax.specs.Layout.{count}
 use Rattle.tree.proofs.Sizes.{sizes}
 use Rattle.serializer.proofs.Pieces.{wrote-length}
 use Rattle.tree.proofs.Walk.{at_count, inside-count}
-use Rattle.serializer.proofs.Comments.{Lines, lines-first, lines-turn, lines-done}
+use Rattle.serializer.proofs.Comments.{lines-first, lines-turn, lines-done}
 use Rattle.serializer.proofs.serializer.Serializer.serialize_comment.Goals as goal
 
 pub overflow_add-mark : goal.overflow_add-mark
@@ -14,10 +12,10 @@ overflow_add-mark c =
     omega (
       arith,
       (sizes c.args.tree.now
-          c.requires.tree_value),
+          c.requires.fit),
       at_count c.args.tree.now
           (sizes c.args.tree.now
-          c.requires.tree_value)
+          c.requires.fit)
           c.requires.comment_at.at,
     )
 
@@ -35,21 +33,21 @@ loop-line-init c =
 pub kind_at-requires : goal.kind_at-requires
 kind_at-requires c =
     record {
-      tree_value = c.requires.tree_value;
+      fit = c.requires.fit;
       mark_bound = inside-count c.args.tree.now
-      (sizes c.args.tree.now
-      c.requires.tree_value)
-      c.loop-line.invariant.here;
+          (sizes c.args.tree.now
+          c.requires.fit)
+          c.loop-line.invariant.here;
     }
 
 pub text_at-line-requires : goal.text_at-line-requires
 text_at-line-requires c =
     record {
-      tree_value = c.requires.tree_value;
+      fit = c.requires.fit;
       text_at = (lines-turn c.args.source.now
-      c.args.tree.now
-      c.args.prefix.now
-      c.loop-line.invariant (sym c.kind_at.ensures ∙ c.loop-line-test.true)).text;
+          c.args.tree.now
+          c.args.prefix.now
+          c.loop-line.invariant (sym c.kind_at.ensures ∙ c.loop-line-test.true)).text;
     }
 
 pub serialize_comment_line-writer-requires : goal.serialize_comment_line-writer-requires
@@ -68,12 +66,12 @@ overflow_add-mark-in-loop-line c =
       arith,
       (sizes
           c.args.tree.now
-          c.requires.tree_value),
+          c.requires.fit),
       inside-count
           c.args.tree.now
           (sizes
           c.args.tree.now
-          c.requires.tree_value)
+          c.requires.fit)
           c.loop-line.invariant.here,
     )
 
@@ -85,7 +83,7 @@ loop-line-smaller c =
           c.args.tree.now
           (sizes
           c.args.tree.now
-          c.requires.tree_value)
+          c.requires.fit)
           c.loop-line.invariant.here,
     )
 
@@ -105,10 +103,10 @@ overflow_add-result c =
     omega (
       arith,
       (sizes c.args.tree.now
-          c.requires.tree_value),
+          c.requires.fit),
       inside-count c.args.tree.now
           (sizes c.args.tree.now
-          c.requires.tree_value)
+          c.requires.fit)
           c.loop-line.invariant.here,
     )
 
@@ -131,4 +129,4 @@ returns c =
     c.args.self.mark
     c.requires.comment_at
     c.loop-line.invariant (λ e. c.loop-line-test.false (c.kind_at.ensures ∙ e)) in
-    record { wrote = done.0; mark_value = done.1 }
+    record { wrote = done.0; next = done.1 }

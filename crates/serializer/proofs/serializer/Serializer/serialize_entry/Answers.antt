@@ -9,10 +9,10 @@ use Rattle.serializer.proofs.serializer.Serializer.serialize_entry.Goals as goal
 pub kind_at-requires : goal.kind_at-requires
 kind_at-requires c =
     record {
-      tree_value = c.requires.fit;
+      fit = c.requires.fit;
       mark_bound = at_count c.args.tree.now
-      (sizes c.args.tree.now c.requires.fit)
-      c.requires.node.at;
+          (sizes c.args.tree.now c.requires.fit)
+          c.requires.node.at;
     }
 
 pub serialize_message-requires : goal.serialize_message-requires
@@ -45,7 +45,7 @@ serialize_free_comment-requires c =
     c.args.wrote
     c.requires
     (sym c.kind_at.ensures ∙ c.in-3.is) in record {
-      tree_value = c.requires.fit;
+      fit = c.requires.fit;
       comment_at = a.at;
       room = a.room;
     }
@@ -60,7 +60,7 @@ serialize_free_comment-requires-in-4 c =
     c.args.wrote
     c.requires
     (sym c.kind_at.ensures ∙ c.in-4.is) in record {
-      tree_value = c.requires.fit;
+      fit = c.requires.fit;
       comment_at = a.at;
       room = a.room;
     }
@@ -75,7 +75,7 @@ serialize_free_comment-requires-in-5 c =
     c.args.wrote
     c.requires
     (sym c.kind_at.ensures ∙ c.in-5.is) in record {
-      tree_value = c.requires.fit;
+      fit = c.requires.fit;
       comment_at = a.at;
       room = a.room;
     }
@@ -90,7 +90,7 @@ serialize_comment-requires c =
     c.args.wrote
     c.requires
     (sym c.kind_at.ensures ∙ c.in-6.is) in record {
-      tree_value = c.requires.fit;
+      fit = c.requires.fit;
       comment_at = a.at;
       room = a.room;
     }
@@ -153,7 +153,7 @@ returns-in-3 c =
     c.requires
     (sym c.kind_at.ensures
     ∙ c.in-3.is)).done
-    c.serialize_free_comment.ensures.wrote c.serialize_free_comment.ensures.mark_value
+    c.serialize_free_comment.ensures.wrote c.serialize_free_comment.ensures.next
 
 pub shape_of-output-in-4 : goal.shape_of-output-in-4
 shape_of-output-in-4 c = search rules
@@ -168,7 +168,7 @@ returns-in-4 c =
     c.requires
     (sym c.kind_at.ensures
     ∙ c.in-4.is)).done
-    c.serialize_free_comment-in-4.ensures.wrote c.serialize_free_comment-in-4.ensures.mark_value
+    c.serialize_free_comment-in-4.ensures.wrote c.serialize_free_comment-in-4.ensures.next
 
 pub shape_of-output-in-5 : goal.shape_of-output-in-5
 shape_of-output-in-5 c = search rules
@@ -183,7 +183,7 @@ returns-in-5 c =
     c.requires
     (sym c.kind_at.ensures
     ∙ c.in-5.is)).done
-    c.serialize_free_comment-in-5.ensures.wrote c.serialize_free_comment-in-5.ensures.mark_value
+    c.serialize_free_comment-in-5.ensures.wrote c.serialize_free_comment-in-5.ensures.next
 
 pub shape_of-output-in-6 : goal.shape_of-output-in-6
 shape_of-output-in-6 c = search rules
@@ -198,7 +198,7 @@ returns-in-6 c =
     c.requires
     (sym c.kind_at.ensures
     ∙ c.in-6.is)).done
-    c.serialize_comment.ensures.wrote c.serialize_comment.ensures.mark_value
+    c.serialize_comment.ensures.wrote c.serialize_comment.ensures.next
 
 pub shape_of-output-in_default : goal.shape_of-output-in_default
 shape_of-output-in_default c = search rules

@@ -20,19 +20,19 @@ newline_after_entry-writer-requires c =
 pub serialize_comment-written-requires : goal.serialize_comment-written-requires
 serialize_comment-written-requires c =
     record {
-      tree_value = c.requires.tree_value;
+      fit = c.requires.fit;
       comment_at = c.requires.comment_at;
       room = room-first
-        (going_on
-        (going c.args.output.now
-        c.args.self.writer
-        (free-row c.args.source.now
-        c.args.wrote_non_junk_entry
-        c.args.prefix.now
-        (node_at (marks_in c.args.tree.now)
-        c.args.self.mark).inner)
-        c.requires.room)
-        c.newline_after_entry-writer.ensures);
+          (going_on
+          (going c.args.output.now
+          c.args.self.writer
+          (free-row c.args.source.now
+          c.args.wrote_non_junk_entry
+          c.args.prefix.now
+          (node_at (marks_in c.args.tree.now)
+          c.args.self.mark).inner)
+          c.requires.room)
+          c.newline_after_entry-writer.ensures);
     }
 
 pub newline-requires : goal.newline-requires
@@ -63,24 +63,24 @@ pub returns : goal.returns
 returns c =
     record {
       wrote = gone
-      (going_on
-      (going_on
-      (going_on
-      (going
-      c.args.output.now
-      c.args.self.writer
-      (free-row
-      c.args.source.now
-      c.args.wrote_non_junk_entry
-      c.args.prefix.now
-      (node_at
-      (marks_in
-      c.args.tree.now)
-      c.args.self.mark
-      ).inner)
-      c.requires.room)
-      c.newline_after_entry-writer.ensures)
-      c.serialize_comment-written.ensures.wrote)
-      c.newline.ensures);
-      mark_value = c.serialize_comment-written.ensures.mark_value;
+          (going_on
+          (going_on
+          (going_on
+          (going
+          c.args.output.now
+          c.args.self.writer
+          (free-row
+          c.args.source.now
+          c.args.wrote_non_junk_entry
+          c.args.prefix.now
+          (node_at
+          (marks_in
+          c.args.tree.now)
+          c.args.self.mark
+          ).inner)
+          c.requires.room)
+          c.newline_after_entry-writer.ensures)
+          c.serialize_comment-written.ensures.wrote)
+          c.newline.ensures);
+      next = c.serialize_comment-written.ensures.next;
     }

@@ -15,7 +15,7 @@ pub serialize_text-requires : goal.serialize_text-requires
 unfolding Kind.is_text junk_in if
 serialize_text-requires c =
     record {
-      tree_value = c.requires.fit;
+      fit = c.requires.fit;
       text_at = text-one c.requires.node refl;
       room = rw c.if-with_junk.true at c.requires.room;
     }

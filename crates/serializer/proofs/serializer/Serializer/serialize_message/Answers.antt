@@ -13,13 +13,13 @@ use Rattle.serializer.proofs.serializer.Serializer.serialize_message.Goals as go
 pub serialize_name-named-requires : goal.serialize_name-named-requires
 serialize_name-named-requires c =
     let h = head c.requires.node in record {
-      tree_value = c.requires.fit;
+      fit = c.requires.fit;
       text_at = h.key;
       room = room-first
-            (going c.args.output.now
-            c.args.self.writer
-            (message-row c.args.source.now h)
-            c.requires.room);
+          (going c.args.output.now
+          c.args.self.writer
+          (message-row c.args.source.now h)
+          c.requires.room);
     }
 
 pub serialize_value-valued-requires : goal.serialize_value-valued-requires

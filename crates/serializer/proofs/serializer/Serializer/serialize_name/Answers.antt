@@ -14,7 +14,7 @@ use Rattle.serializer.proofs.serializer.Serializer.serialize_name.Goals as goal
 pub next-entered-requires : goal.next-entered-requires
 next-entered-requires c =
     let tree = c.args.tree.now in
-    let fit = sizes tree c.requires.tree_value in
+    let fit = sizes tree c.requires.fit in
     omega (arith, fit, at_count tree fit c.requires.text_at.at)
 
 pub serialize_text-named-requires : goal.serialize_text-named-requires
@@ -27,7 +27,7 @@ serialize_text-named-requires c =
     (c.args.self.mark + 1)))
     c.requires.room in
     rw c.next-entered.ensures (record {
-      tree_value = c.requires.tree_value;
+      fit = c.requires.fit;
       text_at = c.requires.text_at;
       room = room-first g;
     })

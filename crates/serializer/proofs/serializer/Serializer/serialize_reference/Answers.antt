@@ -14,7 +14,7 @@ pub kind_at-kind-requires : goal.kind_at-kind-requires
 kind_at-kind-requires c =
     let tree = c.args.tree.now in
     let fit = sizes tree c.requires.fit in record {
-      tree_value = c.requires.fit;
+      fit = c.requires.fit;
       mark_bound = at_count tree fit c.requires.node.at;
     }
 
@@ -53,7 +53,7 @@ serialize_text-named-requires c =
     going_on g0
     (rw
     c.kind_at-kind.ensures at c.write_sigil.ensures) in record {
-      tree_value = c.requires.fit;
+      fit = c.requires.fit;
       text_at = b.first;
       room = room-first g1;
     }
@@ -71,7 +71,7 @@ kind_at-requires c =
     c.args.self.mark
     c.requires.node in
     let m = c.serialize_text-named.ensures.next ∙ b.behind in record {
-      tree_value = c.requires.fit;
+      fit = c.requires.fit;
       mark_bound = rw m (inside-count tree fit b.on);
     }
 
@@ -163,7 +163,7 @@ serialize_text-requires c =
     let f = further-on b yes in
     let g3 = going_on (going-as f.parts g2) c.write_literal.ensures in
     rw m (record {
-      tree_value = c.requires.fit;
+      fit = c.requires.fit;
       text_at = f.second;
       room = room-first g3;
     })

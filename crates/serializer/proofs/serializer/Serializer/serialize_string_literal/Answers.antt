@@ -23,17 +23,17 @@ pub serialize_text-written-requires : goal.serialize_text-written-requires
 unfolding Kind.is_text
 serialize_text-written-requires c =
     record {
-      tree_value = c.requires.fit;
+      fit = c.requires.fit;
       text_at = text-one c.requires.node refl;
       room = room-first
-        (going_on
-        (going c.args.output.now
-        c.args.self.writer
-        (quoted-row c.args.source.now
-        (node_at (marks_in c.args.tree.now)
-        c.args.self.mark))
-        c.requires.room)
-        c.write_literal.ensures);
+          (going_on
+          (going c.args.output.now
+          c.args.self.writer
+          (quoted-row c.args.source.now
+          (node_at (marks_in c.args.tree.now)
+          c.args.self.mark))
+          c.requires.room)
+          c.write_literal.ensures);
     }
 
 pub write_literal-requires-2 : goal.write_literal-requires-2

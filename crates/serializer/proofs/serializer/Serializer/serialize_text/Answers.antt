@@ -10,7 +10,7 @@ use Rattle.serializer.proofs.serializer.Serializer.serialize_text.Goals as goal
 pub text_at-text-requires : goal.text_at-text-requires
 text_at-text-requires c =
     record {
-      tree_value = c.requires.tree_value;
+      fit = c.requires.fit;
       text_at = c.requires.text_at;
     }
 
@@ -22,8 +22,8 @@ pub overflow_add-result : goal.overflow_add-result
 overflow_add-result c =
     omega (
       arith,
-      sizes c.args.tree.now c.requires.tree_value,
-      at_count c.args.tree.now (sizes c.args.tree.now c.requires.tree_value) c.requires.text_at.at,
+      sizes c.args.tree.now c.requires.fit,
+      at_count c.args.tree.now (sizes c.args.tree.now c.requires.fit) c.requires.text_at.at,
     )
 
 pub shape_of-output : goal.shape_of-output

@@ -14,10 +14,10 @@ use Rattle.serializer.proofs.serializer.Serializer.serialize_value.Goals as goal
 pub kind_at-requires : goal.kind_at-requires
 kind_at-requires c =
     record {
-      tree_value = c.requires.fit;
+      fit = c.requires.fit;
       mark_bound = inside-count c.args.tree.now
-      (sizes c.args.tree.now c.requires.fit)
-      c.requires.here;
+          (sizes c.args.tree.now c.requires.fit)
+          c.requires.here;
     }
 
 pub returns-then-kind_at-ne-PATTERN : goal.returns-then-kind_at-ne-PATTERN

@@ -13,8 +13,8 @@ use Rattle.serializer.proofs.serializer.Serializer.serialize_variant_key.Goals a
 pub kind_at-default-requires : goal.kind_at-default-requires
 kind_at-default-requires c =
     let tree = c.args.tree.now in
-    let fit = sizes tree c.requires.tree_value in record {
-      tree_value = c.requires.tree_value;
+    let fit = sizes tree c.requires.fit in record {
+      fit = c.requires.fit;
       mark_bound = at_count tree fit c.requires.one_at.at;
     }
 
@@ -53,7 +53,7 @@ overflow_add-bracketed c =
     c.args.tree.now in
     let fit =
     sizes tree
-    c.requires.tree_value in
+    c.requires.fit in
     omega (
       arith,
       fit,
@@ -79,10 +79,10 @@ serialize_text-written-requires c =
     (rw
     c.kind_at-default.ensures at c.mark_default-begun.ensures) in
     let g2 = going_on g1 c.write_literal.ensures in record {
-      tree_value = c.requires.tree_value;
+      fit = c.requires.fit;
       text_at = (variant-pair
-            c.requires.one_at
-            ).key;
+          c.requires.one_at
+          ).key;
       room = room-first g2;
     }
 

@@ -1,28 +1,25 @@
 -- `serialize_call_arguments`: in the loop, with the arguments that are left all are written.
-use Prim.Native.Nat.{ℕ, ◌-◌}
 use native.Mathlib.Omega.{arith}
-use borrow.Author.Rules.{rules}
 use mathlib.Core.Path.{refl, sym, ap, ◌∙◌}
-use mathlib.Core.Bool.{true, false}
-use Rattle.syntax.specs.Kind as Kind
+use mathlib.Core.Bool.{true}
 use Rattle.syntax.specs.Bytes.{ascii}
-use Rattle.syntax.specs.Layout.{count, marks_in}
+use Rattle.syntax.specs.Layout.{marks_in}
 use Rattle.syntax.specs.Shape.{among, models}
-use Rattle.syntax.specs.Serializer.{nodes, literal, if, ◌⊕◌}
+use Rattle.syntax.specs.Serializer.{literal, if, ◌⊕◌}
 use Rattle.laws.specs.Text.{separated_of, argument_of, separated-none, separated-is}
-use Rattle.tree.specs.Walk.{node_at, after, inner_at, arguments}
+use Rattle.tree.specs.Walk.{node_at, after, arguments}
 use Rattle.tree.proofs.Sizes.{sizes}
 use Rattle.serializer.proofs.Pieces.{then-assoc, going, room-first, going_on, gone, wrote-length, wrote_then}
 use Rattle.serializer.proofs.Pieces.{room-before, room_after}
 use Rattle.tree.proofs.Walk.{at_count, after-count}
-use Rattle.serializer.proofs.Rows.{Rows, rows-first, rows-count, rows-turn, rows-done}
+use Rattle.serializer.proofs.Rows.{rows-first, rows-count, rows-turn, rows-done}
 use Rattle.serializer.proofs.Expressions.{arguments-entered, arguments-parts, argued}
 use Rattle.serializer.proofs.serializer.Serializer.+pattern.Goals as goal
 
 pub serialize_call_arguments-write_literal-requires : goal.serialize_call_arguments-write_literal-requires
 serialize_call_arguments-write_literal-requires t c =
     let source = c.args.source.now in
-        let g0 =
+    let g0 =
     going c.args.output.now
     c.args.self.writer (arguments-parts source c.requires.node)
     c.requires.room in
@@ -31,14 +28,14 @@ serialize_call_arguments-write_literal-requires t c =
 pub serialize_call_arguments-overflow_add-s : goal.serialize_call_arguments-overflow_add-s
 serialize_call_arguments-overflow_add-s t c =
     let tree = c.args.tree.now in
-        let fit = sizes tree c.requires.fit in
+    let fit = sizes tree c.requires.fit in
     let here = at_count tree fit c.requires.node.at in
     omega (arith, fit, here)
 
 pub serialize_call_arguments-loop-output-init : goal.serialize_call_arguments-loop-output-init
 serialize_call_arguments-loop-output-init t c =
     let source = c.args.source.now in
-        let entered = arguments-entered source c.requires.node in
+    let entered = arguments-entered source c.requires.node in
     let g0 =
     going c.args.output.now
     c.args.self.writer
@@ -55,7 +52,7 @@ serialize_call_arguments-loop-output-init t c =
 pub serialize_call_arguments-kind_at-requires : goal.serialize_call_arguments-kind_at-requires
 serialize_call_arguments-kind_at-requires t c =
     let rows = c.loop-output.invariant in record {
-      tree_value = c.requires.fit;
+      fit = c.requires.fit;
       mark_bound = rows-count rows;
     }
 
@@ -82,7 +79,7 @@ serialize_call_arguments-separate-requires t c =
 pub serialize_call_arguments-kind_at-named-requires : goal.serialize_call_arguments-kind_at-named-requires
 serialize_call_arguments-kind_at-named-requires t c =
     let rows = c.loop-output.invariant in record {
-      tree_value = c.requires.fit;
+      fit = c.requires.fit;
       mark_bound = rows-count rows;
     }
 
@@ -93,7 +90,7 @@ serialize_call_arguments-begin_argument-begun-requires t c =
     c.args.source.now in
     let tree =
     c.args.tree.now in
-        let rows = c.loop-output.invariant in
+    let rows = c.loop-output.invariant in
     let a = argument_of source (node_at (marks_in tree) c.loop-output.s.mark) in
     let turn =
     rows-turn rows arguments refl
@@ -119,7 +116,7 @@ serialize_call_arguments-begin_argument-begun-requires t c =
     c.args.output.now
     c.separate.result ar.parts
     (room_after c.separate.ensures a turn.ready.room) in
-    rw c.kind_at-named.ensures (record { tree_value = c.requires.fit; at = ar.key; room = room-first g0 })
+    rw c.kind_at-named.ensures (record { fit = c.requires.fit; at = ar.key; room = room-first g0 })
 
 pub serialize_call_arguments-serialize_inline_expression-value-requires : goal.serialize_call_arguments-serialize_inline_expression-value-requires
 unfolding models among
@@ -128,7 +125,7 @@ serialize_call_arguments-serialize_inline_expression-value-requires t c =
     c.args.source.now in
     let tree =
     c.args.tree.now in
-        let fit = sizes tree c.requires.fit in
+    let fit = sizes tree c.requires.fit in
     let here = at_count tree fit c.requires.node.at in
     let rows = c.loop-output.invariant in
     let a =
@@ -193,7 +190,7 @@ serialize_call_arguments-end_argument-s-requires t c =
     c.args.source.now in
     let tree =
     c.args.tree.now in
-        let fit = sizes tree c.requires.fit in
+    let fit = sizes tree c.requires.fit in
     let rows =
     c.loop-output.invariant in
     let turn =
@@ -333,7 +330,7 @@ pub serialize_call_arguments-write_literal-requires-2 : goal.serialize_call_argu
 serialize_call_arguments-write_literal-requires-2 t c =
     let source =
     c.args.source.now in
-        let g0 =
+    let g0 =
     going
     c.args.output.now
     c.args.self.writer
@@ -350,7 +347,7 @@ pub serialize_call_arguments-overflow_add-result : goal.serialize_call_arguments
 serialize_call_arguments-overflow_add-result t c =
     let tree =
     c.args.tree.now in
-        let fit = sizes tree c.requires.fit in
+    let fit = sizes tree c.requires.fit in
     let rows = c.loop-output.invariant in
     omega (arith, fit, rows-count rows)
 
@@ -358,7 +355,7 @@ pub serialize_call_arguments-shape_of-output : goal.serialize_call_arguments-sha
 serialize_call_arguments-shape_of-output t c =
     let source =
     c.args.source.now in
-        let g0 =
+    let g0 =
     going
     c.args.output.now
     c.args.self.writer
@@ -383,7 +380,7 @@ pub serialize_call_arguments-returns : goal.serialize_call_arguments-returns
 serialize_call_arguments-returns t c =
     let source =
     c.args.source.now in
-        let entered = arguments-entered source c.requires.node in
+    let entered = arguments-entered source c.requires.node in
     let g0 =
     going
     c.args.output.now

@@ -1,5 +1,4 @@
 -- `serialize_element`: a text, or a placeable.
-use Prim.Native.Nat.{ℕ}
 use native.Mathlib.Omega.{arith}
 use borrow.Author.Rules.{rules}
 use mathlib.Core.Path.{sym, ◌∙◌}
@@ -13,17 +12,17 @@ use Rattle.serializer.proofs.serializer.Serializer.+pattern.Goals as goal
 pub serialize_element-kind_at-requires : goal.serialize_element-kind_at-requires
 serialize_element-kind_at-requires t c =
     let tree = c.args.tree.now in
-        let fit = sizes tree c.requires.fit in
+    let fit = sizes tree c.requires.fit in
     let here = at_count tree fit c.requires.node.at in record {
-      tree_value = c.requires.fit;
+      fit = c.requires.fit;
       mark_bound = here;
     }
 
 pub serialize_element-serialize_text-requires : goal.serialize_element-serialize_text-requires
 serialize_element-serialize_text-requires t c =
     let source = c.args.source.now in
-        let is = sym c.kind_at.ensures ∙ c.if-kind_at-eq-TEXT.true in record {
-      tree_value = c.requires.fit;
+    let is = sym c.kind_at.ensures ∙ c.if-kind_at-eq-TEXT.true in record {
+      fit = c.requires.fit;
       text_at = element-text c.requires.node is;
       room = rw (element-name source c.requires.node is) at c.requires.room;
     }
@@ -34,13 +33,13 @@ serialize_element-shape_of-output-then-kind_at-eq-TEXT t c = search rules
 pub serialize_element-returns-then-kind_at-eq-TEXT : goal.serialize_element-returns-then-kind_at-eq-TEXT
 serialize_element-returns-then-kind_at-eq-TEXT t c =
     let source = c.args.source.now in
-        let is = sym c.kind_at.ensures ∙ c.if-kind_at-eq-TEXT.true in
+    let is = sym c.kind_at.ensures ∙ c.if-kind_at-eq-TEXT.true in
     rw (element-name source c.requires.node is) c.serialize_text.ensures
 
 pub serialize_element-overflow_add-self : goal.serialize_element-overflow_add-self
 serialize_element-overflow_add-self t c =
     let tree = c.args.tree.now in
-        let fit = sizes tree c.requires.fit in
+    let fit = sizes tree c.requires.fit in
     let here = at_count tree fit c.requires.node.at in
     omega (arith, fit, here)
 
@@ -48,8 +47,8 @@ pub serialize_element-kind_at-kind-requires : goal.serialize_element-kind_at-kin
 serialize_element-kind_at-kind-requires t c =
     let source = c.args.source.now in
     let tree = c.args.tree.now in
-        let fit = sizes tree c.requires.fit in record {
-      tree_value = c.requires.fit;
+    let fit = sizes tree c.requires.fit in record {
+      fit = c.requires.fit;
       mark_bound = at_count tree fit
           (placeable-inside source c.requires.node
           (λ e. c.if-kind_at-eq-TEXT.false (c.kind_at.ensures ∙ e))).at;
@@ -59,7 +58,7 @@ pub serialize_element-begin_placeable-begun-requires : goal.serialize_element-be
 serialize_element-begin_placeable-begun-requires t c =
     let source = c.args.source.now in
     let tree = c.args.tree.now in
-        let fit = sizes tree c.requires.fit in
+    let fit = sizes tree c.requires.fit in
     let here = at_count tree fit c.requires.node.at in
     let k = c.kind_at-kind.ensures in
     let b =
@@ -75,7 +74,7 @@ pub serialize_element-serialize_expression-written-requires : goal.serialize_ele
 serialize_element-serialize_expression-written-requires t c =
     let source = c.args.source.now in
     let tree = c.args.tree.now in
-        let fit = sizes tree c.requires.fit in
+    let fit = sizes tree c.requires.fit in
     let here = at_count tree fit c.requires.node.at in
     let k = c.kind_at-kind.ensures in
     let b =
@@ -110,7 +109,7 @@ serialize_element-end_placeable-requires t c =
     c.args.source.now in
     let tree =
     c.args.tree.now in
-        let fit = sizes tree c.requires.fit in
+    let fit = sizes tree c.requires.fit in
     let k = c.kind_at-kind.ensures in
     let b =
     braced source c.requires.node
@@ -136,7 +135,7 @@ pub serialize_element-returns : goal.serialize_element-returns
 serialize_element-returns t c =
     let source =
     c.args.source.now in
-        let k = c.kind_at-kind.ensures in
+    let k = c.kind_at-kind.ensures in
     let b =
     braced source c.requires.node
     (λ e. c.if-kind_at-eq-TEXT.false

@@ -1,5 +1,4 @@
 -- `serialize_inline_expression`: a literal, an expression in braces, or a reference.
-use Prim.Native.Nat.{ℕ}
 use native.Mathlib.Omega.{arith}
 use borrow.Author.Rules.{rules}
 use mathlib.Core.Path.{sym, ◌∙◌}
@@ -12,16 +11,16 @@ use Rattle.serializer.proofs.serializer.Serializer.+pattern.Goals as goal
 pub serialize_inline_expression-kind_at-kind-requires : goal.serialize_inline_expression-kind_at-kind-requires
 serialize_inline_expression-kind_at-kind-requires t c =
     let tree = c.args.tree.now in
-        let fit = sizes tree c.requires.fit in
+    let fit = sizes tree c.requires.fit in
     let here = at_count tree fit c.requires.node.at in record {
-      tree_value = c.requires.fit;
+      fit = c.requires.fit;
       mark_bound = here;
     }
 
 pub serialize_inline_expression-serialize_string_literal-requires : goal.serialize_inline_expression-serialize_string_literal-requires
 serialize_inline_expression-serialize_string_literal-requires t c =
     let source = c.args.source.now in
-        let string = inline-string source c.requires.node (sym c.kind_at-kind.ensures ∙ c.if-kind-eq-STRING.true) in
+    let string = inline-string source c.requires.node (sym c.kind_at-kind.ensures ∙ c.if-kind-eq-STRING.true) in
     record { fit = c.requires.fit; node = string.0; shallow = c.requires.shallow; room = rw string.1 at c.requires.room }
 
 pub serialize_inline_expression-shape_of-output-then-kind-eq-STRING : goal.serialize_inline_expression-shape_of-output-then-kind-eq-STRING
@@ -30,7 +29,7 @@ serialize_inline_expression-shape_of-output-then-kind-eq-STRING t c = search rul
 pub serialize_inline_expression-returns-then-kind-eq-STRING : goal.serialize_inline_expression-returns-then-kind-eq-STRING
 serialize_inline_expression-returns-then-kind-eq-STRING t c =
     let source = c.args.source.now in
-        let string =
+    let string =
     inline-string source c.requires.node
     (sym c.kind_at-kind.ensures
     ∙ c.if-kind-eq-STRING.true) in
@@ -39,8 +38,8 @@ serialize_inline_expression-returns-then-kind-eq-STRING t c =
 pub serialize_inline_expression-serialize_text-requires : goal.serialize_inline_expression-serialize_text-requires
 serialize_inline_expression-serialize_text-requires t c =
     let source = c.args.source.now in
-        let number = inline-number source c.requires.node (sym c.kind_at-kind.ensures ∙ c.if-kind-eq-NUMBER.true) in record {
-      tree_value = c.requires.fit;
+    let number = inline-number source c.requires.node (sym c.kind_at-kind.ensures ∙ c.if-kind-eq-NUMBER.true) in record {
+      fit = c.requires.fit;
       text_at = number.0;
       room = rw number.1 at c.requires.room;
     }
@@ -51,7 +50,7 @@ serialize_inline_expression-shape_of-output-then-kind-eq-NUMBER t c = search rul
 pub serialize_inline_expression-returns-then-kind-eq-NUMBER : goal.serialize_inline_expression-returns-then-kind-eq-NUMBER
 serialize_inline_expression-returns-then-kind-eq-NUMBER t c =
     let source = c.args.source.now in
-        let number =
+    let number =
     inline-number source c.requires.node
     (sym c.kind_at-kind.ensures
     ∙ c.if-kind-eq-NUMBER.true) in
@@ -60,7 +59,7 @@ serialize_inline_expression-returns-then-kind-eq-NUMBER t c =
 pub serialize_inline_expression-write_literal-requires : goal.serialize_inline_expression-write_literal-requires
 serialize_inline_expression-write_literal-requires t c =
     let source = c.args.source.now in
-        let held =
+    let held =
     inline-placeable source c.requires.node
     (sym c.kind_at-kind.ensures ∙ c.if-kind-eq-PLACEABLE.true) in
     let g0 =
@@ -72,7 +71,7 @@ serialize_inline_expression-write_literal-requires t c =
 pub serialize_inline_expression-overflow_add-begun : goal.serialize_inline_expression-overflow_add-begun
 serialize_inline_expression-overflow_add-begun t c =
     let tree = c.args.tree.now in
-        let fit = sizes tree c.requires.fit in
+    let fit = sizes tree c.requires.fit in
     let here = at_count tree fit c.requires.node.at in
     omega (arith, fit, here)
 
@@ -82,7 +81,7 @@ serialize_inline_expression-serialize_expression-written-requires t c =
     c.args.source.now in
     let tree =
     c.args.tree.now in
-        let fit = sizes tree c.requires.fit in
+    let fit = sizes tree c.requires.fit in
     let here = at_count tree fit c.requires.node.at in
     let held =
     inline-placeable source c.requires.node
@@ -111,7 +110,7 @@ pub serialize_inline_expression-write_literal-requires-then-kind-eq-PLACEABLE : 
 serialize_inline_expression-write_literal-requires-then-kind-eq-PLACEABLE t c =
     let source =
     c.args.source.now in
-        let held =
+    let held =
     inline-placeable source c.requires.node
     (sym
     c.kind_at-kind.ensures
@@ -131,7 +130,7 @@ serialize_inline_expression-overflow_add-result t c =
     c.args.source.now in
     let tree =
     c.args.tree.now in
-        let fit = sizes tree c.requires.fit in
+    let fit = sizes tree c.requires.fit in
     let end = after-count tree fit c.requires.node.at in
     let held =
     inline-placeable source c.requires.node
@@ -153,7 +152,7 @@ pub serialize_inline_expression-returns-then-kind-eq-PLACEABLE : goal.serialize_
 serialize_inline_expression-returns-then-kind-eq-PLACEABLE t c =
     let source =
     c.args.source.now in
-        let held =
+    let held =
     inline-placeable source c.requires.node
     (sym
     c.kind_at-kind.ensures
@@ -180,7 +179,7 @@ serialize_inline_expression-returns-then-kind-eq-PLACEABLE t c =
 pub serialize_inline_expression-serialize_reference-named-requires : goal.serialize_inline_expression-serialize_reference-named-requires
 serialize_inline_expression-serialize_reference-named-requires t c =
     let source = c.args.source.now in
-        let reference =
+    let reference =
     inline-reference source c.requires.node
     (λ e. c.if-kind-eq-STRING.false (c.kind_at-kind.ensures ∙ e))
     (λ e. c.if-kind-eq-NUMBER.false (c.kind_at-kind.ensures ∙ e))
@@ -194,16 +193,16 @@ serialize_inline_expression-serialize_reference-named-requires t c =
 pub serialize_inline_expression-kind_at-requires : goal.serialize_inline_expression-kind_at-requires
 serialize_inline_expression-kind_at-requires t c =
     let tree = c.args.tree.now in
-        let fit = sizes tree c.requires.fit in
+    let fit = sizes tree c.requires.fit in
     let named = c.serialize_reference-named.ensures.named in record {
-      tree_value = c.requires.fit;
+      fit = c.requires.fit;
       mark_bound = inside-count tree fit named.at.here;
     }
 
 pub serialize_inline_expression-next-requires : goal.serialize_inline_expression-next-requires
 serialize_inline_expression-next-requires t c =
     let tree = c.args.tree.now in
-        let fit = sizes tree c.requires.fit in
+    let fit = sizes tree c.requires.fit in
     let named = c.serialize_reference-named.ensures.named in
     omega (arith, fit, inside-count tree fit named.at.here)
 
@@ -216,7 +215,7 @@ serialize_inline_expression-returns-then-kind_at-ne-ARGUMENTS t c =
     c.args.source.now in
     let tree =
     c.args.tree.now in
-        let reference =
+    let reference =
     inline-reference source c.requires.node
     (λ e. c.if-kind-eq-STRING.false
     (c.kind_at-kind.ensures ∙ e))
@@ -240,7 +239,7 @@ serialize_inline_expression-serialize_call_arguments-called-requires t c =
     c.args.source.now in
     let tree =
     c.args.tree.now in
-        let fit = sizes tree c.requires.fit in
+    let fit = sizes tree c.requires.fit in
     let here = at_count tree fit c.requires.node.at in
     let reference =
     inline-reference source c.requires.node
@@ -285,7 +284,7 @@ serialize_inline_expression-next-requires-2 t c =
     c.args.source.now in
     let tree =
     c.args.tree.now in
-        let fit = sizes tree c.requires.fit in
+    let fit = sizes tree c.requires.fit in
     let end = after-count tree fit c.requires.node.at in
     let named = c.serialize_reference-named.ensures.named in
     let call =
@@ -303,7 +302,7 @@ serialize_inline_expression-returns t c =
     c.args.source.now in
     let tree =
     c.args.tree.now in
-        let reference =
+    let reference =
     inline-reference source c.requires.node
     (λ e. c.if-kind-eq-STRING.false
     (c.kind_at-kind.ensures

@@ -1,10 +1,9 @@
 -- `serialize_pattern`: its elements after a blank, or on lines of their own; in the loop, with the elements that are left all are
 -- written.
-use Prim.Native.Nat.{ℕ, ◌+◌, ◌-◌}
+use Prim.Native.Nat.{◌+◌}
 use native.Mathlib.Omega.{arith}
 use mathlib.Core.Path.{refl, ap, ◌∙◌}
-use Rattle.syntax.specs.Kind as Kind
-use Rattle.syntax.specs.Layout.{count, marks_in}
+use Rattle.syntax.specs.Layout.{marks_in}
 use Rattle.syntax.specs.Shape.{among, models}
 use Rattle.syntax.specs.Serializer.{nodes, each}
 use Rattle.laws.specs.Text.{element_of}
@@ -13,13 +12,13 @@ use Rattle.tree.proofs.Sizes.{sizes}
 use Rattle.serializer.proofs.Pieces.{going, room-first, going_on, gone, wrote-length, one-most, room_within, wrote-within}
 use Rattle.tree.proofs.Walk.{at_count}
 use Rattle.serializer.proofs.Parts.{pattern-at, pattern-entered, pattern-parts}
-use Rattle.serializer.proofs.Rows.{Rows, rows-first, rows-count, rows-turn, rows-done}
+use Rattle.serializer.proofs.Rows.{rows-first, rows-count, rows-turn, rows-done}
 use Rattle.serializer.proofs.serializer.Serializer.+pattern.Goals as goal
 
 pub serialize_pattern-starts_on_new_line-start_on_newline-requires : goal.serialize_pattern-starts_on_new_line-start_on_newline-requires
 serialize_pattern-starts_on_new_line-start_on_newline-requires t c =
     let source = c.args.source.now in record {
-      tree_value = c.requires.fit;
+      fit = c.requires.fit;
       at = pattern-at source c.requires.node;
     }
 
@@ -27,7 +26,7 @@ pub serialize_pattern-begin_pattern-s-requires : goal.serialize_pattern-begin_pa
 serialize_pattern-begin_pattern-s-requires t c =
     let source = c.args.source.now in
     let tree = c.args.tree.now in
-        let fit = sizes tree c.requires.fit in
+    let fit = sizes tree c.requires.fit in
     let here = at_count tree fit c.requires.node.at in
     let g0 =
     going c.args.output.now
@@ -42,7 +41,7 @@ pub serialize_pattern-loop-output-init : goal.serialize_pattern-loop-output-init
 serialize_pattern-loop-output-init t c =
     let source = c.args.source.now in
     let tree = c.args.tree.now in
-        let entered = pattern-entered source c.requires.node in
+    let entered = pattern-entered source c.requires.node in
     let start = c.starts_on_new_line-start_on_newline.result in
     let begun = c.begin_pattern-s.ensures in
     let p =
@@ -68,7 +67,7 @@ serialize_pattern-loop-output-init t c =
 pub serialize_pattern-kind_at-requires : goal.serialize_pattern-kind_at-requires
 serialize_pattern-kind_at-requires t c =
     let rows = c.loop-output.invariant in record {
-      tree_value = c.requires.fit;
+      fit = c.requires.fit;
       mark_bound = rows-count rows;
     }
 
@@ -77,7 +76,7 @@ unfolding models among each
 serialize_pattern-serialize_element-s-requires t c =
     let source = c.args.source.now in
     let tree = c.args.tree.now in
-        let fit = sizes tree c.requires.fit in
+    let fit = sizes tree c.requires.fit in
     let here = at_count tree fit c.requires.node.at in
     let begun = c.begin_pattern-s.ensures in
     let rows = c.loop-output.invariant in
@@ -118,7 +117,7 @@ serialize_pattern-loop-output-preserved t c =
 pub serialize_pattern-end_pattern-requires : goal.serialize_pattern-end_pattern-requires
 serialize_pattern-end_pattern-requires t c =
     let tree = c.args.tree.now in
-        let fit = sizes tree c.requires.fit in
+    let fit = sizes tree c.requires.fit in
     let begun = c.begin_pattern-s.ensures in
     let rows = c.loop-output.invariant in record {
       start_on_newline_bound = omega (arith, rows.level, ap (λ s. s.writer.indent) begun.next);
@@ -138,7 +137,7 @@ unfolding each
 serialize_pattern-returns t c =
     let source = c.args.source.now in
     let tree = c.args.tree.now in
-        let entered = pattern-entered source c.requires.node in
+    let entered = pattern-entered source c.requires.node in
     let start = c.starts_on_new_line-start_on_newline.result in
     let begun = c.begin_pattern-s.ensures in
     let p =

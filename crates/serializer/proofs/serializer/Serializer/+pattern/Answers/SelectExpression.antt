@@ -1,12 +1,10 @@
 -- `serialize_select_expression`: the selector, and the variants on lines of their own; in the loop, with the variants that are left
 -- all are written.
-use Prim.Native.Nat.{ℕ, ◌+◌, ◌-◌}
+use Prim.Native.Nat.{◌+◌}
 use native.Mathlib.Omega.{arith}
-use borrow.Author.Rules.{rules}
 use mathlib.Core.Path.{refl, ap, ◌∙◌}
 use mathlib.Core.Bool.{true}
-use Rattle.syntax.specs.Kind as Kind
-use Rattle.syntax.specs.Layout.{count, marks_in}
+use Rattle.syntax.specs.Layout.{marks_in}
 use Rattle.syntax.specs.Shape.{among, models}
 use Rattle.syntax.specs.Serializer.{nodes, each, newline, ◌⊕◌}
 use Rattle.laws.specs.Text.{variant_of}
@@ -16,14 +14,14 @@ use Rattle.tree.proofs.Sizes.{sizes}
 use Rattle.serializer.proofs.Pieces.{going, room-first, going_on, gone, wrote-length, wrote_then, room-before}
 use Rattle.serializer.proofs.Pieces.{room_after, room_within, wrote-within}
 use Rattle.tree.proofs.Walk.{at_count}
-use Rattle.serializer.proofs.Rows.{Rows, rows-first, rows-count, rows-turn, rows-done}
+use Rattle.serializer.proofs.Rows.{rows-first, rows-count, rows-turn, rows-done}
 use Rattle.serializer.proofs.Expressions.{chosen}
 use Rattle.serializer.proofs.serializer.Serializer.+pattern.Goals as goal
 
 pub serialize_select_expression-next-entered-requires : goal.serialize_select_expression-next-entered-requires
 serialize_select_expression-next-entered-requires t c =
     let tree = c.args.tree.now in
-        let fit = sizes tree c.requires.fit in
+    let fit = sizes tree c.requires.fit in
     let here = at_count tree fit c.requires.node.at in
     omega (arith, fit, here)
 
@@ -31,7 +29,7 @@ pub serialize_select_expression-serialize_inline_expression-selector-requires : 
 serialize_select_expression-serialize_inline_expression-selector-requires t c =
     let source = c.args.source.now in
     let tree = c.args.tree.now in
-        let fit = sizes tree c.requires.fit in
+    let fit = sizes tree c.requires.fit in
     let here = at_count tree fit c.requires.node.at in
     let ch = chosen source c.requires.node in
     let g0 =
@@ -45,7 +43,7 @@ serialize_select_expression-serialize_inline_expression-selector-requires t c =
 pub serialize_select_expression-write_literal-requires : goal.serialize_select_expression-write_literal-requires
 serialize_select_expression-write_literal-requires t c =
     let source = c.args.source.now in
-        let ch = chosen source c.requires.node in
+    let ch = chosen source c.requires.node in
     let g0 =
     going c.args.output.now
     c.args.self.writer
@@ -60,7 +58,7 @@ pub serialize_select_expression-newline-requires : goal.serialize_select_express
 serialize_select_expression-newline-requires t c =
     let source =
     c.args.source.now in
-        let ch = chosen source c.requires.node in
+    let ch = chosen source c.requires.node in
     let g0 =
     going
     c.args.output.now
@@ -77,7 +75,7 @@ pub serialize_select_expression-indent-requires : goal.serialize_select_expressi
 serialize_select_expression-indent-requires t c =
     let tree =
     c.args.tree.now in
-        let fit = sizes tree c.requires.fit in
+    let fit = sizes tree c.requires.fit in
     let here = at_count tree fit c.requires.node.at in
     let selector =
     rw
@@ -93,7 +91,7 @@ serialize_select_expression-loop-output-init t c =
     c.args.source.now in
     let tree =
     c.args.tree.now in
-        let ch = chosen source c.requires.node in
+    let ch = chosen source c.requires.node in
     let p =
     variant_lines source
     (nodes
@@ -127,7 +125,7 @@ serialize_select_expression-loop-output-init t c =
 pub serialize_select_expression-kind_at-requires : goal.serialize_select_expression-kind_at-requires
 serialize_select_expression-kind_at-requires t c =
     let rows = c.loop-output.invariant in record {
-      tree_value = c.requires.fit;
+      fit = c.requires.fit;
       mark_bound = rows-count rows;
     }
 
@@ -138,7 +136,7 @@ serialize_select_expression-serialize_variant-written-requires t c =
     c.args.source.now in
     let tree =
     c.args.tree.now in
-        let fit = sizes tree c.requires.fit in
+    let fit = sizes tree c.requires.fit in
     let here = at_count tree fit c.requires.node.at in
     let selector =
     rw
@@ -239,7 +237,7 @@ serialize_select_expression-returns t c =
     c.args.source.now in
     let tree =
     c.args.tree.now in
-        let ch = chosen source c.requires.node in
+    let ch = chosen source c.requires.node in
     let p =
     variant_lines source
     (nodes

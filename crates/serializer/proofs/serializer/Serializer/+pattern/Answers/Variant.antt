@@ -1,5 +1,4 @@
 -- `serialize_variant`: the key, and the pattern.
-use Prim.Native.Nat.{ℕ}
 use native.Mathlib.Omega.{arith}
 use borrow.Author.Rules.{rules}
 use Rattle.tree.proofs.Sizes.{sizes}
@@ -12,10 +11,10 @@ use Rattle.serializer.proofs.serializer.Serializer.+pattern.Goals as goal
 pub serialize_variant-serialize_variant_key-keyed-requires : goal.serialize_variant-serialize_variant_key-keyed-requires
 serialize_variant-serialize_variant_key-keyed-requires t c =
     let source = c.args.source.now in
-        let g0 =
+    let g0 =
     going c.args.output.now
     c.args.self.writer (variant_parts source c.requires.ready.node) c.requires.ready.room in record {
-      tree_value = c.requires.ready.fit;
+      fit = c.requires.ready.fit;
       one_at = c.requires.ready.node;
       le_indent = c.requires.le_indent;
       room = room-first g0;
@@ -25,7 +24,7 @@ pub serialize_variant-serialize_pattern-written-requires : goal.serialize_varian
 serialize_variant-serialize_pattern-written-requires t c =
     let source = c.args.source.now in
     let tree = c.args.tree.now in
-        let fit = sizes tree c.requires.ready.fit in
+    let fit = sizes tree c.requires.ready.fit in
     let here = at_count tree fit c.requires.ready.node.at in
     let pair = variant-pair c.requires.ready.node in
     let g0 =
@@ -47,7 +46,7 @@ serialize_variant-serialize_pattern-written-requires t c =
 pub serialize_variant-next-requires : goal.serialize_variant-next-requires
 serialize_variant-next-requires t c =
     let tree = c.args.tree.now in
-        let fit = sizes tree c.requires.ready.fit in
+    let fit = sizes tree c.requires.ready.fit in
     let pair = variant-pair c.requires.ready.node in
     let m = c.serialize_variant_key-keyed.ensures.next in
     let till = pair.till in
@@ -61,7 +60,7 @@ serialize_variant-shape_of-output t c = search rules
 pub serialize_variant-returns : goal.serialize_variant-returns
 serialize_variant-returns t c =
     let source = c.args.source.now in
-        let pair = variant-pair c.requires.ready.node in
+    let pair = variant-pair c.requires.ready.node in
     let g0 =
     going
     c.args.output.now
