@@ -14,7 +14,8 @@ use Rattle.syntax.specs.Serializer.{serialize}
 use Rattle.laws.specs.Call.{writes, written-size, written-output, output-utf8, marks-left}
 use Rattle.cut.specs.Claim.{Demand3}
 use Rattle.cut.specs.Definition.{Slices, tree_in, errors_in}
-use Rattle.cut.specs.Theorem.{Faithful, reading-shows, holds}
+use Rattle.cut.specs.Faithful.{Faithful}
+use Rattle.cut.proofs.Theorem.{reading-shows, holds}
 use Rattle.parser.specs.Call.{DidRead}
 use Rattle.serializer.specs.Call.{DidWrite}
 use Rattle.calls.specs.Calls.{Reading, Writing, calls, Writable}

@@ -1,10 +1,8 @@
--- A file cut in two: the claim, and its proof for the definitions.
+-- A file cut in two: the claim, examples, and laws of words and lines.
 pub mod Claim
 pub mod Definition
 pub mod LastLine
 pub mod Words
 pub mod Clean
-pub mod Tree
-pub mod Text
-pub mod Theorem
+pub mod Faithful
 pub mod Table

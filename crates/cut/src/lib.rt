@@ -1,2 +1,2 @@
-// The theorem on a file cut in two stands in specs/.
+// The claim on a file cut in two stands in specs/, the theorem in proofs/.
 #![tactic(auto)]

@@ -22,9 +22,9 @@ use Rattle.laws.specs.Limit.Readings.{parse-kept}
 use Rattle.standard.specs.Dialect.{rust}
 use Rattle.standard.specs.Grammar as Grammar
 use Rattle.standard.specs.Grammar.{Entry, ResourceWithin}
-use Rattle.standard.specs.WholePattern.{pattern-agrees}
-use Rattle.standard.specs.Placeable.{levels-agree}
-use Rattle.standard.specs.Resource as Resource
+use Rattle.standard.proofs.WholePattern.{pattern-agrees}
+use Rattle.standard.proofs.Placeable.{levels-agree}
+use Rattle.standard.proofs.Resource as Resource
 
 -- with at most n "{" and "(" open at a time
 pub tree-is-standard : (n : ℕ) (s : List ℕ) (ms : List Mark) (es : List Error) → parse n s ≡ read ms es → ResourceWithin rust n s ≡ ms

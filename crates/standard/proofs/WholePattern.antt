@@ -43,7 +43,7 @@ use Rattle.standard.specs.Elements.{element-placeable, element-none, element-nil
 use Rattle.standard.specs.Elements.{element-end, tail-again, tail_none, tail-nil, tail-lf, tail-crlf, block-fails}
 use Rattle.standard.specs.Dedent.{Shown, Live}
 use Rattle.standard.specs.Growth.{both, made, Content, Line-content, Common}
-use Rattle.standard.specs.PatternAgrees.{Rel, rel-step, behind-spaces, Shorter, claims}
+use Rattle.standard.proofs.PatternAgrees.{Rel, rel-step, behind-spaces, Shorter, claims}
 
 -- the node of a pattern with the source s, from its raw elements
 unfoldable patterned : List ℕ → Answer (List Raw) → Answer (Unit {0})

@@ -19,13 +19,13 @@ use Rattle.laws.specs.Bytes.{Whole, whole_drop, by_case, clash}
 use Rattle.laws.specs.Answers.{sure-ok}
 use Rattle.laws.specs.Stable.Helper.{block-sure}
 use Rattle.laws.specs.Entries.{entries_with, not-deep, Step, step_of, nil-named}
-use Rattle.cut.specs.Tree.Join.{and-false}
+use Rattle.cut.proofs.Tree.Join.{and-false}
 use Rattle.laws.specs.Balanced.{Levels}
 use Rattle.laws.specs.Formed.Pattern.{InsideFormed}
 use Rattle.laws.specs.Formed.Entry.{entry-levels}
 use Rattle.laws.specs.File.{Small, small_of, kind-le}
 use Rattle.laws.specs.Balanced.Nodes.{node_of, nodes-node, nodes-text, up_node, nodes-up}
-use Rattle.cut.specs.Text.Piece.{Ends, Opening, opens_nodes}
+use Rattle.cut.proofs.Text.Piece.{Ends, Opening, opens_nodes}
 use Rattle.cut.specs.Claim.{first_entry, is_free}
 
 -- whether a tree opens with a free comment

@@ -40,8 +40,8 @@ use Rattle.standard.specs.Same.{Same, nothing, Matches, PatternAgrees, SamePatte
 use Rattle.standard.specs.Same.{same_byte, same-blank, then, reads_then, reads-bind, reads-assoc, reads-skip}
 use Rattle.standard.specs.Same.{ok-pure}
 use Rattle.standard.specs.Near.{is_opening, Near, nearly-near, same-near, near_next, near_first, near-second, near-pick, over-after}
-use Rattle.standard.specs.Words.{no_number, no_name, same_name, number-void}
-use Rattle.standard.specs.Inline.{digit-no-letter}
+use Rattle.standard.proofs.Words.{no_number, no_name, same_name, number-void}
+use Rattle.standard.proofs.Inline.{digit-no-letter}
 
 -- VariantKey
 -- ----------------------------------------------------------------------------------------------------------------------------------

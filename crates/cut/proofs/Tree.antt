@@ -27,8 +27,8 @@ use Rattle.laws.specs.Lines.Lands.{block-lands}
 use Rattle.laws.specs.File.{entries-more}
 use Rattle.laws.specs.Entries.{following-read, read-read, map-nil, weight, weight-append, weight-up, block-fresh}
 use Rattle.cut.specs.LastLine.{last_line-drop, Tail, tail_of}
-use Rattle.cut.specs.Tree.Join.{Joins, Joint, join, no-exc}
-use Rattle.cut.specs.Tree.First.{joins-entry, entry-joins}
+use Rattle.cut.proofs.Tree.Join.{Joins, Joint, join, no-exc}
+use Rattle.cut.proofs.Tree.First.{joins-entry, entry-joins}
 use Rattle.cut.specs.Claim.{last_line, hashes, Exception}
 
 -- the readings of A, of B and of both in a row, A without an error

@@ -30,16 +30,16 @@ use Rattle.standard.specs.Grammar as Grammar
 use Rattle.standard.specs.Grammar.{Attribute, PatternElement, dedented-pattern, in_pattern, Message, Term, entry-end}
 use Rattle.standard.specs.Blank.{is_blank_at, blanks, line_ends, line-end-is, no-line-end, blank-inline?-is, ends-spaces}
 use Rattle.standard.specs.Same.{Same, nothing, Agree, whole-pattern, same_byte, same-blank-inline, reads_then, fits-pure}
-use Rattle.standard.specs.Words.{same_name}
+use Rattle.standard.proofs.Words.{same_name}
 use Rattle.standard.specs.BlankLines.{after-zero}
 use Rattle.standard.specs.Turns.{Plain, many-plain, many-again, many-none, many-still, some-many}
 use Rattle.standard.specs.Blocks.{stop, block_of, skip_block, line-fits, line-at-end}
 use Rattle.standard.specs.Elements.{onward, behind, on_line, line_tail, line-off-tail, goes_on-suc, tail, tail-lf, tail-crlf}
 use Rattle.standard.specs.Texts.{Sign, end, lf, cr-lf, opens, closes, plain, sign_of, plain-eol}
-use Rattle.standard.specs.WholePattern.{Whole, whole-agrees, line_plain}
-use Rattle.standard.specs.Attributes.{Gap, gap_of, block-blanks, closing-gap, Value, value_of, fit, broken}
-use Rattle.standard.specs.Attributes.{missing, Attrs, attributes-agree, attribute-uses, attribute-not}
-use Rattle.standard.specs.Attributes.{attribute-off, no-attribute}
+use Rattle.standard.proofs.WholePattern.{Whole, whole-agrees, line_plain}
+use Rattle.standard.proofs.Attributes.{Gap, gap_of, block-blanks, closing-gap, Value, value_of, fit, broken}
+use Rattle.standard.proofs.Attributes.{missing, Attrs, attributes-agree, attribute-uses, attribute-not}
+use Rattle.standard.proofs.Attributes.{attribute-off, no-attribute}
 
 -- The end of an entry
 -- -------------------------------------------------------------------------------------------------------------------------

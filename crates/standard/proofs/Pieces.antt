@@ -29,11 +29,11 @@ use Rattle.standard.specs.Grammar.{nesting, Message, Term, entry-end, CommentLin
 use Rattle.standard.specs.Grammar.{swallowing-junk, Junk, piece, part, as_part, tree_of, ResourceWithin}
 use Rattle.standard.specs.Blank.{blank-inline?-is}
 use Rattle.standard.specs.Same.{Same, Agree, fits-pure}
-use Rattle.standard.specs.Words.{no_name, uses-name}
+use Rattle.standard.proofs.Words.{no_name, uses-name}
 use Rattle.standard.specs.Turns.{AtEnd, many-again, many-none, many-still, some-many, Fitting, many-fit}
 use Rattle.standard.specs.Texts.{Sign, end, lf, cr-lf, opens, closes, plain, sign_of, plain-eol}
 use Rattle.standard.specs.Blocks.{Block, stop, step}
-use Rattle.standard.specs.Messages.{item_of, message-agrees, term-agrees}
+use Rattle.standard.proofs.Messages.{item_of, message-agrees, term-agrees}
 use Rattle.standard.specs.Comments.{no-comment, line-comment}
 
 -- Blank lines

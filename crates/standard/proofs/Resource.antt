@@ -35,10 +35,10 @@ use Rattle.standard.specs.Same.{Same, Agree, ok-pure}
 use Rattle.standard.specs.Turns.{Fitting, Shrinks, repeat-again, repeat-done}
 use Rattle.standard.specs.Texts.{Sign, end, lf, cr-lf, opens, closes, plain, sign_of, plain-eol}
 use Rattle.standard.specs.Blocks.{Block, stop, step, block_of, block-stops, skip_block, lf-block}
-use Rattle.standard.specs.Messages.{item_of}
+use Rattle.standard.proofs.Messages.{item_of}
 use Rattle.standard.specs.Comments.{no-comment, no-level, Turned, away, broken, ends, line, turned-of}
-use Rattle.standard.specs.Pieces.{entry-uses, entry-hash, entry-agrees, piece-entry, piece-blank, piece-junk}
-use Rattle.standard.specs.Pieces.{parts, parts_again, parts-nil, tree-parts, Head, no_part, a-part, head_of}
+use Rattle.standard.proofs.Pieces.{entry-uses, entry-hash, entry-agrees, piece-entry, piece-blank, piece-junk}
+use Rattle.standard.proofs.Pieces.{parts, parts_again, parts-nil, tree-parts, Head, no_part, a-part, head_of}
 
 turn-nil : (c : ℕ) → comment_turn c [] ≡ done (ok c [] 0)
 unfolding comment_turn level_of run

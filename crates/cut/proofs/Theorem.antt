@@ -6,8 +6,8 @@ use Rattle.std.proofs.Common.{arith, sym, ap₂, ◌∙◌, subst, length-take, 
 use Rattle.std.proofs.Math.Path.{ap}
 use Rattle.syntax.specs.Kind as Kind
 use Rattle.syntax.specs.Limits.{max_open}
-use Rattle.syntax.specs.Marks.{Mark, plain, placed, kind_of, move_up}
-use Rattle.syntax.specs.Core.{Error, up_error, read, parse}
+use Rattle.syntax.specs.Marks.{Mark, plain, placed, move_up}
+use Rattle.syntax.specs.Core.{up_error, read, parse}
 use Rattle.syntax.specs.Layout.{tree_capacity, tree_layout, error_layout, groups}
 use Rattle.syntax.specs.Reading.{marks_of}
 use Rattle.syntax.specs.Serializer.{serialize}
@@ -17,26 +17,11 @@ use Rattle.laws.specs.Call.{Read, read_of, marks-left}
 use Rattle.laws.specs.Formed.{proper}
 use Rattle.cut.specs.Claim.{View, Exception, Without, between, move_tree, move_errors, join, Fit, Claim, SameTree, Demand3}
 use Rattle.cut.specs.Definition.{kinds_of, tree_in, errors_in, reading}
+use Rattle.cut.specs.Faithful.{Shows, Faithful}
 use Rattle.cut.specs.Words.{of_marks, of_errors, tree-in, errors-in, join-marks, move-errors, marks-same}
 use Rattle.cut.specs.Clean.{clean}
-use Rattle.cut.specs.Tree.{Readings, CutTree, cut-tree}
-use Rattle.cut.specs.Text.{cut-text}
-
--- ---- a view that shows what is read
-
--- a reading leaves what `parse` reads of its source, with at most n openings at a time
-pub record Shows (n : ℕ) (view : View) (s : List ℕ) (r : view.Reading s) : Type 0 where
-  pub marks : List Mark
-  pub list : List Error
-  pub reads : parse n s ≡ read marks list
-  pub kinds : view.kinds s ≡ map kind_of marks
-  pub tree : view.tree s r ≡ of_marks marks
-  pub errors : view.errors s r ≡ of_errors list
-  pub text : (junk : Bool) (t : List ℕ) → view.Text s r junk t → t ≡ serialize s junk marks
-
--- the accepted ones do
-abbrev pub Faithful : ℕ → View → Type 0
-Faithful n view = (s : List ℕ) (r : view.Reading s) → view.Accepted s r → Shows n view s r
+use Rattle.cut.proofs.Tree.{Readings, CutTree, cut-tree}
+use Rattle.cut.proofs.Text.{cut-text}
 
 proper-up : (n : ℕ) (ms : List Mark) → AllProper ms → AllProper (move_up n ms)
 unfolding move_up

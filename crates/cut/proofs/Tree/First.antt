@@ -25,7 +25,7 @@ use Rattle.laws.specs.File.{small_of, near, entry, junk, Passed, none, more, ent
 use Rattle.laws.specs.Entries.{entry-comment, nil-entry}
 use Rattle.cut.specs.Claim as Claim
 use Rattle.cut.specs.Claim.{first_entry, hashes, is_named, is_comment}
-use Rattle.cut.specs.Tree.Join.{Joins, as_comment-ok, named-entry}
+use Rattle.cut.proofs.Tree.Join.{Joins, as_comment-ok, named-entry}
 
 -- ---- a comment's level is the number of '#' that it starts with
 

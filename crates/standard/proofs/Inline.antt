@@ -37,9 +37,9 @@ use Rattle.standard.specs.Same.{Same, nothing, Agree, reads-bind, ok-pure, fits-
 use Rattle.standard.specs.Near.{is_opening, Opens, opens_by, Left, Near, nearly-near, same-near, near-pure}
 use Rattle.standard.specs.Near.{near-after, near-then, near-wrap, near-pick, near_first, near-second, Wrong}
 use Rattle.standard.specs.Near.{wrong-near}
-use Rattle.standard.specs.Words.{letter-names, name_of, reads-name, parses-name, no_name, same_name, no_number}
-use Rattle.standard.specs.Words.{no-negative, no-unsigned-literal, number-literal, unsigned-literal, form_of}
-use Rattle.standard.specs.Words.{string-literal, uses-name, uses-number}
+use Rattle.standard.proofs.Words.{letter-names, name_of, reads-name, parses-name, no_name, same_name, no_number}
+use Rattle.standard.proofs.Words.{no-negative, no-unsigned-literal, number-literal, unsigned-literal, form_of}
+use Rattle.standard.proofs.Words.{string-literal, uses-name, uses-number}
 
 -- AttributeAccessor
 -- ---------------------------------------------------------------------------------------------------------------------------

@@ -33,12 +33,12 @@ use Rattle.standard.specs.Grammar.{Attribute}
 use Rattle.standard.specs.Blank.{is_blank_at, blanks, blanks-on, spaces-blanks, eol-blanks, line_ends, line-end-is}
 use Rattle.standard.specs.Blank.{no-line-end, blank-inline?-is, parser-skips, block-lines, ends-spaces, Lines}
 use Rattle.standard.specs.Same.{Same, nothing, Agree, whole-pattern, same_byte, same-blank-inline, node-up}
-use Rattle.standard.specs.Words.{same_name}
+use Rattle.standard.proofs.Words.{same_name}
 use Rattle.standard.specs.Turns.{Shrinks, AtEnd, repeat-again, repeat-done, many-again, many-none}
 use Rattle.standard.specs.Texts.{Sign, end, lf, cr-lf, opens, closes, plain, sign_of, plain-eol}
 use Rattle.standard.specs.Blocks.{Block, stop, step, block_of, block-stops, block-many, lines-many, lines_end, lf-block, crlf-block}
 use Rattle.standard.specs.Elements.{closing, closing-fits, closing-brace, closing-fails, block-at-end}
-use Rattle.standard.specs.WholePattern.{Whole, whole-agrees}
+use Rattle.standard.proofs.WholePattern.{Whole, whole-agrees}
 
 -- The end of a value
 -- --------------------------------------------------------------------------------------------------------------------------

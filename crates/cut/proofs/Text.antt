@@ -18,10 +18,10 @@ use Rattle.laws.specs.Moving.{move_up-zero}
 use Rattle.laws.specs.Formed.{places, balanced}
 use Rattle.laws.specs.Formed.Expression.{level-formed}
 use Rattle.laws.specs.Balanced.Nodes.{up_node, nodes-up, nodes-append, OkMarks, ok-nodes}
-use Rattle.cut.specs.Text.Source.{resource-same}
-use Rattle.cut.specs.Text.Piece.{Ends, resource-ends, wrote_all, wrote-ends, resource-append, Opening, opens_nodes, opened-text}
-use Rattle.cut.specs.Text.Listing.{opens_free, none_read, entries-ends, ends-up, entries-opening}
-use Rattle.cut.specs.Tree.{Readings, start, from_start, first_part, second-part}
+use Rattle.cut.proofs.Text.Source.{resource-same}
+use Rattle.cut.proofs.Text.Piece.{Ends, resource-ends, wrote_all, wrote-ends, resource-append, Opening, opens_nodes, opened-text}
+use Rattle.cut.proofs.Text.Listing.{opens_free, none_read, entries-ends, ends-up, entries-opening}
+use Rattle.cut.proofs.Tree.{Readings, start, from_start, first_part, second-part}
 use Rattle.cut.specs.Claim.{between}
 
 any-ok : (ms : List Mark) → OkMarks (λ p. Unit {0}) ms

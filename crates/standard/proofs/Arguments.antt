@@ -37,8 +37,8 @@ use Rattle.standard.specs.Blank.{skip_blank-is, reader-skips, parser-skips}
 use Rattle.standard.specs.Same.{Same, nothing, Agree, same_after, same-wrap, wrap-after, then, same-blank}
 use Rattle.standard.specs.Same.{same_byte, reads_then, reads-after, reads-skip, fits-pure, expects}
 use Rattle.standard.specs.Near.{is_opening, Opens, Left, Near, over-after}
-use Rattle.standard.specs.Words.{name_of, parses-name, no_name, uses-name, form_of}
-use Rattle.standard.specs.Inline.{inline-near, literal-near, no-inline, uses-inline, colon-reference, Uncoloned, uncoloned}
+use Rattle.standard.proofs.Words.{name_of, parses-name, no_name, uses-name, form_of}
+use Rattle.standard.proofs.Inline.{inline-near, literal-near, no-inline, uses-inline, colon-reference, Uncoloned, uncoloned}
 
 -- A9
 -- ------------------------------------------------------------------------------------------------------------------------------------------

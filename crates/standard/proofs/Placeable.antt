@@ -33,10 +33,10 @@ use Rattle.standard.specs.Blank.{reader-skips, parser-skips}
 use Rattle.standard.specs.Same.{Same, nothing, Agree, PatternAgrees, same-skip, same-wrap, same_byte, same-blank}
 use Rattle.standard.specs.Same.{then, reads_then, reads-skip, ok-pure, fits-pure, expects, refuses}
 use Rattle.standard.specs.Near.{is_opening, Opens, Left, Near, Wrong, wrong-next, wrong-after}
-use Rattle.standard.specs.Words.{form_of}
-use Rattle.standard.specs.Inline.{inline-near}
-use Rattle.standard.specs.Arguments.{arguments-agree, no_arguments}
-use Rattle.standard.specs.Select.{Ended, ended-after, reads_lines, variants-ended}
+use Rattle.standard.proofs.Words.{form_of}
+use Rattle.standard.proofs.Inline.{inline-near}
+use Rattle.standard.proofs.Arguments.{arguments-agree, no_arguments}
+use Rattle.standard.proofs.Select.{Ended, ended-after, reads_lines, variants-ended}
 
 -- A10 and A11
 -- ---------------------------------------------------------------------------------------------------------------------------------
