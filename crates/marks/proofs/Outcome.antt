@@ -122,14 +122,3 @@ module _ {s t e out : List ℕ} (l : Lent s t e out) where
     where
       accepted-text : (d : Read s t e) → printed s ≡ lines (lines_of (read d.marks d.errors))
       accepted-text d = unfold printed listing in (rw (d.well_formed, printed) (ap (λ o. lines (lines_of o)) d.reads))
-
--- arrays of zeros are lent
-pub zeros : {s : List ℕ} (a b c : ℕ) → length s ≤ max_source → tree_layout max_source ≤ a → error_layout max_source ≤ b → output_room ≤ c
-    → Lent s (replicate a 0) (replicate b 0) (replicate c 0)
-zeros a b c h i j k =
-    record {
-      source = h;
-      tree = omega (arith, length-replicate {A = ℕ} a 0);
-      errors = omega (arith, length-replicate {A = ℕ} b 0);
-      output = omega (arith, length-replicate {A = ℕ} c 0);
-    }
