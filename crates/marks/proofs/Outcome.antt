@@ -5,7 +5,7 @@ use mathlib.Core.Path.{◌≡◌, refl, sym, ap, ap₂, ◌∙◌}
 use mathlib.Core.Bool.{false}
 use mathlib.Core.List.{List, [], ◌∷◌, ◌++◌, append-nil}
 use mathlib.Core.Option.{Option, some, none}
-use lib.ListN.{length, drop, replicate, length-replicate}
+use lib.ListN.{length, drop}
 use lib.Dec.{ltb}
 use borrow.Author.Tests.{le-ltb}
 use Rattle.utf8.specs.Utf8.{first_ill_formed}
@@ -24,7 +24,7 @@ use Rattle.parser.specs.Call.{DidRead}
 use Rattle.output.specs.Put.{Put}
 use Rattle.output.proofs.Puts.{put-length, put-exact}
 use Rattle.marks.specs.Rows.{read_rows, Held}
-use Rattle.marks.specs.Report.{printed, max_source, output_room, Lent, Reported}
+use Rattle.marks.specs.Report.{printed, Lent, Reported}
 use Rattle.marks.proofs.Lines.{reading-few}
 use Rattle.marks.proofs.Words.{tree-count, tree-capacity, errors-count, errors-capacity, read-rows}
 
