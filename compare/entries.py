@@ -7,7 +7,8 @@ The oracle's `entries` must list the same. Of a source that it refuses as not UT
 nests too deep (5) the entries before it are compared: the opening that is one too many is made an 'x' until the oracle reads
 the source, and the entry in which the first such opening stands, with all that follow, is left out. If that is now junk from
 an attribute's line on, the entry before it had that attribute, and is left out too.
-The oracle is shared/oracle of this project, built by `cargo build --release --offline`; the program is built by `rt check`.
+The oracle is shared/oracle of this project, built by `cargo build --release --offline`; the program by `rt run` in
+crates/entries.
 """
 import argparse, os, subprocess, sys
 
@@ -42,7 +43,7 @@ def wanted(oracle, data):
 def main():
     args = argparse.ArgumentParser()
     args.add_argument('--oracle', default=os.path.join(ROOT, '../shared/oracle/target/release/oracle'))
-    args.add_argument('--program', default=os.path.join(ROOT, 'target/bin/entries'))
+    args.add_argument('--program', default=os.path.join(ROOT, 'crates/entries/out/entries'))
     args = args.parse_args()
     tally, lines, wrong = {}, 0, 0
     for line in sys.stdin:

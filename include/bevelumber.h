@@ -1,4 +1,4 @@
-/* Bevelumber: Fluent text, read and written with proof. The functions of libexports.a (rt staticlib exports).
+/* Bevelumber: Fluent text, read and written with proof. The functions of libexports.a (rt lib in crates/exports).
  *
  * Each function is proved to answer, and to leave in the memory it is lent, what document 01 of the project says, for every input.
  * It keeps nothing between calls, allocates nothing, and takes a bounded stack; calls on different memory may run in parallel.

@@ -5,11 +5,8 @@ use mathlib.Core.Path.{◌≡◌, refl, sym, ap, ap₂, ◌∙◌}
 use mathlib.Core.List.{List, [], ◌∷◌, ◌++◌, append_assoc, append-nil}
 use lib.ListN.{length, drop, set, length-append}
 use lib.Seq.{sets, length-sets}
-use types.Run.{OneOf, miss}
-use denote.Enum.Declared.{tag_of}
 use Rattle.syntax.specs.declared.next.Next.{Next}
 use Rattle.syntax.specs.declared.next.Next.TheVariants.{Entry}
-use Rattle.syntax.specs.contracts.next.Next.{the_type}
 use Rattle.syntax.specs.Next.{Extent, entries_of, first_place, next_answer}
 use Rattle.laws.specs.Sets.{sets-append, sets_first}
 use Rattle.reader.specs.Calls.{entries_after, after_first, first-within, Answered, ends, finds, answered}
@@ -97,7 +94,7 @@ module _ {s t ws ws' : List ℕ} {at n : ℕ} {r : Next} (l : Lent s t ws) (g : 
         }
 
   -- no entry: all are listed
-  pub going_end : OneOf (1 ∷ 2 ∷ []) (tag_of the_type r) → Listed s ws ws' n
+  pub going_end : ((a e : ℕ) → r ≡ Entry a e → ⊥) → Listed s ws ws' n
   going_end o = go told
     where
       go : Answered s at m → Listed s ws ws' n
@@ -111,4 +108,4 @@ module _ {s t ws ws' : List ℕ} {at n : ℕ} {r : Next} (l : Lent s t ws) (g : 
             words = g.words ∙ sets_first ws (words_of d) (omega arith) ∙ ap₂ (λ u v. words_of u ++ drop v ws) all i;
             within = omega (arith, going-long g);
           }
-      go (finds {a = b} {e = f} p x i j w) = absurd (miss (1 ∷ 2 ∷ []) 0 tt (rw (h ∙ p) at o))
+      go (finds {a = b} {e = f} p x i j w) = absurd (o b f (h ∙ p))

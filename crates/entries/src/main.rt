@@ -4,9 +4,10 @@
 ghost use Rattle.std.specs.Prelude.{◌≤◌, length};
 ghost use Rattle.entries.specs.Listed.{max_source, Lent, Listed};
 
-use libc::{STDERR_FILENO, STDIN_FILENO, STDOUT_FILENO};
 use parser::next::first_place;
 use reader::entry_after;
+use std::io;
+use std::io::{Cursor, Read};
 use syntax::layout::{SIZES, TREE_WORDS_A_BYTE};
 use syntax::next::Next;
 
@@ -36,15 +37,8 @@ fn list_entries(source: &[u8], tree: &mut [u32], list: &mut [u32]) -> usize
     }
 }
 
-fn print_entry(start: u32, stop: u32) {
-    io::print_decimal(STDOUT_FILENO, start as u64);
-    io::write_all(STDOUT_FILENO, b" ");
-    io::print_decimal(STDOUT_FILENO, stop as u64);
-    io::write_all(STDOUT_FILENO, b"\n");
-}
-
 // Prints the entries of a source. Each takes a byte, so the list has room for all.
-fn print(source: &[u8])
+fn print(rt: &impl Print, source: &[u8]) -> io::Result<()>
     requires { length source.now ≤ max_source }
 {
     let mut tree = [0u32; SIZES + TREE_WORDS_A_BYTE * MAX_SOURCE];
@@ -52,24 +46,24 @@ fn print(source: &[u8])
     let n = list_entries(source, &mut tree, &mut list);
     let mut i = 0;
     while i < n {
-        print_entry(list[ENTRY_WORDS * i], list[ENTRY_WORDS * i + 1]);
+        let start = list[ENTRY_WORDS * i];
+        let stop = list[ENTRY_WORDS * i + 1];
+        println!(rt; "{start} {stop}")?;
         i += 1;
     }
+    Ok(())
 }
 
-fn main() {
+fn main(rt: HostRuntime) -> io::Result<()> {
     // One byte more than a source may have, so that a longer one is not cut.
     let mut buffer = [0u8; MAX_SOURCE + 1];
-    let length = io::read_full(STDIN_FILENO, &mut buffer);
+    let mut input = rt.stdin().take(MAX_SOURCE as u64 + 1);
+    let Ok(size) = io::copy(&mut input, &mut Cursor::new(&mut buffer[..])) else {
+        return eprintln!(rt; "entries: standard input cannot be read");
+    };
+    let length = size as usize;
     if MAX_SOURCE < length {
-        io::write_all(STDERR_FILENO, b"entries: more than 4,000 bytes\n");
-        return;
+        return eprintln!(rt; "entries: more than 4,000 bytes");
     }
-    // A read failed if another one does not find the end.
-    let mut more = [0u8; 1];
-    if libc::read(STDIN_FILENO, &mut more) != 0 {
-        io::write_all(STDERR_FILENO, b"entries: standard input cannot be read\n");
-        return;
-    }
-    print(&buffer[..length]);
+    print(&rt, &buffer[..length])
 }

@@ -5,7 +5,7 @@ use mathlib.Core.Path.{◌≡◌, refl, sym, ap, ap₂, ◌∙◌}
 use mathlib.Core.Bool.{false}
 use mathlib.Core.List.{List, [], ◌∷◌, ◌++◌, append-nil}
 use mathlib.Core.Option.{Option, some, none}
-use lib.ListN.{length, drop, replicate, length-replicate}
+use lib.ListN.{length, drop}
 use lib.Dec.{ltb}
 use borrow.Author.Tests.{le-ltb}
 use Rattle.utf8.specs.Utf8.{first_ill_formed}
@@ -24,7 +24,7 @@ use Rattle.parser.specs.Call.{DidRead}
 use Rattle.output.specs.Put.{Put}
 use Rattle.output.proofs.Puts.{put-length, put-exact}
 use Rattle.marks.specs.Rows.{read_rows, Held}
-use Rattle.marks.specs.Report.{printed, max_source, output_room, Lent, Reported}
+use Rattle.marks.specs.Report.{printed, Lent, Reported}
 use Rattle.marks.proofs.Lines.{reading-few}
 use Rattle.marks.proofs.Words.{tree-count, tree-capacity, errors-count, errors-capacity, read-rows}
 
@@ -122,14 +122,3 @@ module _ {s t e out : List ℕ} (l : Lent s t e out) where
     where
       accepted-text : (d : Read s t e) → printed s ≡ lines (lines_of (read d.marks d.errors))
       accepted-text d = unfold printed listing in (rw (d.well_formed, printed) (ap (λ o. lines (lines_of o)) d.reads))
-
--- arrays of zeros are lent
-pub zeros : {s : List ℕ} (a b c : ℕ) → length s ≤ max_source → tree_layout max_source ≤ a → error_layout max_source ≤ b → output_room ≤ c
-    → Lent s (replicate a 0) (replicate b 0) (replicate c 0)
-zeros a b c h i j k =
-    record {
-      source = h;
-      tree = omega (arith, length-replicate {A = ℕ} a 0);
-      errors = omega (arith, length-replicate {A = ℕ} b 0);
-      output = omega (arith, length-replicate {A = ℕ} c 0);
-    }

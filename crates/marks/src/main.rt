@@ -7,8 +7,9 @@ ghost use Rattle.marks.specs.Report.{max_source, Lent, Reported};
 mod listing;
 
 use crate::listing::{put_pair, put_reading};
-use libc::{STDERR_FILENO, STDIN_FILENO, STDOUT_FILENO};
 use parser::read::read;
+use std::io;
+use std::io::{Cursor, Read};
 use syntax::answer::{Answer, number, value};
 use syntax::layout::{ERROR_WORDS_A_BYTE, SIZES, TREE_WORDS_A_BYTE};
 
@@ -31,29 +32,26 @@ fn report(source: &[u8], tree: &mut [u32], errors: &mut [u32], output: &mut [u8]
 }
 
 // Prints what a source gives.
-fn print(source: &[u8])
+fn print(rt: &impl Print, source: &[u8]) -> io::Result<()>
     requires { length source.now ≤ max_source }
 {
     let mut tree = [0u32; SIZES + TREE_WORDS_A_BYTE * MAX_SOURCE];
     let mut errors = [0u32; SIZES + ERROR_WORDS_A_BYTE * MAX_SOURCE];
     let mut output = [0u8; OUTPUT_ROOM];
     let length = report(source, &mut tree, &mut errors, &mut output);
-    io::write_all(STDOUT_FILENO, &output[..length]);
+    rt.write_all(&output[..length])
 }
 
-fn main() {
+fn main(rt: HostRuntime) -> io::Result<()> {
     // One byte more than a source may have, so that a longer one is not cut.
     let mut buffer = [0u8; MAX_SOURCE + 1];
-    let length = io::read_full(STDIN_FILENO, &mut buffer);
+    let mut input = rt.stdin().take(MAX_SOURCE as u64 + 1);
+    let Ok(size) = io::copy(&mut input, &mut Cursor::new(&mut buffer[..])) else {
+        return eprintln!(rt; "marks: standard input cannot be read");
+    };
+    let length = size as usize;
     if MAX_SOURCE < length {
-        io::write_all(STDERR_FILENO, b"marks: more than 1,000 bytes\n");
-        return;
+        return eprintln!(rt; "marks: more than 1,000 bytes");
     }
-    // A read failed if another one does not find the end.
-    let mut more = [0u8; 1];
-    if libc::read(STDIN_FILENO, &mut more) != 0 {
-        io::write_all(STDERR_FILENO, b"marks: standard input cannot be read\n");
-        return;
-    }
-    print(&buffer[..length]);
+    print(&rt, &buffer[..length])
 }

@@ -6,19 +6,16 @@ use mathlib.Core.Bool.{true}
 use mathlib.Core.List.{List}
 use lib.Dec.{eqb}
 use lib.ListN.{length, length-append, drop}
-use types.Run.{OneOf}
 use borrow.Author.Tests.{eqb-true, eqb-false, eq-eqb, ne_eqb}
-use denote.Enum.Declared.{tag_of}
 use Rattle.syntax.specs.declared.answer.Answer.{Answer}
 use Rattle.syntax.specs.declared.answer.Answer.TheVariants.{Accepted}
 use Rattle.syntax.specs.Answer.{number_of}
-use Rattle.syntax.specs.contracts.answer.Answer.{the_type}
 use Rattle.syntax.specs.Layout.{marks_in}
 use Rattle.syntax.specs.Serializer.{serialize}
 use Rattle.syntax.specs.Reading.{read_answer, tree_after}
 use Rattle.syntax.specs.Writing.{write_answer, output_after}
 use Rattle.laws.specs.Bytes.{by_case}
-use Rattle.laws.specs.Effect.{accepted, refusals, not-accepted}
+use Rattle.laws.specs.Effect.{accepted}
 use Rattle.laws.specs.Call.{written-size, written-output}
 use Rattle.parser.specs.Call.{DidRead}
 use Rattle.serializer.specs.Call.{DidWrite}
@@ -63,9 +60,9 @@ normal-written {s} {o = o} d h w =
     }
 
 -- a source that is refused is not
-pub normal-refused : {s t t' e e' o : List ℕ} {a : Answer} → DidRead s t t' e e' a → OneOf refusals (tag_of the_type a)
+pub normal-refused : {s t t' e e' o : List ℕ} {a : Answer} → DidRead s t t' e e' a → ((v : ℕ) → a ≡ Accepted v → ⊥)
     → Normalized s t e o o a
 normal-refused {s} {t} {e = e} {a = a} d h = record { answers = d.answers.same ∙ sym (refuses _ _ _ other); output = sym (refuses _ _ _ other) }
   where
     other : number_of (read_answer s (length t) (length e)) ≡ 0 → ⊥
-    other q = not-accepted a h _ (accepted a (d.answers.number ∙ q))
+    other q = h _ (accepted a (d.answers.number ∙ q))

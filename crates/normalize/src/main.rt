@@ -3,9 +3,10 @@
 
 ghost use Rattle.normalize.specs.Normal.{Normalized};
 
-use libc::{STDERR_FILENO, STDIN_FILENO, STDOUT_FILENO};
 use parser::read::read;
 use serializer::write::write;
+use std::io;
+use std::io::{Cursor, Read};
 use syntax::answer::{Answer, number, value};
 use syntax::layout::{ERROR_WORDS_A_BYTE, SIZES, TREE_WORDS_A_BYTE};
 
@@ -26,41 +27,36 @@ fn normalize(source: &[u8], tree: &mut [u32], errors: &mut [u32], output: &mut [
     answer
 }
 
-fn refuse(answer: Answer) {
-    io::write_all(STDERR_FILENO, b"normalize: refusal ");
-    io::print_decimal(STDERR_FILENO, number(answer) as u64);
-    io::write_all(STDERR_FILENO, b", ");
-    io::print_decimal(STDERR_FILENO, value(answer));
-    io::write_all(STDERR_FILENO, b"\n");
+fn refuse(rt: &impl Eprint, answer: Answer) -> io::Result<()> {
+    let n = number(answer);
+    let v = value(answer);
+    eprintln!(rt; "normalize: refusal {n}, {v}")
 }
 
 // Prints the text of a source.
-fn print(source: &[u8]) {
+fn print(rt: &(impl Print + Eprint), source: &[u8]) -> io::Result<()> {
     let mut tree = [0u32; SIZES + TREE_WORDS_A_BYTE * MAX_SOURCE];
     let mut errors = [0u32; SIZES + ERROR_WORDS_A_BYTE * MAX_SOURCE];
     let mut output = [0u8; OUTPUT_ROOM];
     let answer = normalize(source, &mut tree, &mut errors, &mut output);
     if let Answer::Accepted(size) = answer {
         let length = size as usize;
-        io::write_all(STDOUT_FILENO, &output[..length]);
+        rt.write_all(&output[..length])
     } else {
-        refuse(answer);
+        refuse(rt, answer)
     }
 }
 
-fn main() {
+fn main(rt: HostRuntime) -> io::Result<()> {
     // One byte more than a source may have, so that a longer one is not cut.
     let mut buffer = [0u8; MAX_SOURCE + 1];
-    let length = io::read_full(STDIN_FILENO, &mut buffer);
+    let mut input = rt.stdin().take(MAX_SOURCE as u64 + 1);
+    let Ok(size) = io::copy(&mut input, &mut Cursor::new(&mut buffer[..])) else {
+        return eprintln!(rt; "normalize: standard input cannot be read");
+    };
+    let length = size as usize;
     if MAX_SOURCE < length {
-        io::write_all(STDERR_FILENO, b"normalize: more than 10,000 bytes\n");
-        return;
+        return eprintln!(rt; "normalize: more than 10,000 bytes");
     }
-    // A read failed if another one does not find the end.
-    let mut more = [0u8; 1];
-    if libc::read(STDIN_FILENO, &mut more) != 0 {
-        io::write_all(STDERR_FILENO, b"normalize: standard input cannot be read\n");
-        return;
-    }
-    print(&buffer[..length]);
+    print(&rt, &buffer[..length])
 }

@@ -9,7 +9,7 @@ use syntax::answer::{Answer, number};
 use syntax::layout::SIZES;
 
 // What is stored of a slice's arrays: the first has so many words for its capacity, the second for its size.
-#[derive(Drop)]
+#[derive(Clone, Copy)]
 pub struct Arrays {
     pub count: usize,
     pub capacity: usize,

@@ -12,8 +12,10 @@ mod stored;
 mod texts;
 mod written;
 
-use libc::STDOUT_FILENO;
 use replay::{LONGEST, Turn, replay_next};
+use std::fs::File;
+use std::io::Read;
+use std::{env, io};
 use syntax::layout::{ERROR_WORDS_A_BYTE, TREE_WORDS_A_BYTE};
 use texts::replay_next_text;
 
@@ -26,60 +28,55 @@ const LISTING_ROOM: usize = 200_000;
 const OUTPUT_ROOM: usize = 65_536;
 
 // How many cases a file has, and how many of them differ.
-#[derive(Drop)]
+#[derive(Clone, Copy)]
 struct Tally {
     cases: u64,
     different: u64,
 }
 
-fn report(what: &[u8], case: u64) {
-    io::write_all(STDOUT_FILENO, what);
-    io::print_decimal(STDOUT_FILENO, case);
-    io::write_all(STDOUT_FILENO, b"\n");
-}
-
-// Whether the file is over. A case that is not whole, or too long for the arrays, is reported and ends it.
-fn is_over(turn: Turn, case: u64) -> bool
+// Whether the file is over: at its end, or at a case that is not whole, or too long for the arrays.
+fn is_over(turn: Turn) -> bool
     ensures { result ≡ over turn }
 {
     match turn {
         Turn::End => true,
-        Turn::Unreadable => {
-            report(b"unreadable: ", case);
-            true
-        }
+        Turn::Unreadable => true,
         Turn::Same => false,
         Turn::Different => false,
     }
 }
 
-// How many cases differ in this turn. One that does is reported.
-fn count_different(turn: Turn, case: u64) -> u64
+// How many cases differ in this turn.
+fn count_different(turn: Turn) -> u64
     ensures { (result ≡ differing turn) × (result ≤ 1) }
 {
     match turn {
         Turn::End => 0,
         Turn::Unreadable => 0,
         Turn::Same => 0,
-        Turn::Different => {
-            report(b"different: ", case);
-            1
-        }
+        Turn::Different => 1,
     }
 }
 
-fn print_tally(path: &[u8], tally: Tally) {
-    io::write_all(STDOUT_FILENO, path);
-    io::write_all(STDOUT_FILENO, b": ");
-    io::print_decimal(STDOUT_FILENO, tally.cases);
-    io::write_all(STDOUT_FILENO, b" cases, ");
-    io::print_decimal(STDOUT_FILENO, tally.different);
-    io::write_all(STDOUT_FILENO, b" different\n");
+// Reports a case that ends its file before the end, and one that differs.
+fn report(rt: &impl Print, turn: Turn, case: u64) -> io::Result<()> {
+    match turn {
+        Turn::End => Ok(()),
+        Turn::Unreadable => println!(rt; "unreadable: {case}"),
+        Turn::Same => Ok(()),
+        Turn::Different => println!(rt; "different: {case}"),
+    }
+}
+
+fn print_tally(rt: &impl Print, path: &str, tally: Tally) -> io::Result<()> {
+    let cases = tally.cases;
+    let different = tally.different;
+    println!(rt; "{path}: {cases} cases, {different} different")
 }
 
 // Replays the next case of a file, of which all are of one call.
-fn replay_one(
-    fd: i32,
+fn replay_one<R: Read>(
+    file: &mut R,
     writes: bool,
     source: &mut [u8],
     listing: &mut [u8],
@@ -88,36 +85,35 @@ fn replay_one(
     output: &mut [u8],
 ) -> Turn {
     if writes {
-        replay_next_text(fd, source, listing, tree, output)
+        replay_next_text(file, source, listing, tree, output)
     } else {
-        replay_next(fd, source, listing, tree, errors)
+        replay_next(file, source, listing, tree, errors)
     }
 }
 
 // Replays the cases of a file up to its end, or to one that can't be read; cases count from 0.
-fn replay_all(
-    fd: i32,
+fn replay_all<R: Read>(
+    rt: &impl Print,
+    file: &mut R,
     writes: bool,
     source: &mut [u8],
     listing: &mut [u8],
     tree: &mut [u32],
     errors: &mut [u32],
     output: &mut [u8],
-) -> Tally {
+) -> io::Result<Tally> {
     let mut cases = 0;
     let mut different = 0;
     while cases < u64::MAX {
-        let turn = replay_one(fd, writes, source, listing, tree, errors, output);
-        if is_over(turn, cases) {
+        let turn = replay_one(file, writes, source, listing, tree, errors, output);
+        report(rt, turn, cases)?;
+        if is_over(turn) {
             break;
         }
-        different += count_different(turn, cases);
+        different += count_different(turn);
         cases += 1;
     }
-    Tally {
-        cases: cases,
-        different: different,
-    }
+    Ok(Tally { cases, different })
 }
 
 // Room for a source, for its listing, for slices and for a text.
@@ -151,38 +147,42 @@ fn output_room() -> [u8; OUTPUT_ROOM]
     [0; OUTPUT_ROOM]
 }
 
-// Replays the file that an argument names. Names of files of the writing call start with a 't'.
-fn replay_file(i: usize) {
-    let mut path = io::buffer();
-    let n = os::arg(i, &mut path);
-    let fd = os::open_read(&path[..n]);
-    if fd < 0 {
-        os::fail(&path[..n]);
-        return;
-    }
+// Replays the cases of an opened file. Names of files of the writing call start with a 't'.
+fn replay_file<R: Read>(rt: &impl Print, path: &str, file: &mut R) -> io::Result<()> {
     let mut source = source_room();
     let mut listing = listing_room();
     let mut tree = tree_room();
     let mut errors = errors_room();
     let mut output = output_room();
     let tally = replay_all(
-        fd,
-        path[0] == b't',
+        rt,
+        file,
+        path.starts_with('t'),
         &mut source,
         &mut listing,
         &mut tree,
         &mut errors,
         &mut output,
-    );
-    print_tally(&path[..n], tally);
-    libc::close(fd);
+    )?;
+    print_tally(rt, path, tally)
 }
 
-fn main() {
-    let count = os::arg_count();
-    let mut i = 1;
-    while i < count {
-        replay_file(i);
-        i += 1;
+// Says why a file can't be opened, without the number that std puts behind the system's text.
+fn refuse(rt: &(impl Eprint + AllocGlobal), path: &str, error: io::Error) -> io::Result<()> {
+    let text = format!(in rt.alloc(); "{error}")?;
+    let what = match text.as_str().split_once(" (os error ") {
+        Some((before, _)) => before,
+        None => text.as_str(),
+    };
+    eprintln!(rt; "{path}: {what}")
+}
+
+fn main(rt: HostRuntime) -> io::Result<()> {
+    for path in env::args(&rt)?.skip(1) {
+        match File::open(&rt, path.as_str()) {
+            Ok(mut file) => replay_file(&rt, path.as_str(), &mut file)?,
+            Err(error) => refuse(&rt, path.as_str(), error)?,
+        }
     }
+    Ok(())
 }

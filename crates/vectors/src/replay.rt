@@ -6,6 +6,8 @@ ghost use Rattle.vectors.specs.Agreement.{groups_in, Lists, Answers, ReadFilled,
 use crate::compare::{Arrays, FILLING, fill, is_left};
 use crate::stored::{Case, ERROR_BYTES, HEAD, MARK_BYTES, SHORT, case_of, repeat};
 use parser::read::read;
+use std::io;
+use std::io::Read;
 use syntax::answer::{Answer, number, value};
 use syntax::layout::{GROUP_SIZE, MARKS_A_BYTE};
 use syntax::limits::MAX_LENGTH;
@@ -14,7 +16,7 @@ use syntax::limits::MAX_LENGTH;
 pub const LONGEST: usize = MAX_LENGTH + 1;
 
 // What came of the next case of a file.
-#[derive(Drop)]
+#[derive(Clone, Copy)]
 pub enum Turn {
     End,
     Same,
@@ -176,37 +178,47 @@ fn replay(
 }
 
 // Reads n bytes to the start of what is lent, and answers whether there were so many.
-pub fn fetch(fd: i32, bytes: &mut [u8], n: usize) -> bool
+pub fn fetch<R: Read>(file: &mut R, bytes: &mut [u8], n: usize) -> bool
     requires { n ≤ length bytes.old }
 {
-    io::read_full(fd, &mut bytes[0..n]) == n
+    file.read_exact(&mut bytes[0..n]).is_ok()
+}
+
+// Reads the numbers that a case starts with, and answers whether there is one: at the end of the file there is none. A part of
+// them is an error.
+pub fn read_head<R: Read>(file: &mut R, head: &mut [u8]) -> io::Result<bool>
+    requires { 1 ≤ length head.old }
+{
+    if file.read(&mut head[0..1])? == 0 {
+        return Ok(false);
+    }
+    file.read_exact(&mut head[1..])?;
+    Ok(true)
 }
 
 // Reads the next case of a file and replays it.
-pub fn replay_next(
-    fd: i32,
+pub fn replay_next<R: Read>(
+    file: &mut R,
     source: &mut [u8],
     listing: &mut [u8],
     tree: &mut [u32],
     errors: &mut [u32],
 ) -> Turn {
     let mut head = [0u8; HEAD];
-    let got = io::read_full(fd, &mut head);
-    if got == 0 {
-        return Turn::End;
-    }
-    if got < HEAD {
-        return Turn::Unreadable;
+    match read_head(file, &mut head) {
+        Ok(true) => {}
+        Ok(false) => return Turn::End,
+        Err(_) => return Turn::Unreadable,
     }
     let case = case_of(&head);
     if !has_room(case, source.len(), listing.len(), tree.len(), errors.len()) {
         return Turn::Unreadable;
     }
-    if !fetch(fd, source, case.stored) {
+    if !fetch(file, source, case.stored) {
         return Turn::Unreadable;
     }
     if !fetch(
-        fd,
+        file,
         listing,
         MARK_BYTES * case.marks + ERROR_BYTES * case.faults,
     ) {

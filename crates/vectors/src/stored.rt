@@ -20,7 +20,7 @@ pub const ERROR_BYTES: usize = ERROR_WORDS_A_BYTE * SHORT;
 
 // How many bytes of the source are stored, and how many it has; the words of the lent slices; the answer; how many marks and
 // errors there are.
-#[derive(Drop)]
+#[derive(Clone, Copy)]
 pub struct Case {
     pub stored: usize,
     pub length: usize,

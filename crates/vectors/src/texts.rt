@@ -3,10 +3,11 @@ ghost use Rattle.std.specs.Prelude.{◌≡◌, ◌++◌, length, drop};
 ghost use Rattle.vectors.specs.Agreement.{Tells};
 ghost use Rattle.vectors.specs.Written.{filled_bytes, Holds, WroteFilled, AgreesText, FitsText, Rewritten};
 
-use crate::replay::{Turn, fetch, is_answer};
+use crate::replay::{Turn, fetch, is_answer, read_head};
 use crate::stored::{LONG, repeat};
 use crate::written::{HEAD, Written, lay_tree, written_of};
 use serializer::write::write;
+use std::io::Read;
 use syntax::answer::Answer;
 
 // What an output holds before the call. No text has this byte by itself.
@@ -176,30 +177,28 @@ fn replay_text(
 }
 
 // Reads the next case of a file and replays it.
-pub fn replay_next_text(
-    fd: i32,
+pub fn replay_next_text<R: Read>(
+    file: &mut R,
     source: &mut [u8],
     listing: &mut [u8],
     tree: &mut [u32],
     output: &mut [u8],
 ) -> Turn {
     let mut head = [0u8; HEAD];
-    let got = io::read_full(fd, &mut head);
-    if got == 0 {
-        return Turn::End;
-    }
-    if got < HEAD {
-        return Turn::Unreadable;
+    match read_head(file, &mut head) {
+        Ok(true) => {}
+        Ok(false) => return Turn::End,
+        Err(_) => return Turn::Unreadable,
     }
     let case = written_of(&head);
     if !has_room_for(case, source.len(), listing.len(), tree.len(), output.len()) {
         return Turn::Unreadable;
     }
-    if !fetch(fd, source, case.stored) {
+    if !fetch(file, source, case.stored) {
         return Turn::Unreadable;
     }
     if !fetch(
-        fd,
+        file,
         listing,
         LONG * case.firsts + LONG * case.seconds + case.text,
     ) {

@@ -12,7 +12,7 @@ pub const HEAD: usize = 11 * LONG;
 
 // How many bytes of the source are stored, and how many it has; the words of the tree, and where its second array starts; the
 // bytes of the output; the flag; the answer; how many words are stored of both parts of the tree; the bytes of the text.
-#[derive(Drop)]
+#[derive(Clone, Copy)]
 pub struct Written {
     pub stored: usize,
     pub length: usize,

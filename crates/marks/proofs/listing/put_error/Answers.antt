@@ -1,0 +1,110 @@
+-- `put_error` meets its contract.
+use native.Mathlib.Omega.{arith}
+use mathlib.Core.Path.{refl, ap}
+use Rattle.syntax.specs.Listing.{line}
+use Rattle.output.proofs.Puts.{put-length, put_as}
+use Rattle.output.proofs.Lines.{put_first}
+use Rattle.marks.proofs.Lines.{error-row, group-held, put-after}
+use Rattle.marks.proofs.listing.put_error.Goals as goal
+
+pub overflow_add-group : goal.overflow_add-group
+overflow_add-group c =
+    let capacity = c.word in
+    omega (
+      arith,
+      group-held c.args.errors.now c.args.i capacity.result c.requires.held c.requires.i_bound
+          capacity.ensures,
+    )
+
+pub overflow_add-group-2 : goal.overflow_add-group-2
+overflow_add-group-2 c =
+    let capacity = c.word in
+    omega (
+      arith,
+      group-held c.args.errors.now c.args.i capacity.result c.requires.held c.requires.i_bound
+          capacity.ensures,
+    )
+
+pub put_span-position-requires : goal.put_span-position-requires
+put_span-position-requires c =
+    let capacity = c.word in
+    omega (
+      arith,
+      group-held c.args.errors.now c.args.i capacity.result c.requires.held c.requires.i_bound
+          capacity.ensures,
+    )
+
+pub overflow_add-group-3 : goal.overflow_add-group-3
+overflow_add-group-3 c =
+    let capacity = c.word in
+    omega (
+      arith,
+      group-held c.args.errors.now c.args.i capacity.result c.requires.held c.requires.i_bound
+          capacity.ensures,
+    )
+
+pub put_span-junk-requires : goal.put_span-junk-requires
+put_span-junk-requires c =
+    let capacity = c.word in
+    omega (
+      arith,
+      group-held c.args.errors.now c.args.i capacity.result c.requires.held c.requires.i_bound
+          capacity.ensures,
+    )
+
+pub overflow_add-group-4 : goal.overflow_add-group-4
+overflow_add-group-4 c =
+    let capacity =
+    c.word in
+    omega (
+      arith,
+      group-held c.args.errors.now c.args.i capacity.result c.requires.held c.requires.i_bound
+          capacity.ensures,
+    )
+
+pub word-requires-3 : goal.word-requires-3
+word-requires-3 c =
+    let capacity =
+    c.word in
+    omega (
+      arith,
+      group-held c.args.errors.now c.args.i capacity.result c.requires.held c.requires.i_bound
+          capacity.ensures,
+    )
+
+pub overflow_add-group-5 : goal.overflow_add-group-5
+overflow_add-group-5 c =
+    let capacity =
+    c.word in
+    omega (
+      arith,
+      group-held c.args.errors.now c.args.i capacity.result c.requires.held c.requires.i_bound
+          capacity.ensures,
+    )
+
+pub word-requires-4 : goal.word-requires-4
+word-requires-4 c =
+    let capacity =
+    c.word in
+    omega (
+      arith,
+      group-held c.args.errors.now c.args.i capacity.result c.requires.held c.requires.i_bound
+          capacity.ensures,
+    )
+
+pub returns : goal.returns
+returns c =
+    let capacity =
+    c.word in
+    let first =
+    c.word-2 in
+    let kind =
+    c.put_field-kind.ensures in
+    let position = c.put_span-position.ensures in
+    let junk = c.put_span-junk.ensures in
+    let last = put-after _ _ _ _ (omega (arith, put-length kind, put-length position)) junk c.put_pair.ensures in
+    let rest = put-after _ _ _ _ (omega (arith, put-length kind)) position last in
+    put_as (put_first first.result _ _ (omega arith) kind rest)
+    (ap line
+    (error-row c.args.errors.now c.args.i capacity.result _ capacity.ensures refl first.ensures
+    c.word-3.ensures c.word-4.ensures))
