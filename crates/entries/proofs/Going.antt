@@ -9,7 +9,7 @@ use Rattle.syntax.specs.declared.next.Next.{Next}
 use Rattle.syntax.specs.declared.next.Next.TheVariants.{Entry}
 use Rattle.syntax.specs.Next.{Extent, entries_of, first_place, next_answer}
 use Rattle.laws.specs.Sets.{sets-append, sets_first}
-use Rattle.reader.specs.Calls.{entries_after, after_first, first-within, Answered, ends, finds, answered}
+use Rattle.reader.proofs.Calls.{entries_after, after_first, first-within, Answered, ends, finds, answered}
 use Rattle.entries.specs.Listed.{Lent, words_of, Listed}
 
 words_append : (xs ys : List Extent) → words_of (xs ++ ys) ≡ words_of xs ++ words_of ys

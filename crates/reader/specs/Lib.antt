@@ -4,9 +4,9 @@
 pub mod Moved
 -- each entry takes a byte; the entries after a place are the first one, and those after where it stopped
 pub mod Extents
--- calls one after the other answer the entries in order, and then that none is left: `reader-tells`
+-- calls one after the other; that they answer the entries in order is in proofs/Calls
 pub mod Calls
--- the same for calls on a reader: `new-tells`
+-- the same for calls on a reader; proofs/Runs
 pub mod Runs
 -- the entries stand in the tree: `agrees`
 pub mod Tree

@@ -1,28 +1,11 @@
--- Calls on a reader one after the other, as the contracts of `new` and `next` give them: the entries of the source in
--- order, and then that none
--- is left (`new-tells`).
-use Rattle.std.specs.Prelude.{ℕ, ◌≡◌, refl, List, [], ◌∷◌, length}
-use Rattle.std.proofs.Common.{ap, ◌∙◌}
-use Rattle.std.specs.Borrow.{Bor}
+-- Calls on a reader one after the other, as the contracts of `new` and `next` give them. What they tell is in proofs/Runs.
+use Rattle.std.specs.Prelude.{ℕ, List, [], ◌∷◌}
 use Rattle.syntax.specs.declared.next.Next.{Next}
-use Rattle.syntax.specs.Layout.{tree_layout}
-use Rattle.syntax.specs.Next.{entries_of, first_place, next_answer, place_after}
+use Rattle.syntax.specs.Next.{next_answer}
 use Rattle.reader.specs.declared.Reader.{Reader}
 use Rattle.reader.specs.Moved.{moved}
-use Rattle.reader.specs.Calls.{answers, told, Long, reader-tells}
 
 -- the answers of calls with trees of so many words
 unfoldable pub run : Reader → List ℕ → List Next
 run r [] = []
 run r (m ∷ ms) = next_answer r.source.now r.at m ∷ run (moved r m) ms
-
-runs : (source : Bor (List ℕ)) (at : ℕ) (ms : List ℕ) → run (record { source = source; at = at }) ms ≡ answers source.now at ms
-unfolding run answers
-runs source at [] = refl
-runs source at (m ∷ ms) =
-    ap (λ r. next_answer source.now at m ∷ r)
-    (runs source (place_after source.now at (next_answer source.now at m)) ms)
-
-pub new-tells : (source : Bor (List ℕ)) (ms : List ℕ) → Long (tree_layout (length source.now)) ms
-    → run (record { source = source; at = first_place source.now }) ms ≡ told (entries_of source.now) (length ms)
-new-tells source ms l = runs source (first_place source.now) ms ∙ reader-tells source.now ms l
