@@ -5,7 +5,7 @@ usage: deftest.py [--oracle PATH] [--rows N] [--texts 0|1] [--entries 0|1] < sou
 
 Each source becomes a row `parse 64 source ≡ read marks errors` and, unless --texts is 0, two rows `serialize source junk
 marks ≡ text`, with what the oracle's `batch` answers on the right, and `refl` as the proof. With --entries 1 there is also a
-row `parseExtents 64 source ≡ extents` for each source that is read, by the oracle's `entries`. The rows stand in modules of
+row `parse_extents 64 source ≡ extents` for each source that is read, by the oracle's `entries`. The rows stand in modules of
 N readings in a scratch copy of the crate; a row that does not hold is an error at its line. Sources that the oracle refuses
 with 1 or 2 are left out: the definitions of reading begin where those refusals end.
 The oracle is the unchanged Rust with a listing: shared/oracle of this project, built by `cargo build --release --offline`.
@@ -22,7 +22,7 @@ KINDS = [None, 'ExpectedToken', 'ExpectedCharRange', 'ExpectedMessageField', 'Ex
          'ExpectedSimpleExpressionAsSelector', 'ExpectedLiteral']
 ONE, TWO = {1, 2, 16}, {3, 4, 15, 17}  # how many arguments a kind's case carries
 TEXT = {7, 8, 9, 12, 17, 18, 19, 20}  # the T kinds
-SPECS = 'Rattle·syntax·specs.specs.'
+SPECS = 'Rattle.syntax.specs.'
 
 
 def bytes_list(xs):
@@ -38,7 +38,7 @@ def error(line):
     kind, start, end, junk, till, x, y = map(int, line.split())
     args = f' {x}' if kind in ONE else f' {x} {y}' if kind in TWO else ''
     return (f'record {{ fault = record {{ start = {start}; end = {end}; kind = Errors.{KINDS[kind]}{args} }};'
-            f' junkFrom = {junk}; junkTill = {till} }}')
+            f' junk_from = {junk}; junk_till = {till} }}')
 
 
 def unfolding(specs, modules):
@@ -79,7 +79,7 @@ def rows(sources, answers, texts, entries, unfold):
         out.append(f'-- {data!r}\nr{i} : CoreOf.parse 64 {bytes_list(data)} ≡ {want}\n{unfold}\nr{i} = refl\n')
         count += 1
         if entries and first[0] == '0':
-            out.append(f'e{i} : NextOf.parseExtents 64 {bytes_list(data)} ≡ {extents(entries, data)}\n{unfold}\ne{i} = refl\n')
+            out.append(f'e{i} : NextOf.parse_extents 64 {bytes_list(data)} ≡ {extents(entries, data)}\n{unfold}\ne{i} = refl\n')
             count += 1
         for column, flag in ((1, 'false'), (2, 'true')):
             if texts and first[0] == '0':
@@ -90,10 +90,7 @@ def rows(sources, answers, texts, entries, unfold):
     return '\n'.join(out), count
 
 
-HEAD = '''use Prim.Native.Nat.{ℕ}
-use mathlib.Core.Bool.{true, false}
-use mathlib.Core.Path.{_≡_, refl}
-use mathlib.Core.List.{List, [], _∷_}
+HEAD = '''use Rattle.std.specs.Prelude.{ℕ, true, false, ◌≡◌, refl, List, [], ◌∷◌}
 ''' + f'use {SPECS}Errors as Errors\n' + ''.join(f'use {SPECS}{m} as {m}Of\n' for m in DEFINITIONS) + (
     f'use {SPECS}Marks.{{plain, placed}}\nuse {SPECS}Core.{{read, refused}}\n\n')
 
@@ -105,17 +102,17 @@ def unproved(crates, crate, text):
         open(os.path.join(scratch, 'crates.txt'), 'w').write(''.join(lines))
         for name in crates:
             shutil.copytree(os.path.join(ROOT, 'crates', name), os.path.join(scratch, 'crates', name),
-                            ignore=shutil.ignore_patterns('must-fail'))
+                            ignore=shutil.ignore_patterns('must-fail', 'out'))
         specs = os.path.join(scratch, 'crates', crate, 'specs')
         open(os.path.join(specs, 'Rows.antt'), 'w').write(text)
         open(os.path.join(specs, 'Lib.antt'), 'a').write('pub mod Rows\n')
-        run = subprocess.run(['rt', 'dev', crate], cwd=scratch, capture_output=True, text=True)
+        run = subprocess.run(['rt', 'check'], cwd=os.path.dirname(specs), capture_output=True, text=True)
         out = run.stdout + run.stderr
         errors = [l for l in out.split('\n') if 'error:' in l]
         for l in errors[:10]:
             at = re.search(r'Rows\.antt:(\d+):', l)
             print(l, *([text.split('\n')[int(at.group(1)) - 4:int(at.group(1))]] if at else []), sep='\n  ')
-        if not errors and 'logic=proved' not in out.split('\n')[-2] + out.split('\n')[-1]:
+        if not errors and (re.findall(r'^logic=\S+', out, re.M) or [''])[-1] != 'logic=proved':
             print('\n'.join(out.split('\n')[-15:]))
             return 1
         return len(errors)

@@ -17,10 +17,10 @@ import standard
 
 GRAMMAR = ('Dialect', 'Peg', 'Abstract', 'Lexical', 'Grammar')
 TEXT = {7, 8, 9, 12, 17, 18, 19, 20, 27}
-HEAD = ('use Prim.Native.Nat.{ℕ}\nuse mathlib.Core.Path.{_≡_, refl}\nuse mathlib.Core.List.{List, [], _∷_}\n'
-        + ''.join(f'use Rattle·syntax.specs.{m} as {m}Of\n' for m in DEFINITIONS)
-        + ''.join(f'use Rattle·standard·specs.specs.{m} as {m}Of\n' for m in GRAMMAR)
-        + 'use Rattle·syntax.specs.Marks.{plain, placed}\n\n')
+HEAD = ('use Rattle.std.specs.Prelude.{ℕ, ◌≡◌, refl, List, [], ◌∷◌}\n'
+        + ''.join(f'use Rattle.syntax.specs.{m} as {m}Of\n' for m in DEFINITIONS)
+        + ''.join(f'use Rattle.standard.specs.{m} as {m}Of\n' for m in GRAMMAR)
+        + 'use Rattle.syntax.specs.Marks.{plain, placed}\n\n')
 
 
 def marks(source, dialect, further):
