@@ -1,5 +1,5 @@
 // A thin reader over a borrowed source, as the Rust's Parser is: it answers, call by call, where the next entry starts and
-// where its reading stopped. `next_entry` does the work; what is here is proved by hand.
+// where its reading stopped. `next_entry` does the work.
 #![tactic(auto)]
 
 ghost use Rattle.std.specs.Prelude.{◌≡◌, length};
