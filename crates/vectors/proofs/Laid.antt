@@ -111,14 +111,6 @@ module _ (s : List ℕ) (a : Arrays) (f g : List ℕ) (st : Stores a f g) where
 
 -- the same of a slice that refusal 5 left
 module _ (s : List ℕ) (n : ℕ) where
-  pub zeroed-long : s ≡ replicate n 0 ++ drop n (filled (length s)) → n ≤ length s
-  zeroed-long e = let k = simp (length-append, length-replicate) at (ap length e) in omega arith
-
-  pub zeroed_first : s ≡ replicate n 0 ++ drop n (filled (length s)) → take n s ≡ replicate (length (take n s)) 0
-  zeroed_first e =
-      let l = length-take-le n s (zeroed-long e) in
-      first_part s (replicate n 0) (drop n (filled (length s))) n (length-replicate n 0) e ∙ ap (λ i. replicate i 0) (sym l)
-
   pub zeroed_rest : s ≡ replicate n 0 ++ drop n (filled (length s))
       → between n (length s) s ≡ replicate (length (between n (length s) s)) filling
   unfolding filled

@@ -1,13 +1,10 @@
 -- Stored words of four bytes, and the tree that is laid of them.
 use Prim.Native.Nat.{ℕ, zero, suc, ◌+◌, ◌-◌, ◌*◌, ◌≤◌, ◌<◌}
 use native.Mathlib.Omega.{arith}
-use native.Mathlib.Numerals.{add-one}
-use native.Mathlib.Nat.{eq-or-lt_of_le, le_of_suc-le-suc}
-use mathlib.Core.Logic.{⊎_elim}
 use mathlib.Core.Path.{◌≡◌, refl, sym, ap, ◌∙◌}
 use mathlib.Core.List.{List, [], ◌∷◌, ◌++◌, append-nil}
-use lib.ListN.{length, set, get_or, take, drop, replicate, length-append, length-drop}
-use lib.Seq.{ext_get_or, take_at, drop-length, get_or-set_same, get_or-set_other}
+use lib.ListN.{length, get_or, take, drop, replicate, length-append, length-drop}
+use lib.Seq.{ext_get_or, take_at, drop-length}
 use Rattle.syntax.specs.Layout.{array}
 use Rattle.vectors.specs.Stored.{between, long_at}
 use Rattle.vectors.specs.Written.{longs, word_bytes, tree_in, Holds}
@@ -39,15 +36,6 @@ long-in (suc n) (a ∷ b ∷ c ∷ d ∷ bytes) e (suc i) h =
     let k2 : 4 * suc i + 2 ≡ suc (suc (suc (suc (4 * i + 2)))) = omega arith in
     let k3 : 4 * suc i + 2 + 1 ≡ suc (suc (suc (suc (4 * i + 2 + 1)))) = omega arith in
     rw (k3, k2, k1, k) (long-in n bytes (omega arith) i (omega arith))
-
--- one more word is copied
-pub copied_more : (words : List ℕ) (f : ℕ → ℕ) (i b : ℕ) → i < length words → ((k : ℕ) → k < i → get_or words k 0 ≡ f k)
-    → b ≡ f i → (k : ℕ) → k < i + 1 → get_or (set words i b) k 0 ≡ f k
-copied_more words f i b h inv e k l =
-    ⊎_elim
-    (λ q. rw q (get_or-set_same words i b 0 h ∙ e))
-    (λ m. get_or-set_other words i k b 0 (λ q. omega arith) ∙ inv k m)
-    (eq-or-lt_of_le (le_of_suc-le-suc (rw add-one at l)))
 
 pub all-copied : (words bytes : List ℕ) (i : ℕ) → length bytes ≡ 4 * length words → length words ≤ i
     → ((k : ℕ) → k < i → get_or words k 0 ≡ long_at bytes (4 * k)) → words ≡ longs bytes

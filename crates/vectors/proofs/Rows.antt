@@ -2,13 +2,11 @@
 use Prim.Native.Nat.{ℕ, zero, suc, ◌+◌, ◌-◌, ◌*◌, ◌≤◌, ◌<◌}
 use native.Mathlib.Omega.{arith}
 use native.Mathlib.Numerals.{add-one}
-use native.Mathlib.Nat.{eq-or-lt_of_le, le_of_suc-le-suc, sub-le}
-use mathlib.Core.Logic.{⊎_elim}
 use mathlib.Core.Path.{◌≡◌, refl, sym, ap, ◌∙◌}
-use mathlib.Core.Bool.{Bool, true, false, not}
+use mathlib.Core.Bool.{Bool, true, false}
 use mathlib.Core.List.{List, [], ◌∷◌, ◌++◌}
-use lib.ListN.{length, set, get_or, take, drop, replicate, length-append, length-replicate, get_or-replicate, take-append-drop, length-drop}
-use lib.Seq.{ext_get_or, take_all, take_at, drop_at, get_or-set_same, get_or-set_other}
+use lib.ListN.{length, get_or, take, drop, replicate, length-append, length-replicate, get_or-replicate, take-append-drop, length-drop}
+use lib.Seq.{ext_get_or, take_all, take_at, drop_at}
 use Rattle.syntax.specs.Layout.{array}
 use Rattle.vectors.specs.Stored.{short_at, shorts}
 use Rattle.vectors.specs.Agreement.{Tells}
@@ -25,14 +23,8 @@ tells-same f g t = record { yes = λ e. f (t.yes e); no = λ q. t.no (g q) }
 pub tells-equal : {r : Bool} {A : Type 0} {x y z : A} → y ≡ z → Tells r (x ≡ y) → Tells r (x ≡ z)
 tells-equal q t = tells-same (λ e. e ∙ q) (λ e. e ∙ sym q) t
 
--- what a test tells where its answer, negated, was tested in turn
-pub told : (r : Bool) {P : Type 0} → Tells r P → not r ≡ false → P
-told true t e = t.yes refl
-told false t e = absurd (let z : ◌≡◌ {A = ℕ} 0 1 = cc in omega arith)
-
-pub untold : (r : Bool) {P : Type 0} → Tells r P → not r ≡ true → P → ⊥
-untold true t e p = let z : ◌≡◌ {A = ℕ} 0 1 = cc in omega arith
-untold false t e p = let q = t.no p in let z : ◌≡◌ {A = ℕ} 0 1 = cc in omega arith
+pub untold : {r : Bool} {P : Type 0} → Tells r P → r ≡ false → P → ⊥
+untold t e p = let q = t.no p in let z : ◌≡◌ {A = ℕ} 0 1 = cc in omega arith
 
 -- all words are v
 pub all_same : (words : List ℕ) (v i : ℕ) → length words ≤ i → ((k : ℕ) → k < i → get_or words k 0 ≡ v) → words ≡ replicate (length words) v
@@ -108,19 +100,3 @@ module _ (words ws : List ℕ) (n : ℕ) (l : length ws ≡ n) where
   array-rest e =
       let k : length words - length ws ≡ length words - n = omega arith in
       second-part words ws (replicate (length words - length ws) 0) n l e ∙ ap (λ m. replicate m 0) (k ∙ sym (length-drop n words))
-
--- one more byte is repeated
-pub repeat-more : (s : List ℕ) (n i : ℕ) → i < length s
-    → ((k : ℕ) → n ≤ k → k < i → k < length s → get_or s k 0 ≡ get_or s (k - n) 0)
-    → (k : ℕ) → n ≤ k → k < i + 1 → k < length (set s i (get_or s (i - n) 0))
-    → get_or (set s i (get_or s (i - n) 0)) k 0 ≡ get_or (set s i (get_or s (i - n) 0)) (k - n) 0
-repeat-more s n i h f k low high l =
-    let b = get_or s (i - n) 0 in
-    ⊎_elim
-    (λ e. rw e
-    (⊎_elim (λ z. rw z refl)
-    (λ m. get_or-set_same s i b 0 h ∙ sym (get_or-set_other s i (i - n) b 0 (λ q. omega arith)))
-    (eq-or-lt_of_le (sub-le i n))))
-    (λ m.
-    get_or-set_other s i k b 0 (λ q. omega arith) ∙ (f k low m (omega arith) ∙ sym (get_or-set_other s i (k - n) b 0 (λ q. omega arith))))
-    (eq-or-lt_of_le (le_of_suc-le-suc (rw add-one at high)))

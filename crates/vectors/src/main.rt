@@ -167,13 +167,18 @@ fn replay_file<R: Read>(rt: &impl Print, path: &str, file: &mut R) -> io::Result
     print_tally(rt, path, tally)
 }
 
-// Says why a file can't be opened, without the number that std puts behind the system's text.
+// The system's text for an error, without the number that std puts behind it.
+fn without_code(text: &str) -> &str {
+    match text.split_once(" (os error ") {
+        Some((before, _)) => before,
+        None => text,
+    }
+}
+
+// Says why a file can't be opened.
 fn refuse(rt: &(impl Eprint + AllocGlobal), path: &str, error: io::Error) -> io::Result<()> {
     let text = format!(in rt.alloc(); "{error}")?;
-    let what = match text.as_str().split_once(" (os error ") {
-        Some((before, _)) => before,
-        None => text.as_str(),
-    };
+    let what = without_code(text.as_str());
     eprintln!(rt; "{path}: {what}")
 }
 

@@ -1,0 +1,12 @@
+-- `compare::are_stored` meets its contract: every word passed is the stored one.
+use Prim.Native.Nat.{ℕ, ◌*◌, ◌-◌, ◌≤◌, ◌<◌}
+use mathlib.Core.Path.{◌≡◌}
+use lib.ListN.{length, get_or}
+use Rattle.vectors.specs.Stored.{short_at}
+use Rattle.vectors.proofs.compare.are_stored.Given as goal
+
+abbrev pub invariant-loop-i : goal.invariant-loop-i
+invariant-loop-i l = (l.i ≤ length l.words) × ((k : ℕ) → k < l.i → get_or l.words k 0 ≡ short_at l.stored (2 * k))
+
+abbrev pub decreases-loop-i : goal.decreases-loop-i
+decreases-loop-i l = length l.words - l.i

@@ -1,0 +1,6 @@
+-- `replay::read_filled` meets its contract.
+use Rattle.vectors.proofs.Replays.{did_read}
+use Rattle.vectors.proofs.replay.read_filled.Goals as goal
+
+pub returns : goal.returns
+returns c = did_read _ _ _ _ _ _ _ _ c.fill.ensures c.fill-2.ensures c.read.ensures
