@@ -7,35 +7,8 @@ use Rattle.output.proofs.Lines.{put_first}
 use Rattle.marks.proofs.Lines.{error-row, group-held, put-after}
 use Rattle.marks.proofs.listing.put_error.Goals as goal
 
-pub overflow_add-group : goal.overflow_add-group
-overflow_add-group c =
-    let capacity = c.word in
-    omega (
-      arith,
-      group-held c.args.errors.now c.args.i capacity.result c.requires.held c.requires.i_bound
-          capacity.ensures,
-    )
-
-pub overflow_add-group-2 : goal.overflow_add-group-2
-overflow_add-group-2 c =
-    let capacity = c.word in
-    omega (
-      arith,
-      group-held c.args.errors.now c.args.i capacity.result c.requires.held c.requires.i_bound
-          capacity.ensures,
-    )
-
 pub put_span-position-requires : goal.put_span-position-requires
 put_span-position-requires c =
-    let capacity = c.word in
-    omega (
-      arith,
-      group-held c.args.errors.now c.args.i capacity.result c.requires.held c.requires.i_bound
-          capacity.ensures,
-    )
-
-pub overflow_add-group-3 : goal.overflow_add-group-3
-overflow_add-group-3 c =
     let capacity = c.word in
     omega (
       arith,
@@ -52,28 +25,8 @@ put_span-junk-requires c =
           capacity.ensures,
     )
 
-pub overflow_add-group-4 : goal.overflow_add-group-4
-overflow_add-group-4 c =
-    let capacity =
-    c.word in
-    omega (
-      arith,
-      group-held c.args.errors.now c.args.i capacity.result c.requires.held c.requires.i_bound
-          capacity.ensures,
-    )
-
 pub word-requires-3 : goal.word-requires-3
 word-requires-3 c =
-    let capacity =
-    c.word in
-    omega (
-      arith,
-      group-held c.args.errors.now c.args.i capacity.result c.requires.held c.requires.i_bound
-          capacity.ensures,
-    )
-
-pub overflow_add-group-5 : goal.overflow_add-group-5
-overflow_add-group-5 c =
     let capacity =
     c.word in
     omega (

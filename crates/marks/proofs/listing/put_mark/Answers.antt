@@ -7,14 +7,6 @@ use Rattle.output.proofs.Puts.{put_as}
 use Rattle.marks.proofs.Lines.{mark-row}
 use Rattle.marks.proofs.listing.put_mark.Goals as goal
 
-pub overflow_add-places : goal.overflow_add-places
-unfolding capacity
-overflow_add-places c = omega (arith, c.word.ensures, c.requires.held.words)
-
-pub overflow_add-places-2 : goal.overflow_add-places-2
-unfolding capacity
-overflow_add-places-2 c = omega (arith, c.word.ensures, c.requires.held.words, c.requires.held.counted, c.requires.i_bound)
-
 pub word-requires-3 : goal.word-requires-3
 unfolding capacity
 word-requires-3 c = omega (arith, c.word.ensures, c.requires.held.words, c.requires.held.counted, c.requires.i_bound)

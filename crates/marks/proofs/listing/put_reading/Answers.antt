@@ -3,12 +3,6 @@ use native.Mathlib.Omega.{arith}
 use Rattle.marks.proofs.Lines.{put-reading}
 use Rattle.marks.proofs.listing.put_reading.Goals as goal
 
-pub put_marks-marks-requires : goal.put_marks-marks-requires
-put_marks-marks-requires c = c.requires.held
-
-pub put_errors-requires : goal.put_errors-requires
-put_errors-requires c = c.requires.held_2
-
 pub returns : goal.returns
 returns c =
     let accepted =

@@ -8,8 +8,4 @@ use Rattle.marks.proofs.listing.put_span.Goals as goal
 pub returns : goal.returns
 unfolding span
 returns c =
-    put_as
-    (put_then (omega arith) c.put_field-next.ensures
-    c.put_field.ensures)
-    (ap₂ span c.word.ensures
-    c.word-2.ensures)
+    put_as (put_then (omega arith) c.put_field-next.ensures c.put_field.ensures) (ap₂ span c.word.ensures c.word-2.ensures)
