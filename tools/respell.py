@@ -5,6 +5,8 @@ usage: tools/respell.py [--check] [FOLDER]
 
     firstIllFormed, asComment-bounded, lowerA  ->  first_ill_formed, as_comment-bounded, lower_a
 
+The grammar's ordered choice, ◌/◌, becomes ◌//◌, since the kit keeps the name for division.
+
 It runs once, right after the kit's port.py, at the top of the repository (or of FOLDER): in the .antt and .rt files and the edits below
 crates/, outside strings, and in the words of README.md and docs/ that stand in back quotes. It lists the names that fall together with
 another name of the same file; --check lists them and writes nothing. Names of src/ are in snake case already, and stay.
@@ -20,6 +22,20 @@ STRING = re.compile(r'b?"(?:[^"\\\n]|\\.)*"')
 FIRST = {
     "crates/standard/specs/Arguments.antt": {"same_bytes": "same-flip", "named_value": "literal-named"},
 }
+
+
+# Where an operator of the repository's own has the name of one of the kit's.
+CHOICE = "crates/standard/"
+
+
+def choice(text):
+    """Ordered choice under its new name, outside comments."""
+    out = []
+    for line in text.split("\n"):
+        at = line.find("--")
+        code, comment = (line, "") if at < 0 else (line[:at], line[at:])
+        out.append(re.sub(r"(?<!\S)/(?!\S)", "//", code).replace("◌/◌", "◌//◌") + comment)
+    return "\n".join(out)
 
 
 def snake(name):
@@ -57,6 +73,8 @@ def main(argv):
         words = {m.group() for m in WORD.finditer(STRING.sub("", bare))}
         together += [f"{path}: {n} and {snake(n)}" for n in sorted(found) if snake(n) in words]
         turned = outside_strings(first, lambda t: CAMEL.sub(lambda m: snake(m.group()), t))
+        if os.path.relpath(path, top).startswith(CHOICE) and path.endswith(".antt"):
+            turned = choice(turned)
         if not check and turned != text:
             open(path, "w", encoding="utf-8").write(turned)
     by_name = {}

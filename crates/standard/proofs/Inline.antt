@@ -21,7 +21,7 @@ use Rattle.laws.specs.Bytes.{by_case, clash}
 use Rattle.laws.specs.Stable.{Holds, plain-next}
 use Rattle.standard.specs.Dialect.{rust, all}
 use Rattle.standard.specs.Peg as Peg
-use Rattle.standard.specs.Peg.{Answer, fits, fails, Parser, opt, byte, void, given, pick, only, ◌/◌, ◌>>◌, ◌>>=◌}
+use Rattle.standard.specs.Peg.{Answer, fits, fails, Parser, opt, byte, void, given, pick, only, ◌//◌, ◌>>◌, ◌>>=◌}
 use Rattle.standard.specs.Abstract as Abstract
 use Rattle.standard.specs.Abstract.{A8}
 use Rattle.standard.specs.Lexical.{Identifier, NumberLiteral, UnsignedLiteral, AttributeAccessor, VariableReference, blank?}
@@ -84,7 +84,7 @@ accessor s =
 
 -- of a message reference, with the blanks before it
 abbrev spaced : Parser (Unit {0})
-spaced = given true (blank? >> AttributeAccessor) / AttributeAccessor
+spaced = given true (blank? >> AttributeAccessor) // AttributeAccessor
 
 spaced-fits : (r : List ℕ) {ms : List Mark} {k : ℕ} → AttributeAccessor (behind r) ≡ fits tt ms k
     → spaced r ≡ fits tt (move_up (blanks r) ms) (blanks r + k)
@@ -258,12 +258,12 @@ module _ {sub₁ : Pattern.Inside} {sub₂ : Grammar.Inside} (agree : Agree sub�
 
     -- a rest that starts with "(" or "."
     leaves : (b : ℕ) → is_opening b ≡ true → starts_with b (behind past) ≡ true → FunctionReference rust sub₂ s ≡ fails
-        → spaced past ≡ fails → Left s ((FunctionReference rust sub₂ / MessageReference rust) s)
+        → spaced past ≡ fails → Left s ((FunctionReference rust sub₂ // MessageReference rust) s)
     leaves b e h f g =
         rw (second (FunctionReference rust sub₂) (MessageReference rust) s f ∙ message-plain g)
         (rw (add-zero (name_of s)) (subst Opens (drop-over s (name_of s)) (opens_by b (behind past) e h)))
 
-    pub reference-near : Near form_of s (as_inline (reference sub₁ s)) ((FunctionReference rust sub₂ / MessageReference rust) s)
+    pub reference-near : Near form_of s (as_inline (reference sub₁ s)) ((FunctionReference rust sub₂ // MessageReference rust) s)
     unfolding as_inline form_of inline_kind truly Reader.next Reader.after is_opening reference_by message_reference Reader.◌>>=◌
     reference-near = by_case (starts_with 40 (behind past))
         (λ e. call e ((Reader.◌>>◌ skip_blank sub₁.parenthesised) past) (call-read past e) (agree.arguments past))
@@ -272,7 +272,7 @@ module _ {sub₁ : Pattern.Inside} {sub₂ : Grammar.Inside} (agree : Agree sub�
       where
         call : starts_with 40 (behind past) ≡ true → (o : Out (Unit {0})) → get_call_arguments sub₁ past ≡ truly o
             → Same nothing o (sub₂.CallArguments past)
-            → Near form_of s (as_inline (reference sub₁ s)) ((FunctionReference rust sub₂ / MessageReference rust) s)
+            → Near form_of s (as_inline (reference sub₁ s)) ((FunctionReference rust sub₂ // MessageReference rust) s)
         call q (ok u ms k) r h =
             let g : spaced past ≡ fails = spaced-fails past (no-dot (behind past) (starts_other 40 46 (behind past) q refl)) in
             by_case (all_bytes is_callee_part (take (name_of s) s))
@@ -289,7 +289,7 @@ module _ {sub₁ : Pattern.Inside} {sub₂ : Grammar.Inside} (agree : Agree sub�
             → Access (behind past) o (AttributeAccessor (behind past))
             → get_call_arguments sub₁ past ≡ ok false [] (blanks past)
             → FunctionReference rust sub₂ s ≡ fails
-            → Near form_of s (as_inline (reference sub₁ s)) ((FunctionReference rust sub₂ / MessageReference rust) s)
+            → Near form_of s (as_inline (reference sub₁ s)) ((FunctionReference rust sub₂ // MessageReference rust) s)
         plain (ok true ms k) o h r f =
             rw (read-message r o) (
               name_of s + (blanks past + k),
@@ -439,7 +439,7 @@ module _ {sub₁ : Pattern.Inside} {sub₂ : Grammar.Inside} (agree : Agree sub�
   unfolding StringLiteral
   no-string s e = then-fails (byte 34) _ s (byte-fails 34 s e)
 
-  no-reference : (s : List ℕ) → starts is_letter s ≡ false → (FunctionReference rust sub₂ / MessageReference rust) s ≡ fails
+  no-reference : (s : List ℕ) → starts is_letter s ≡ false → (FunctionReference rust sub₂ // MessageReference rust) s ≡ fails
   unfolding FunctionReference MessageReference
   no-reference s e =
       second (FunctionReference rust sub₂) (MessageReference rust) s
@@ -469,16 +469,16 @@ module _ {sub₁ : Pattern.Inside} {sub₂ : Grammar.Inside} (agree : Agree sub�
   from-placeable = sub₂.inline-placeable >> Peg.pure Abstract.nested_placeable
 
   abbrev from-variable : Parser Abstract.Form
-  from-variable = VariableReference / from-placeable
+  from-variable = VariableReference // from-placeable
 
   abbrev from-term : Parser Abstract.Form
-  from-term = TermReference rust sub₂ / from-variable
+  from-term = TermReference rust sub₂ // from-variable
 
   abbrev from-reference : Parser Abstract.Form
-  from-reference = FunctionReference rust sub₂ / (MessageReference rust / from-term)
+  from-reference = FunctionReference rust sub₂ // (MessageReference rust // from-term)
 
   abbrev from-number : Parser Abstract.Form
-  from-number = NumberLiteral 20 / from-reference
+  from-number = NumberLiteral 20 // from-reference
 
   no-variables : (s : List ℕ) → starts_with 36 s ≡ false → starts_with 123 s ≡ false → from-variable s ≡ fails
   no-variables s e h = second VariableReference from-placeable s (no-variable s e) ∙ no-placeable s h
@@ -488,11 +488,11 @@ module _ {sub₁ : Pattern.Inside} {sub₂ : Grammar.Inside} (agree : Agree sub�
 
   past-references : (s : List ℕ) → starts is_letter s ≡ false → from-reference s ≡ from-term s
   past-references s e = choice-assoc (FunctionReference rust sub₂) (MessageReference rust) from-term s
-      ∙ second (FunctionReference rust sub₂ / MessageReference rust) from-term s (no-reference s e)
+      ∙ second (FunctionReference rust sub₂ // MessageReference rust) from-term s (no-reference s e)
 
   -- from one alternative to the next
   past-string : (s : List ℕ) (o : Out Inline) → starts_with 34 s ≡ false → NearAt s o from-number
-      → NearAt s o (StringLiteral rust / from-number)
+      → NearAt s o (StringLiteral rust // from-number)
   past-string s o e h = near-second form_of s o (StringLiteral rust) from-number (no-string s e) h
 
   past-number : (s : List ℕ) (o : Out Inline) → NumberLiteral 20 s ≡ fails → NearAt s o from-reference → NearAt s o from-number
@@ -506,11 +506,11 @@ module _ {sub₁ : Pattern.Inside} {sub₂ : Grammar.Inside} (agree : Agree sub�
 
   -- the reading of each
   string-at : (s : List ℕ) (q : Parser Abstract.Form) → q s ≡ fails
-      → NearAt s (Reading.as_string (Reading.string_literal s)) (StringLiteral rust / q)
+      → NearAt s (Reading.as_string (Reading.string_literal s)) (StringLiteral rust // q)
   string-at s q e = near_first form_of s (Reading.as_string (Reading.string_literal s)) (StringLiteral rust) q
       (same-near form_of s (Reading.as_string (Reading.string_literal s)) (StringLiteral rust s) (string-literal s)) e
 
-  number_at : (s : List ℕ) (q : Parser Abstract.Form) → q s ≡ fails → NearAt s (Reading.number_literal s) (NumberLiteral 20 / q)
+  number_at : (s : List ℕ) (q : Parser Abstract.Form) → q s ≡ fails → NearAt s (Reading.number_literal s) (NumberLiteral 20 // q)
   unfolding Reading.number_literal form_of
   number_at s q e =
       near_first form_of s (Reading.number_literal s) (NumberLiteral 20) q
@@ -520,7 +520,7 @@ module _ {sub₁ : Pattern.Inside} {sub₂ : Grammar.Inside} (agree : Agree sub�
   reference-at s l e =
       subst (Near form_of s (as_inline (reference sub₁ s)))
       (sym (choice-assoc (FunctionReference rust sub₂) (MessageReference rust) from-term s))
-      (near_first form_of s (as_inline (reference sub₁ s)) (FunctionReference rust sub₂ / MessageReference rust) from-term
+      (near_first form_of s (as_inline (reference sub₁ s)) (FunctionReference rust sub₂ // MessageReference rust) from-term
       (reference-near s l) e)
 
   term-at : (s : List ℕ) → from-variable s ≡ fails → NearAt s (as_inline (Reading.term_reference sub₁ s)) from-term
@@ -550,7 +550,7 @@ module _ {sub₁ : Pattern.Inside} {sub₂ : Grammar.Inside} (agree : Agree sub�
 
   past-term-at : (s : List ℕ) (o : Out Inline) → starts_with 34 s ≡ false → starts is_digit s ≡ false
       → starts is_letter s ≡ false → starts_with 45 s ≡ false → NearAt s o from-variable
-      → NearAt s o (StringLiteral rust / from-number)
+      → NearAt s o (StringLiteral rust // from-number)
   past-term-at s o q d l m h =
       past-string s o q (past-number s o (no_number 20 s m d) (past-reference s o l (past-term s o (no-term s m) h)))
 
@@ -596,32 +596,32 @@ module _ {sub₁ : Pattern.Inside} {sub₂ : Grammar.Inside} (agree : Agree sub�
 
   -- the value of a named argument
   abbrev from-literal : Parser Abstract.Form
-  from-literal = UnsignedLiteral / (FunctionReference rust sub₂ / MessageReference rust)
+  from-literal = UnsignedLiteral // (FunctionReference rust sub₂ // MessageReference rust)
 
   no-literals : (s : List ℕ) → starts is_digit s ≡ false → starts is_letter s ≡ false → from-literal s ≡ fails
   no-literals s d l =
-      second UnsignedLiteral (FunctionReference rust sub₂ / MessageReference rust) s (no-unsigned-literal s d)
+      second UnsignedLiteral (FunctionReference rust sub₂ // MessageReference rust) s (no-unsigned-literal s d)
       ∙ no-reference s l
 
   unsigned-at : (s : List ℕ) → starts_with 45 s ≡ false → starts is_letter s ≡ false → NearAt s (Reading.number_literal s) from-literal
   unfolding Reading.number_literal form_of
-  unsigned-at s m l = near_first form_of s (Reading.number_literal s) UnsignedLiteral (FunctionReference rust sub₂ / MessageReference rust)
+  unsigned-at s m l = near_first form_of s (Reading.number_literal s) UnsignedLiteral (FunctionReference rust sub₂ // MessageReference rust)
       (subst (Near form_of s (Reading.number_literal s)) (sym (unsigned-literal s m))
       (nearly-near form_of s (Reading.number_literal s) (NumberLiteral 20 s)
       (number-literal 20 number form_of s refl)))
       (no-reference s l)
 
   past-strings : (s : List ℕ) (o : Out Inline) → starts_with 34 s ≡ false → NearAt s o from-literal
-      → NearAt s o (StringLiteral rust / from-literal)
+      → NearAt s o (StringLiteral rust // from-literal)
   past-strings s o e h = near-second form_of s o (StringLiteral rust) from-literal (no-string s e) h
 
   no-literal-at : (s : List ℕ) (o : Out Inline) → Wrong o → starts_with 34 s ≡ false → starts is_digit s ≡ false
-      → starts is_letter s ≡ false → NearAt s o (StringLiteral rust / from-literal)
+      → starts is_letter s ≡ false → NearAt s o (StringLiteral rust // from-literal)
   no-literal-at s o w q d l =
-      wrong-near form_of s o ((StringLiteral rust / from-literal) s) w
+      wrong-near form_of s o ((StringLiteral rust // from-literal) s) w
       (rw (second (StringLiteral rust) from-literal s (no-string s q) ∙ no-literals s d l) tt)
 
-  literal-is : (s : List ℕ) → literal rust sub₂ s ≡ (StringLiteral rust / from-literal) s
+  literal-is : (s : List ℕ) → literal rust sub₂ s ≡ (StringLiteral rust // from-literal) s
   unfolding literal pick given rust all
   literal-is s = refl
 
@@ -630,7 +630,7 @@ module _ {sub₁ : Pattern.Inside} {sub₂ : Grammar.Inside} (agree : Agree sub�
   literal-near [] = rw (literal-is []) (no-literal-at [] (no_inline true []) tt refl refl refl)
   literal-near (b ∷ bs) =
       let s = b ∷ bs in
-      let value = (StringLiteral rust / from-literal) s in
+      let value = (StringLiteral rust // from-literal) s in
       rw (literal-is s)
       (near-pick form_of s (eqb b 34) _ _ value
       (λ q. string-at s from-literal
@@ -641,7 +641,7 @@ module _ {sub₁ : Pattern.Inside} {sub₂ : Grammar.Inside} (agree : Agree sub�
       (λ d. near-pick form_of s (is_letter b) _ _ value
       (λ l. past-strings s (as_inline (reference sub₁ s)) q
       (near-second form_of s (as_inline (reference sub₁ s)) UnsignedLiteral
-      (FunctionReference rust sub₂ / MessageReference rust) (no-unsigned-literal s d) (reference-near s l)))
+      (FunctionReference rust sub₂ // MessageReference rust) (no-unsigned-literal s d) (reference-near s l)))
       (λ l. no-literal-at s (no_inline true s) tt q d l))))
 
   -- each uses a byte
@@ -649,7 +649,7 @@ module _ {sub₁ : Pattern.Inside} {sub₂ : Grammar.Inside} (agree : Agree sub�
   unfolding InlineExpression StringLiteral FunctionReference MessageReference TermReference VariableReference ◌>>◌ ◌>>=◌
   uses-inline s = uses-choice (StringLiteral rust) from-number s (uses-first s _ (byte 34 s) (uses-byte 34 s))
       (uses-choice (NumberLiteral 20) from-reference s (uses-number 20 s)
-      (uses-choice (FunctionReference rust sub₂) (MessageReference rust / from-term) s
+      (uses-choice (FunctionReference rust sub₂) (MessageReference rust // from-term) s
       (uses-node 22 _ s (uses-first s _ (Identifier 9 s) (uses-name 9 s)))
       (uses-choice (MessageReference rust) from-term s (uses-node 23 _ s (uses-first s _ (Identifier 9 s) (uses-name 9 s)))
       (uses-choice (TermReference rust sub₂) from-variable s (uses-node 24 _ s (uses-first s _ (byte 45 s) (uses-byte 45 s)))

@@ -20,7 +20,7 @@ use Rattle.laws.specs.Moving.{move_up-twice, move_up-append, move_up-nil}
 use Rattle.standard.specs.Dialect as Dialect
 use Rattle.standard.specs.Dialect.{rust}
 use Rattle.standard.specs.Peg as Peg
-use Rattle.standard.specs.Peg.{Answer, fits, fails, Parser, pure, many, some, byte, opt, with_first, void, pick, ◌>>=◌, ◌>>◌, ◌/◌}
+use Rattle.standard.specs.Peg.{Answer, fits, fails, Parser, pure, many, some, byte, opt, with_first, void, pick, ◌>>=◌, ◌>>◌, ◌//◌}
 use Rattle.standard.specs.Steps.{bind-fits, bind-fails, then-fits, then-fails, first, second, opt-fits, opt-fails}
 use Rattle.standard.specs.Steps.{void-fits, void-fails, some_fits, some-fails, next-after, Uses}
 use Rattle.standard.specs.Abstract as Abstract
@@ -138,7 +138,7 @@ module _ (sub₁ : Pattern.Inside) (sub₂ : Grammar.Inside) (agree : Agree sub�
   term₂ = Grammar.Pattern rust sub₂ >> void (many (Attribute rust sub₂))
 
   message₂ : Parser (Unit {0})
-  message₂ = term₂ / void (some (Attribute rust sub₂))
+  message₂ = term₂ // void (some (Attribute rust sub₂))
 
   rest₂ : Parser (Unit {0}) → Parser (Unit {0})
   rest₂ p = blank-inline? >> (p >> entry-end rust n)

@@ -19,7 +19,7 @@ use Rattle.syntax.specs.Helper.{get_identifier}
 use Rattle.standard.specs.Dialect as Dialect
 use Rattle.standard.specs.Dialect.{rust}
 use Rattle.standard.specs.Peg as Peg
-use Rattle.standard.specs.Peg.{Answer, fits, fails, Parser, pure, many, some, byte, one, given, pick, with_first, ◌>>◌, ◌/◌}
+use Rattle.standard.specs.Peg.{Answer, fits, fails, Parser, pure, many, some, byte, one, given, pick, with_first, ◌>>◌, ◌//◌}
 use Rattle.standard.specs.Steps.{then-fits, then-fails, first, second, byte_fits, byte-fails, some-fails, Uses}
 use Rattle.standard.specs.Steps.{uses-choice, uses-first, uses-byte}
 use Rattle.standard.specs.Abstract as Abstract
@@ -40,10 +40,10 @@ use Rattle.standard.specs.Comments.{no-comment, line-comment}
 -- ---------------------------------------------------------------------------------------------------------------------------------
 
 newline : Parser (Unit {0})
-newline = (byte 13 >> byte 10) / byte 10
+newline = (byte 13 >> byte 10) // byte 10
 
 newline-fits : (s : List ℕ) (e : ℕ) → eol s ≡ suc e → newline s ≡ fits tt [] (suc e)
-unfolding newline eol starts_with ◌>>◌ ◌/◌ Peg.next Peg.after byte one starts move_up
+unfolding newline eol starts_with ◌>>◌ ◌//◌ Peg.next Peg.after byte one starts move_up
 newline-fits s e q = go (sign_of s) q
   where
     go : {s : List ℕ} → Sign s → eol s ≡ suc e → newline s ≡ fits tt [] (suc e)
@@ -55,7 +55,7 @@ newline-fits s e q = go (sign_of s) q
     go (plain b t x y w v) q = absurd (omega (arith, plain-eol b t x v))
 
 newline-fails : (s : List ℕ) → eol s ≡ 0 → newline s ≡ fails
-unfolding newline eol starts_with ◌>>◌ ◌/◌ Peg.next Peg.after byte one starts move_up
+unfolding newline eol starts_with ◌>>◌ ◌//◌ Peg.next Peg.after byte one starts move_up
 newline-fails s q = go (sign_of s) q
   where
     after-cr : (b : ℕ) (t : List ℕ) → (eqb b 13 && starts_with 10 t) ≡ false → (byte 13 >> byte 10) (b ∷ t) ≡ fails
@@ -113,7 +113,7 @@ blanks-fail n s q = then-fails (some gap-line) (pure Abstract.blank) s (some-fai
 
 -- what a choice or a sequence answers
 module _ {A : Type 0} (a : A) (ms : List Mark) (k : ℕ) where
-  either : (p q : Parser A) (s : List ℕ) → (p / q) s ≡ fits a ms k → (p s ≡ fits a ms k) ⊎ (q s ≡ fits a ms k)
+  either : (p q : Parser A) (s : List ℕ) → (p // q) s ≡ fits a ms k → (p s ≡ fits a ms k) ⊎ (q s ≡ fits a ms k)
   either p q s e = go (p s) refl
     where
       go : (o : Answer A) → p s ≡ o → (p s ≡ fits a ms k) ⊎ (q s ≡ fits a ms k)
@@ -166,7 +166,7 @@ module _ (n : ℕ) (agree : Agree (level n) (nesting rust n)) where
 
   pub entry-hash : (s : List ℕ) → starts_with 35 s ≡ true → Entry rust n s ≡ CommentLine rust s
   unfolding Entry message-branch term-branch is_letter
-  entry-hash s e = second message-branch (term-branch / CommentLine rust) s (no-message s (no-letter 35 s e refl))
+  entry-hash s e = second message-branch (term-branch // CommentLine rust) s (no-message s (no-letter 35 s e refl))
       ∙ second term-branch (CommentLine rust) s (no-term s (other_byte 35 45 s e refl))
 
   pub entry-agrees : (s : List ℕ) → starts_with 35 s ≡ false → Same item_of (get_entry (level n) s) (Entry rust n s)
@@ -176,20 +176,20 @@ module _ (n : ℕ) (agree : Agree (level n) (nesting rust n)) where
         e,
         get_entry,
         d,
-        second message-branch (term-branch / CommentLine rust) s (no-message s (no-letter 45 s d refl)),
+        second message-branch (term-branch // CommentLine rust) s (no-message s (no-letter 45 s d refl)),
       )
       (or-comment (as_term (term_fields (level n) s)) term-branch (term-agrees (level n) (nesting rust n) agree n s)))
       (λ d. rw (e, get_entry, d) (or-message (as_message (fields (level n) s)) (message-agrees (level n) (nesting rust n) agree n s) d))
     where
-      or-comment : (o : Out Core.Entry) (p : Parser Item) → Same item_of o (p s) → Same item_of o ((p / CommentLine rust) s)
+      or-comment : (o : Out Core.Entry) (p : Parser Item) → Same item_of o (p s) → Same item_of o ((p // CommentLine rust) s)
       or-comment (ok x ms k) p h = first p (CommentLine rust) s h
       or-comment (bad f k) p h = second p (CommentLine rust) s h ∙ no-comment s e
       or-comment (deep k) p h = tt
 
       or-message : (o : Out Core.Entry) → Same item_of o (message-branch s) → starts_with 45 s ≡ false
-          → Same item_of o ((message-branch / (term-branch / CommentLine rust)) s)
-      or-message (ok x ms k) h d = first message-branch (term-branch / CommentLine rust) s h
-      or-message (bad f k) h d = second message-branch (term-branch / CommentLine rust) s h
+          → Same item_of o ((message-branch // (term-branch // CommentLine rust)) s)
+      or-message (ok x ms k) h d = first message-branch (term-branch // CommentLine rust) s h
+      or-message (bad f k) h d = second message-branch (term-branch // CommentLine rust) s h
           ∙ second term-branch (CommentLine rust) s (no-term s d) ∙ no-comment s e
       or-message (deep k) h d = tt
 
@@ -197,7 +197,7 @@ module _ (n : ℕ) (agree : Agree (level n) (nesting rust n)) where
   pub entry-uses : (s : List ℕ) → Uses (Entry rust n s)
   unfolding Entry message-branch term-branch Message Term ◌>>◌
   entry-uses s =
-      uses-choice message-branch (term-branch / CommentLine rust) s
+      uses-choice message-branch (term-branch // CommentLine rust) s
       (uses-first s _ ((Message rust (nesting rust n) >> entry-end rust n) s)
       (uses-first s _ (Message rust (nesting rust n) s) (uses-first s _ (Identifier 9 s) (uses-name 9 s))))
       (uses-choice term-branch (CommentLine rust) s
@@ -227,7 +227,7 @@ module _ (n : ℕ) (agree : Agree (level n) (nesting rust n)) where
   entry-blank : (s : List ℕ) (e : ℕ) → eol (drop (spaces s) s) ≡ suc e → Entry rust n s ≡ fails
   unfolding Entry message-branch term-branch is_letter
   entry-blank s e q =
-      second message-branch (term-branch / CommentLine rust) s
+      second message-branch (term-branch // CommentLine rust) s
       (no-message s (first-blank s e q is_letter refl refl refl))
       ∙ second term-branch (CommentLine rust) s
       (no-term s (sym (starts-with 45 s) ∙ first-blank s e q (λ x. eqb x 45) refl refl refl))
@@ -237,7 +237,7 @@ module _ (n : ℕ) (agree : Agree (level n) (nesting rust n)) where
   -- ------------------------------------------------------------------------------------------------------------------------------------
 
   abbrev item : Parser Item
-  item = Entry rust n / (blank-lines rust n / Junk rust n)
+  item = Entry rust n // (blank-lines rust n // Junk rust n)
 
   piece_is : (s : List ℕ) {i : Item} {ms : List Mark} {k : ℕ} → item s ≡ fits i ms k
       → piece rust n s ≡ fits (record { item = i; inside = ms; size = k }) [] k
@@ -246,13 +246,13 @@ module _ (n : ℕ) (agree : Agree (level n) (nesting rust n)) where
 
   pub piece-entry : (s : List ℕ) {i : Item} {ms : List Mark} {k : ℕ} → Entry rust n s ≡ fits i ms k
       → piece rust n s ≡ fits (record { item = i; inside = ms; size = k }) [] k
-  piece-entry s e = piece_is s (first (Entry rust n) (blank-lines rust n / Junk rust n) s e)
+  piece-entry s e = piece_is s (first (Entry rust n) (blank-lines rust n // Junk rust n) s e)
 
   pub piece-blank : {s : List ℕ} {l : Line} {ls : List Line} {u : ℕ} → Block s (l ∷ ls) u
       → piece rust n s ≡ fits (record { item = Abstract.blank; inside = []; size = u }) [] u
   piece-blank {s} {u = u} (step {u = v} e q b) =
       piece_is s
-      (second (Entry rust n) (blank-lines rust n / Junk rust n) s (entry-blank s e q)
+      (second (Entry rust n) (blank-lines rust n // Junk rust n) s (entry-blank s e q)
       ∙ first (blank-lines rust n) (Junk rust n) s (blanks-fit n (step e q b)))
 
   junk-is : (s : List ℕ) (f : ParserError) (k : ℕ) → get_entry (level n) s ≡ bad f k
@@ -266,7 +266,7 @@ module _ (n : ℕ) (agree : Agree (level n) (nesting rust n)) where
       (record { item = Abstract.junk; inside = text_node 7 0 (junk_end k s); size = junk_end k s }) [] (junk_end k s)
   piece-junk s f k x q e =
       piece_is s
-      (second (Entry rust n) (blank-lines rust n / Junk rust n) s x
+      (second (Entry rust n) (blank-lines rust n // Junk rust n) s x
       ∙ second (blank-lines rust n) (Junk rust n) s (blanks-fail n s q) ∙ junk-is s f k e)
 
   nil-bad : get_entry (level n) [] ≡ bad (record { start = 0; end = 1; kind = ExpectedCharRange 1 }) 0
@@ -307,7 +307,7 @@ module _ (n : ℕ) (agree : Agree (level n) (nesting rust n)) where
   item-level : (s : List ℕ) (i : Item) (ms : List Mark) (k : ℕ) → item s ≡ fits i ms k
       → (Abstract.level_of i ≡ 0) ⊎ (CommentLine rust s ≡ fits i ms k)
   unfolding Entry message-branch term-branch blank-lines Junk pick given rust Dialect.all Abstract.level_of junk-lines
-  item-level s i ms k e = entry (either i ms k (Entry rust n) (blank-lines rust n / Junk rust n) s e)
+  item-level s i ms k e = entry (either i ms k (Entry rust n) (blank-lines rust n // Junk rust n) s e)
     where
       G : Type 0
       G = (Abstract.level_of i ≡ 0) ⊎ (CommentLine rust s ≡ fits i ms k)
@@ -334,12 +334,12 @@ module _ (n : ℕ) (agree : Agree (level n) (nesting rust n)) where
       named (inl h) = inl (ap Abstract.level_of (last-value i ms k _ Abstract.term s h))
       named (inr h) = inr h
 
-      entered : (message-branch s ≡ fits i ms k) ⊎ ((term-branch / CommentLine rust) s ≡ fits i ms k) → G
+      entered : (message-branch s ≡ fits i ms k) ⊎ ((term-branch // CommentLine rust) s ≡ fits i ms k) → G
       entered (inl h) = inl (ap Abstract.level_of (last-value i ms k _ Abstract.message s h))
       entered (inr h) = named (either i ms k term-branch (CommentLine rust) s h)
 
-      entry : (Entry rust n s ≡ fits i ms k) ⊎ ((blank-lines rust n / Junk rust n) s ≡ fits i ms k) → G
-      entry (inl h) = entered (either i ms k message-branch (term-branch / CommentLine rust) s h)
+      entry : (Entry rust n s ≡ fits i ms k) ⊎ ((blank-lines rust n // Junk rust n) s ≡ fits i ms k) → G
+      entry (inl h) = entered (either i ms k message-branch (term-branch // CommentLine rust) s h)
       entry (inr h) = rest (either i ms k (blank-lines rust n) (Junk rust n) s h)
 
   -- the first part

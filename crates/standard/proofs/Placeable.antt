@@ -20,7 +20,7 @@ use Rattle.laws.specs.Bytes.{by_case, clash}
 use Rattle.laws.specs.Attribute.{braced_once, braced-once}
 use Rattle.standard.specs.Dialect.{rust}
 use Rattle.standard.specs.Peg as Peg
-use Rattle.standard.specs.Peg.{Answer, fits, fails, Parser, byte, only, in-node, shared, share, ◌/◌, ◌>>◌, ◌>>=◌}
+use Rattle.standard.specs.Peg.{Answer, fits, fails, Parser, byte, only, in-node, shared, share, ◌//◌, ◌>>◌, ◌>>=◌}
 use Rattle.standard.specs.Abstract.{Form, Content, inline, select, A10, A11}
 use Rattle.standard.specs.Lexical.{blank?, blank-inline?}
 use Rattle.standard.specs.Grammar as Grammar
@@ -251,7 +251,7 @@ module _ {sub₁ : Pattern.Inside} {sub₂ : Grammar.Inside} (agree : Agree sub�
   either a s = or (SelectExpression rust sub₂ (λ _. a) s) (((λ _. a) >>= (λ form. Peg.pure (inline form))) s)
 
   expression-is : (s : List ℕ) → expression rust sub₂ s ≡ either (InlineExpression rust sub₂ s) s
-  unfolding expression shared share either ◌/◌
+  unfolding expression shared share either ◌//◌
   expression-is s = refl
 
   select-body : Form → Parser Content

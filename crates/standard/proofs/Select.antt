@@ -24,7 +24,7 @@ use Rattle.laws.specs.Moving.{after-after}
 use Rattle.standard.specs.Dialect.{rust, all}
 use Rattle.standard.specs.Peg as Peg
 use Rattle.standard.specs.Peg.{Answer, fits, fails, Parser, many, turns, byte, void, ahead, given, shared, share}
-use Rattle.standard.specs.Peg.{with_first, ◌/◌, ◌>>◌, ◌>>=◌}
+use Rattle.standard.specs.Peg.{with_first, ◌//◌, ◌>>◌, ◌>>=◌}
 use Rattle.standard.specs.Abstract.{Line}
 use Rattle.standard.specs.Lexical.{Identifier, NumberLiteral, VariantKey, blank?, blank-inline?, blank-block, line-end}
 use Rattle.standard.specs.Grammar as Grammar
@@ -47,7 +47,7 @@ use Rattle.standard.proofs.Inline.{digit-no-letter}
 -- ----------------------------------------------------------------------------------------------------------------------------------
 
 abbrev key : Parser (Unit {0})
-key = void (NumberLiteral 17) / void (Identifier 18)
+key = void (NumberLiteral 17) // void (Identifier 18)
 
 name-void : (s : List ℕ) (o : Out ℕ) → Same (λ n. take n s) o (Identifier 18 s) → Same nothing o (void (Identifier 18) s)
 name-void s (ok n ms k) h = void-fits (Identifier 18) s h
@@ -285,7 +285,7 @@ module _ {sub₁ : Pattern.Inside} {sub₂ : Grammar.Inside} (patterns : Pattern
   -- what follows the variants, by whether there was a default
   ending : Bool → Parser (Unit {0})
   ending true = void line-end
-  ending false = default-on / bare-star
+  ending false = default-on // bare-star
 
   abbrev listed : Bool → ℕ → Parser (Unit {0})
   listed h n s = Peg.next s (λ _. ending h) (turns n (Variant rust sub₂) s)
@@ -470,7 +470,7 @@ module _ {sub₁ : Pattern.Inside} {sub₂ : Grammar.Inside} (patterns : Pattern
   default-is s l t e = then-fits (DefaultVariant rust sub₂) (many (Variant rust sub₂) >> void line-end) s (default-fits s l t e)
 
   -- where a "*" stands, the first variants end
-  listed-star : (n : ℕ) (s : List ℕ) → line_ends s ≡ true → starts_with 42 (behind s) ≡ true → listed false n s ≡ (default-on / bare-star) s
+  listed-star : (n : ℕ) (s : List ℕ) → line_ends s ≡ true → starts_with 42 (behind s) ≡ true → listed false n s ≡ (default-on // bare-star) s
   unfolding ending
   listed-star n s l b = listed-end false n s (variant-fails s l (no_body (behind s) (starts_other 42 91 (behind s) b refl)))
 

@@ -19,7 +19,7 @@ use Rattle.laws.specs.Bytes.{by_case, clash}
 use Rattle.standard.specs.Dialect.{rust, all}
 use Rattle.standard.specs.Peg as Peg
 use Rattle.standard.specs.Peg.{Answer, fits, fails, Parser, opt, many, some, turns, times, with_first, given, eof}
-use Rattle.standard.specs.Peg.{sized, bar, ◌but◌, one, byte, void, as-text, ◌/◌, ◌>>◌, ◌>>=◌}
+use Rattle.standard.specs.Peg.{sized, bar, ◌but◌, one, byte, void, as-text, ◌//◌, ◌>>◌, ◌>>=◌}
 use Rattle.standard.specs.Abstract as Abstract
 use Rattle.standard.specs.Lexical.{digits, unsigned, Identifier, NumberLiteral, UnsignedLiteral, line-end}
 use Rattle.standard.specs.Lexical.{any-char, special-quoted-char, unicode-escape}
@@ -268,13 +268,13 @@ quoted-bad : (n : ℕ) (s : List ℕ) → quoted-char rust s ≡ fails → start
 quoted-bad n s e h = rw (turns-end n (quoted-char rust) s e) h
 
 plain-char : (b : ℕ) (s : List ℕ) → eqb b 34 ≡ false → eqb b 92 ≡ false → line_ends (b ∷ s) ≡ false → quoted-char rust (b ∷ s) ≡ fits tt [] 1
-unfolding quoted-char special-escape unicode-escape special-quoted-char any-char ◌but◌ bar sized eof given rust all ◌/◌
+unfolding quoted-char special-escape unicode-escape special-quoted-char any-char ◌but◌ bar sized eof given rust all ◌//◌
     ◌>>◌ byte one starts Peg.next Peg.after Peg.never move_up
-plain-char b s q r l = rw (no-line-end (b ∷ s) l, quoted-char, ◌/◌, ◌>>◌, bar) (rw q (rw r refl))
+plain-char b s q r l = rw (no-line-end (b ∷ s) l, quoted-char, ◌//◌, ◌>>◌, bar) (rw q (rw r refl))
 
 special-char : (b : ℕ) (s : List ℕ) → (eqb b 92 || (eqb b 123 || eqb b 34)) ≡ true → quoted-char rust (92 ∷ b ∷ s) ≡ fits tt [] 2
 unfolding quoted-char special-escape unicode-escape special-quoted-char any-char ◌but◌ bar line-end sized eof given rust
-    all ◌/◌ ◌>>◌ byte one starts Peg.next Peg.after Peg.never move_up
+    all ◌//◌ ◌>>◌ byte one starts Peg.next Peg.after Peg.never move_up
 special-char b s q = by_case (eqb b 92) (λ r. subst (λ x. quoted-char rust (92 ∷ x ∷ s) ≡ fits tt [] 2) (sym (eqb-true b 92 r)) refl)
     (λ r. by_case (eqb b 123) (λ t. subst (λ x. quoted-char rust (92 ∷ x ∷ s) ≡ fits tt [] 2) (sym (eqb-true b 123 t)) refl)
     (λ t. by_case (eqb b 34)
@@ -284,29 +284,29 @@ special-char b s q = by_case (eqb b 92) (λ r. subst (λ x. quoted-char rust (92
 no-escape : (b : ℕ) (s : List ℕ) → (eqb b 92 || (eqb b 123 || eqb b 34)) ≡ false → eqb b 117 ≡ false → eqb b 85 ≡ false
     → quoted-char rust (92 ∷ b ∷ s) ≡ fails
 unfolding quoted-char special-escape unicode-escape special-quoted-char any-char ◌but◌ bar line-end sized eof given rust
-    all ◌/◌ ◌>>◌ byte one starts Peg.next Peg.after Peg.never move_up
+    all ◌//◌ ◌>>◌ byte one starts Peg.next Peg.after Peg.never move_up
 no-escape b s q r t =
     let c : eqb b 92 ≡ false = by_case (eqb b 92) (λ y. clash (rw y refl) q) (λ y. y) in
     let d : eqb b 123 ≡ false = by_case (eqb b 123) (λ y. clash (rw c (rw y refl)) q) (λ y. y) in
     let e : eqb b 34 ≡ false = by_case (eqb b 34) (λ y. clash (rw c (rw d (rw y refl))) q) (λ y. y) in
-    rw (e, quoted-char, ◌/◌) (rw c (rw d (rw (r, ◌/◌, ◌>>◌) (rw (t, ◌>>◌, one) refl))))
+    rw (e, quoted-char, ◌//◌) (rw c (rw d (rw (r, ◌//◌, ◌>>◌) (rw (t, ◌>>◌, one) refl))))
 
 lower-char : (s : List ℕ) (a : Answer (Unit {0})) → times 4 (one is_hex) s ≡ a → quoted-char rust (92 ∷ 117 ∷ s) ≡ Peg.after [] 2 a
 unfolding quoted-char special-escape unicode-escape special-quoted-char any-char ◌but◌ bar line-end sized eof given rust
-    all ◌/◌ ◌>>◌ byte one starts Peg.next Peg.after Peg.never move_up
-lower-char s (fits u ms k) e = rw (e, quoted-char, ◌/◌) refl
-lower-char s fails e = rw (e, quoted-char, ◌/◌) refl
+    all ◌//◌ ◌>>◌ byte one starts Peg.next Peg.after Peg.never move_up
+lower-char s (fits u ms k) e = rw (e, quoted-char, ◌//◌) refl
+lower-char s fails e = rw (e, quoted-char, ◌//◌) refl
 
 upper-char : (s : List ℕ) → quoted-char rust (92 ∷ 85 ∷ s) ≡ Peg.after [] 2 (times 6 (one is_hex) s)
 unfolding quoted-char special-escape unicode-escape special-quoted-char any-char ◌but◌ bar line-end sized eof given rust
-    all ◌/◌ ◌>>◌ byte one starts Peg.next Peg.after Peg.never move_up
+    all ◌//◌ ◌>>◌ byte one starts Peg.next Peg.after Peg.never move_up
 upper-char s = refl
 
 no_char : (s : List ℕ) → (quoted-char rust [] ≡ fails) × (quoted-char rust (34 ∷ s) ≡ fails)
     × (quoted-char rust (10 ∷ s) ≡ fails) × (quoted-char rust (13 ∷ 10 ∷ s) ≡ fails)
     × (quoted-char rust (92 ∷ []) ≡ fails)
 unfolding quoted-char special-escape unicode-escape special-quoted-char any-char ◌but◌ bar line-end sized eof given rust
-    all ◌/◌ ◌>>◌ byte one starts Peg.next Peg.after Peg.never move_up
+    all ◌//◌ ◌>>◌ byte one starts Peg.next Peg.after Peg.never move_up
 no_char s = (refl, refl, refl, refl, refl)
 
 module _ (m n : ℕ) where

@@ -6,7 +6,7 @@ use Rattle.syntax.specs.Kind as Kind
 use Rattle.syntax.specs.Bytes.{starts, all, is_upper, is_callee_part}
 use Rattle.syntax.specs.Marks.{Mark, move_up, node, text_node}
 use Rattle.standard.specs.Dialect.{Dialect}
-use Rattle.standard.specs.Peg.{Parser, fits, ◌/◌, eof, given}
+use Rattle.standard.specs.Peg.{Parser, fits, ◌//◌, eof, given}
 
 -- CommentLine
 -- ---------------------------------------------------------------------------------------------------------------------------------
@@ -16,7 +16,7 @@ empty-line s = fits tt (text_node Kind.comment_line 0 0) 0
 
 -- A1. The content is "" where nothing follows the sigil. (Where a space alone does, it is the "" after it.) Departure hash-at-end
 unfoldable pub A1 : Dialect → Parser (Unit {0})
-A1 d = given d.hash-at-end eof / empty-line
+A1 d = given d.hash-at-end eof // empty-line
 
 -- Resource
 -- ------------------------------------------------------------------------------------------------------------------------------------

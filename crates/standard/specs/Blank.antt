@@ -12,7 +12,7 @@ use Rattle.standard.specs.Peg as Peg
 use Rattle.standard.specs.Steps.{move_up-none, some-run, first, second, turns-on, turns-end, turns-still, opt-fits}
 use Rattle.standard.specs.Steps.{opt-fails, void-fits, void-fails, some_fits, some-fails, byte_fits, byte-fails}
 use Rattle.standard.specs.Steps.{then-fits, then-fails, after-fails, bind-fits, bind-fails, turns_more}
-use Rattle.standard.specs.Peg.{fits, fails, Parser, ◌/◌, opt, many, some, turns, one, byte, sized, void, eof}
+use Rattle.standard.specs.Peg.{fits, fails, Parser, ◌//◌, opt, many, some, turns, one, byte, sized, void, eof}
 use Rattle.standard.specs.Peg.{◌>>=◌, ◌>>◌, Answer, with_first}
 use Rattle.standard.specs.Abstract.{Line}
 use Rattle.standard.specs.Lexical.{line-end, blank-inline, blank-inline?, blank, blank?, blank-line, blank-block}
@@ -134,10 +134,10 @@ no-spaces [] e = refl
 no-spaces (b ∷ bs) e = rw (e, run) refl
 
 pub opt-inline : (s : List ℕ) → opt 0 blank-inline s ≡ fits (spaces s) [] (spaces s)
-unfolding opt ◌/◌ Peg.pure
+unfolding opt ◌//◌ Peg.pure
 opt-inline s =
-    by_case (starts_with 32 s) (λ e. rw (space-run s e, opt, ◌/◌) refl)
-    (λ e. rw (no-space s e, opt, ◌/◌) (ap (λ k. fits k [] k) (sym (no-spaces s e))))
+    by_case (starts_with 32 s) (λ e. rw (space-run s e, opt, ◌//◌) refl)
+    (λ e. rw (no-space s e, opt, ◌//◌) (ap (λ k. fits k [] k) (sym (no-spaces s e))))
 
 pub blank-inline?-is : (s : List ℕ) → blank-inline? s ≡ fits tt [] (spaces s)
 unfolding blank-inline? void ◌>>◌ Peg.next Peg.after Peg.pure move_up
@@ -149,7 +149,7 @@ line_ends [] = true
 line_ends (b ∷ bs) = ltb 0 (eol (b ∷ bs))
 
 pub line-end-is : (s : List ℕ) → line_ends s ≡ true → line-end s ≡ fits (eol s) [] (eol s)
-unfolding line_ends line-end sized ◌/◌ ◌>>◌ byte one starts eof eol starts_with Peg.next Peg.after move_up
+unfolding line_ends line-end sized ◌//◌ ◌>>◌ byte one starts eof eol starts_with Peg.next Peg.after move_up
 line-end-is [] e = refl
 line-end-is (b ∷ bs) e = go (blank_of (b ∷ bs)) e
   where
@@ -172,14 +172,14 @@ no-line-end (b ∷ bs) e =
     (λ r. by_case (starts_with 10 bs) (λ t. clash (rw (q, eol, r, t) refl) e)
     (λ t. then-fits (byte 13) (byte 10) (b ∷ bs) (byte_fits 13 (b ∷ bs) r) ∙ after-fails [] 1 (byte-fails 10 bs t)))
     (λ r. then-fails (byte 13) (byte 10) (b ∷ bs) (byte-fails 13 (b ∷ bs) r)) in
-    let t : ((byte 13 >> byte 10) / byte 10 / eof) (b ∷ bs) ≡ fails =
-    second (byte 13 >> byte 10) (byte 10 / eof) (b ∷ bs) r
+    let t : ((byte 13 >> byte 10) // byte 10 // eof) (b ∷ bs) ≡ fails =
+    second (byte 13 >> byte 10) (byte 10 // eof) (b ∷ bs) r
     ∙ second (byte 10) eof (b ∷ bs) (byte-fails 10 (b ∷ bs) q) in
     rw (t, line-end, sized) refl
 
 -- turns of blank
 abbrev Turned : ℕ → List ℕ → Type 0
-Turned n s = (us : List ℕ) × (turns n (blank-inline / line-end) s ≡ fits us [] (blanks s))
+Turned n s = (us : List ℕ) × (turns n (blank-inline // line-end) s ≡ fits us [] (blanks s))
 
 blank-turns : (n : ℕ) (s : List ℕ) → length s ≤ n → Turned n s
 unfolding turns blanks is_blank_at eol starts_with spaces run move_up line_ends
@@ -187,10 +187,10 @@ blank-turns zero [] h = ([], refl)
 blank-turns zero (b ∷ bs) h = absurd (not-suc-le-zero h)
 blank-turns (suc n) s h = go (blank_of s) h (λ r l. blank-turns n r l)
   where
-    end : (s : List ℕ) → starts_with 32 s ≡ false → eol s ≡ 0 → turns (suc n) (blank-inline / line-end) s ≡ fits [] [] 0
-    end [] e f = turns-still (suc n) (blank-inline / line-end) [] (second blank-inline line-end [] (no-space [] e) ∙ line-end-is [] refl)
+    end : (s : List ℕ) → starts_with 32 s ≡ false → eol s ≡ 0 → turns (suc n) (blank-inline // line-end) s ≡ fits [] [] 0
+    end [] e f = turns-still (suc n) (blank-inline // line-end) [] (second blank-inline line-end [] (no-space [] e) ∙ line-end-is [] refl)
     end (b ∷ bs) e f =
-        turns-end (suc n) (blank-inline / line-end) (b ∷ bs)
+        turns-end (suc n) (blank-inline // line-end) (b ∷ bs)
         (second blank-inline line-end (b ∷ bs) (no-space (b ∷ bs) e) ∙ no-line-end (b ∷ bs) (rw f refl))
 
     go : {s : List ℕ} → Blank s → length s ≤ suc n → ((r : List ℕ) → length r ≤ n → Turned n r) → Turned (suc n) s
@@ -198,7 +198,7 @@ blank-turns (suc n) s h = go (blank_of s) h (λ r l. blank-turns n r l)
         let (us, e) = f (drop (spaces s) s) (omega (arith, length-drop (spaces s) s)) in (
           suc (spaces s)
               ∷ us,
-          turns-on n (blank-inline / line-end) (32 ∷ s)
+          turns-on n (blank-inline // line-end) (32 ∷ s)
               (first blank-inline line-end (32 ∷ s) (space-run (32 ∷ s) refl)) (omega arith) e
               ∙ ap (fits (suc (spaces s) ∷ us) []) (omega (arith, blanks-on (spaces s) s (spaces-blanks s))),
         )
@@ -206,7 +206,7 @@ blank-turns (suc n) s h = go (blank_of s) h (λ r l. blank-turns n r l)
         let (us, e) = f s (omega arith) in (
           1
               ∷ us,
-          turns-on n (blank-inline / line-end) (10 ∷ s)
+          turns-on n (blank-inline // line-end) (10 ∷ s)
               (second blank-inline line-end (10 ∷ s) (no-space (10 ∷ s) refl) ∙ line-end-is (10 ∷ s) refl) (omega arith) e
               ∙ ap (fits (1 ∷ us) []) (omega arith),
         )
@@ -214,7 +214,7 @@ blank-turns (suc n) s h = go (blank_of s) h (λ r l. blank-turns n r l)
         let (us, e) = f s (omega arith) in (
           2
               ∷ us,
-          turns-on n (blank-inline / line-end) (13 ∷ 10 ∷ s)
+          turns-on n (blank-inline // line-end) (13 ∷ 10 ∷ s)
               (second blank-inline line-end (13 ∷ 10 ∷ s) (no-space (13 ∷ 10 ∷ s) refl) ∙ line-end-is (13 ∷ 10 ∷ s) refl)
               (omega arith) e
               ∙ ap (fits (2 ∷ us) []) (omega arith),
@@ -225,18 +225,18 @@ pub blank?-is : (s : List ℕ) → blank? s ≡ fits tt [] (blanks s)
 unfolding blank? blank many blanks is_blank_at eol starts_with spaces run move_up turns line_ends
 blank?-is s = go (blank_of s)
   where
-    yes-blank : (s : List ℕ) {a : ℕ} {k : ℕ} → (blank-inline / line-end) s ≡ fits a [] k
+    yes-blank : (s : List ℕ) {a : ℕ} {k : ℕ} → (blank-inline // line-end) s ≡ fits a [] k
         → k + blanks (drop k s) ≡ blanks s → blank? s ≡ fits tt [] (blanks s)
     yes-blank s {a} {k} e h =
         let (us, f) = blank-turns (length (drop k s)) (drop k s) (omega arith) in
-        opt-fits tt blank s (void-fits (some (blank-inline / line-end)) s (some_fits (blank-inline / line-end) s e f)) ∙ ap (fits tt []) h
+        opt-fits tt blank s (void-fits (some (blank-inline // line-end)) s (some_fits (blank-inline // line-end) s e f)) ∙ ap (fits tt []) h
 
     end : (s : List ℕ) → starts_with 32 s ≡ false → eol s ≡ 0 → blank? s ≡ fits tt [] (blanks s)
     end [] e f = yes-blank [] (second blank-inline line-end [] (no-space [] e) ∙ line-end-is [] refl) refl
     end (b ∷ bs) e f =
         opt-fails tt blank (b ∷ bs)
-        (void-fails (some (blank-inline / line-end)) (b ∷ bs)
-        (some-fails (blank-inline / line-end) (b ∷ bs)
+        (void-fails (some (blank-inline // line-end)) (b ∷ bs)
+        (some-fails (blank-inline // line-end) (b ∷ bs)
         (second blank-inline line-end (b ∷ bs) (no-space (b ∷ bs) e) ∙ no-line-end (b ∷ bs) (rw f refl))))
         ∙ ap (fits tt []) (sym (none-blanks (b ∷ bs) e f))
 

@@ -16,7 +16,7 @@ use Rattle.laws.specs.Bytes.{by_case, clash}
 use Rattle.standard.specs.Dialect as Dialect
 use Rattle.standard.specs.Dialect.{rust}
 use Rattle.standard.specs.Peg as Peg
-use Rattle.standard.specs.Peg.{fits, fails, Parser, pure, many, one, byte, bar, void, eof, as-text, given, ◌but◌, ◌>>◌, ◌/◌}
+use Rattle.standard.specs.Peg.{fits, fails, Parser, pure, many, one, byte, bar, void, eof, as-text, given, ◌but◌, ◌>>◌, ◌//◌}
 use Rattle.standard.specs.Steps.{bind-fits, bind-fails, then-fits, then-fails, first, second, void-fits}
 use Rattle.standard.specs.Steps.{void-fails, text-fits, byte_fits, byte-fails, units}
 use Rattle.standard.specs.Abstract as Abstract
@@ -30,7 +30,7 @@ use Rattle.standard.specs.Turns.{AtEnd, many-again, many-none, bar-fits, bar-fai
 -- --------------------------------------------------------------------------------------------------------------------------
 
 char-end : AtEnd (comment-char [])
-unfolding comment-char any-char ◌but◌ bar ◌>>◌ Peg.next Peg.after line-end Peg.sized ◌/◌ byte one starts eof
+unfolding comment-char any-char ◌but◌ bar ◌>>◌ Peg.next Peg.after line-end Peg.sized ◌//◌ byte one starts eof
 char-end = tt
 
 char-fits : (b : ℕ) (bs : List ℕ) → line_ends (b ∷ bs) ≡ false → comment-char (b ∷ bs) ≡ fits tt [] 1
@@ -91,7 +91,7 @@ data Sigil (s : List ℕ) : Type 0 where
   hashed : (l : ℕ) → starts_with 35 s ≡ true → level_of s ≡ suc l → sigil s ≡ fits (suc l) [] (suc l) → Sigil s
 
 sigil-of : (s : List ℕ) → Sigil s
-unfolding sigil level_of run starts_with ◌>>◌ Peg.next Peg.after ◌/◌ byte one starts pure move_up
+unfolding sigil level_of run starts_with ◌>>◌ Peg.next Peg.after ◌//◌ byte one starts pure move_up
 sigil-of s = go (hashes-of s)
   where
     least : (n : ℕ) → min 3 (suc (suc (suc n))) ≡ 3
@@ -100,9 +100,9 @@ sigil-of s = go (hashes-of s)
     go : {s : List ℕ} → Hashes s → Sigil s
     go (three s) = hashed 2 refl (least (run (λ b. eqb b 35) s)) refl
     go (two [] e) = hashed 1 refl refl refl
-    go (two (b ∷ s) e) = hashed 1 refl (rw (e, run) refl) (rw (sigil, ◌/◌, ◌>>◌, e) refl)
+    go (two (b ∷ s) e) = hashed 1 refl (rw (e, run) refl) (rw (sigil, ◌//◌, ◌>>◌, e) refl)
     go (single [] e) = hashed 0 refl refl refl
-    go (single (b ∷ s) e) = hashed 0 refl (rw (e, run) refl) (rw (sigil, ◌/◌, ◌>>◌, e) (rw (◌/◌, ◌>>◌, e) refl))
+    go (single (b ∷ s) e) = hashed 0 refl (rw (e, run) refl) (rw (sigil, ◌//◌, ◌>>◌, e) (rw (◌//◌, ◌>>◌, e) refl))
     go {s} (no-hash e) = bare e (rw (no_run s e) refl) (none s e)
       where
         none : (s : List ℕ) → starts_with 35 s ≡ false → sigil s ≡ fails
@@ -110,7 +110,7 @@ sigil-of s = go (hashes-of s)
         none (b ∷ s) e =
             let h = byte-fails 35 (b ∷ s) e in
             let two-fail = then-fails (byte 35) (byte 35) (b ∷ s) h in
-            second (byte 35 >> byte 35 >> byte 35 >> pure 3) ((byte 35 >> byte 35 >> pure 2) / (byte 35 >> pure 1))
+            second (byte 35 >> byte 35 >> byte 35 >> pure 3) ((byte 35 >> byte 35 >> pure 2) // (byte 35 >> pure 1))
             (b ∷ s)
             (then-fails (byte 35 >> byte 35 >> byte 35) (pure 3) (b ∷ s)
             (then-fails (byte 35 >> byte 35) (byte 35) (b ∷ s) two-fail))
@@ -123,7 +123,7 @@ sigil-of s = go (hashes-of s)
 
 -- what follows the sigil
 content : Parser (Unit {0})
-content = void (byte 32 >> as-text 8 (many comment-char)) / A1 rust
+content = void (byte 32 >> as-text 8 (many comment-char)) // A1 rust
 
 unspaced : (s : List ℕ) → starts_with 32 s ≡ false → content s ≡ A1 rust s
 unfolding content
@@ -159,11 +159,11 @@ unfolding CommentLine
 no_line s e = bind-fails sigil _ s e
 
 content-end : content [] ≡ fits tt [] 0
-unfolding A1 given eof rust Dialect.all ◌/◌ starts_with
+unfolding A1 given eof rust Dialect.all ◌//◌ starts_with
 content-end = unspaced [] refl
 
 content-empty : (b : ℕ) (bs : List ℕ) → eqb b 32 ≡ false → content (b ∷ bs) ≡ fits tt (text_node 8 0 0) 0
-unfolding A1 given eof empty-line rust Dialect.all ◌/◌ starts_with
+unfolding A1 given eof empty-line rust Dialect.all ◌//◌ starts_with
 content-empty b bs e = unspaced (b ∷ bs) e
 
 content-text : (bs : List ℕ) → content (32 ∷ bs) ≡ fits tt (move_up 1 (text_node 8 0 (line_length bs))) (1 + line_length bs)

@@ -14,7 +14,7 @@ use Rattle.laws.specs.Bytes.{by_case, clash}
 use Rattle.standard.specs.Dialect as Dialect
 use Rattle.standard.specs.Dialect.{rust}
 use Rattle.standard.specs.Peg as Peg
-use Rattle.standard.specs.Peg.{Answer, fits, fails, Parser, many, some, with_first, pure, opt, ◌>>=◌, ◌>>◌, ◌/◌}
+use Rattle.standard.specs.Peg.{Answer, fits, fails, Parser, many, some, with_first, pure, opt, ◌>>=◌, ◌>>◌, ◌//◌}
 use Rattle.standard.specs.Peg.{ahead, bar, void, given, sized, byte, one, eof, ◌but◌}
 use Rattle.standard.specs.Steps.{bind-fits, bind-fails, then-fits, then-fails, first, second, some-fails}
 use Rattle.standard.specs.Steps.{void-fits, byte_fits, byte-fails, opt-fits, opt-fails, ahead-fits, ahead-fails}
@@ -214,7 +214,7 @@ run_on zero c cs e q g = let r : eqb c 13 ≡ true =
 run_on (suc n) c cs e q g = run-plain c cs (no-feed c cs e) q (continues c (sym (goes_on-suc n c) ∙ g)) (no-cr-feed c cs e)
 
 no-text-char : (s : List ℕ) → text_run s ≡ 0 → text-char s ≡ fails
-unfolding text-char any-char special-text-char ◌but◌ bar ◌>>◌ Peg.next Peg.after ◌/◌ byte one starts line-end sized eof move_up
+unfolding text-char any-char special-text-char ◌but◌ bar ◌>>◌ Peg.next Peg.after ◌//◌ byte one starts line-end sized eof move_up
 no-text-char s e = go (sign_of s) e
   where
     go : {s : List ℕ} → Sign s → text_run s ≡ 0 → text-char s ≡ fails
@@ -285,7 +285,7 @@ closing-fails s h = go (block-brace s) refl
 
 -- at the end of input
 pub block-at-end : blank-block [] ≡ fits (record { spaces = 0; ending = 0 } ∷ []) [] 0
-unfolding blank-block some blank-line opt blank-inline sized byte one starts line-end ◌>>=◌ ◌>>◌ ◌/◌ Peg.next Peg.after
+unfolding blank-block some blank-line opt blank-inline sized byte one starts line-end ◌>>=◌ ◌>>◌ ◌//◌ Peg.next Peg.after
     pure eof many Peg.turns move_up
 block-at-end = refl
 
@@ -315,10 +315,10 @@ module _ (sub : Inside) (no-brace : (s : List ℕ) → starts_with 123 s ≡ fal
       ∙ ap (fits (text (suc m) ∷ []) []) (add-zero (suc m)))
 
   -- no text
-  element-else : (s : List ℕ) → text_run s ≡ 0 → PatternElement rust sub s ≡ (block-text rust / one-raw / block-placeable rust sub) s
+  element-else : (s : List ℕ) → text_run s ≡ 0 → PatternElement rust sub s ≡ (block-text rust // one-raw // block-placeable rust sub) s
   unfolding PatternElement one-raw
   element-else s e =
-      second (inline-text >>= λ n. pure (text n ∷ [])) (block-text rust / one-raw / block-placeable rust sub) s
+      second (inline-text >>= λ n. pure (text n ∷ [])) (block-text rust // one-raw // block-placeable rust sub) s
       (bind-fails inline-text (λ n. pure (text n ∷ [])) s (inline-text-none s e))
 
   -- no blank-block either
@@ -334,7 +334,7 @@ module _ (sub : Inside) (no-brace : (s : List ℕ) → starts_with 123 s ≡ fal
       → sub.inline-placeable s ≡ fits u ms k → PatternElement rust sub s ≡ fits (placeable ms k ∷ []) [] k
   unfolding one-raw Peg.after pure move_up
   element-placeable s {u} {ms} {k} e b q = element-else s e
-      ∙ second (block-text rust) (one-raw / block-placeable rust sub) s (text-not-block s b)
+      ∙ second (block-text rust) (one-raw // block-placeable rust sub) s (text-not-block s b)
       ∙ first one-raw (block-placeable rust sub) s
       (bind-fits (raw-placeable rust sub) (λ r. pure (r ∷ [])) s (raw-fits s q)
       ∙ ap (fits (placeable ms k ∷ []) []) (add-zero k))
@@ -345,7 +345,7 @@ module _ (sub : Inside) (no-brace : (s : List ℕ) → starts_with 123 s ≡ fal
 
   pub element-none : (s : List ℕ) → text_run s ≡ 0 → blank-block s ≡ fails → sub.inline-placeable s ≡ fails
       → PatternElement rust sub s ≡ fails
-  element-none s e b q = element-else s e ∙ second (block-text rust) (one-raw / block-placeable rust sub) s (text-not-block s b)
+  element-none s e b q = element-else s e ∙ second (block-text rust) (one-raw // block-placeable rust sub) s (text-not-block s b)
       ∙ second one-raw (block-placeable rust sub) s (raw-none s q) ∙ brace-not-block s b
 
   -- behind a blank-block
@@ -426,20 +426,20 @@ module _ (sub : Inside) (no-brace : (s : List ℕ) → starts_with 123 s ≡ fal
       by-indent : {x : List Raw} {k : ℕ} → indented (drop u s) ≡ fits x [] k → PatternElement rust sub s ≡ fits x [] (u + k)
       unfolding block-text Peg.after move_up given
       by-indent {x} {k} e = element-else s no_text
-          ∙ first (block-text rust) (one-raw / block-placeable rust sub) s
+          ∙ first (block-text rust) (one-raw // block-placeable rust sub) s
           (first indented-text (given rust.cr-continues cr-text) s (indented-is ∙ ap (Peg.after [] u) e))
 
       by-cr : {x : List Raw} {k : ℕ} → indented (drop u s) ≡ fails → carried (drop u s) ≡ fits x [] k
           → PatternElement rust sub s ≡ fits x [] (u + k)
       unfolding block-text Peg.after move_up given rust Dialect.all
       by-cr {x} {k} e f = element-else s no_text
-          ∙ first (block-text rust) (one-raw / block-placeable rust sub) s
+          ∙ first (block-text rust) (one-raw // block-placeable rust sub) s
           (second indented-text cr-text s (indented-is ∙ ap (Peg.after [] u) e) ∙ carried-is ∙ ap (Peg.after [] u) f)
 
       by-brace : indented (drop u s) ≡ fails → carried (drop u s) ≡ fails → PatternElement rust sub s ≡ Peg.after [] u (braced (drop u s))
       unfolding block-text Peg.after given rust Dialect.all
       by-brace e f = element-else s no_text
-          ∙ second (block-text rust) (one-raw / block-placeable rust sub) s
+          ∙ second (block-text rust) (one-raw // block-placeable rust sub) s
           (second indented-text cr-text s (indented-is ∙ ap (Peg.after [] u) e) ∙ carried-is ∙ ap (Peg.after [] u) f)
           ∙ second one-raw (block-placeable rust sub) s (raw-none s (no-brace s no-open)) ∙ braced-is
 

@@ -8,7 +8,7 @@ use Rattle.syntax.specs.Reader.{ok, bad, deep}
 use Rattle.syntax.specs.Expression.{level}
 use Rattle.syntax.specs.Core.{get_entry, junk_end}
 use Rattle.standard.specs.Dialect.{Dialect}
-use Rattle.standard.specs.Peg.{Answer, fits, fails, Parser, pure, never, ◌>>=◌, ◌>>◌, ◌/◌, opt, many, some}
+use Rattle.standard.specs.Peg.{Answer, fits, fails, Parser, pure, never, ◌>>=◌, ◌>>◌, ◌//◌, opt, many, some}
 use Rattle.standard.specs.Peg.{list_of, ahead, bar, void, in-node, as-text, only, given, pick, shared, ◌but◌}
 use Rattle.standard.specs.Signs.{LF, CR, space, quote, open-parenthesis, close-parenthesis, star, comma, minus}
 use Rattle.standard.specs.Signs.{dot, colon, equals, greater, backslash, open-brace, close-brace}
@@ -59,11 +59,11 @@ module _ (d : Dialect) where
   -- special_escape = "\" special_quoted_char
   -- Departure escape-brace: or "{"
   unfoldable pub special-escape : Parser (Unit {0})
-  special-escape = backslash >> (special-quoted-char / given d.escape-brace open-brace)
+  special-escape = backslash >> (special-quoted-char // given d.escape-brace open-brace)
 
   -- quoted_char = (any_char - special_quoted_char - line_end) / special_escape / unicode_escape
   unfoldable pub quoted-char : Parser (Unit {0})
-  quoted-char = (any-char but special-quoted-char but line-end) / special-escape / unicode-escape
+  quoted-char = (any-char but special-quoted-char but line-end) // special-escape // unicode-escape
 
   -- StringLiteral = '"' quoted_char* '"'
   unfoldable pub StringLiteral : Parser Form
@@ -78,13 +78,13 @@ module _ (d : Dialect) where
   unfoldable pub MessageReference : Parser Form
   MessageReference = in-node Kind.message_reference do
     Identifier Kind.identifier
-    opt tt (given d.blank-before-dot (blank? >> AttributeAccessor) / AttributeAccessor)
+    opt tt (given d.blank-before-dot (blank? >> AttributeAccessor) // AttributeAccessor)
     pure message_reference
 
   -- block_text = blank_block blank_inline indented_char inline_text?
   -- Departure cr-continues: / blank_block CR !LF inline_text?
   unfoldable pub block-text : Parser (List Raw)
-  block-text = indented-text / given d.cr-continues cr-text
+  block-text = indented-text // given d.cr-continues cr-text
 
   module _ (sub : Inside) where
     -- Expressions
@@ -112,20 +112,20 @@ module _ (d : Dialect) where
     unfoldable pub InlineExpression : Parser Form
     InlineExpression =
         StringLiteral
-        / NumberLiteral Kind.number
-        / FunctionReference
-        / MessageReference
-        / TermReference
-        / VariableReference
-        / (sub.inline-placeable >> pure nested_placeable)
+        // NumberLiteral Kind.number
+        // FunctionReference
+        // MessageReference
+        // TermReference
+        // VariableReference
+        // (sub.inline-placeable >> pure nested_placeable)
 
     -- StringLiteral / NumberLiteral
     -- Departures named-no-minus: without "-"; named-reference: / FunctionReference / MessageReference
     unfoldable pub literal : Parser Form
     literal =
         StringLiteral
-        / pick d.named-no-minus UnsignedLiteral (NumberLiteral Kind.number)
-        / given d.named-reference (FunctionReference / MessageReference)
+        // pick d.named-no-minus UnsignedLiteral (NumberLiteral Kind.number)
+        // given d.named-reference (FunctionReference // MessageReference)
 
     -- NamedArgument = Identifier blank? ":" blank? (StringLiteral / NumberLiteral)
     unfoldable pub NamedArgument : Parser Arg
@@ -139,7 +139,7 @@ module _ (d : Dialect) where
 
     -- Argument = NamedArgument / InlineExpression
     unfoldable pub Argument : Parser Arg
-    Argument = NamedArgument / (InlineExpression >> pure positional)
+    Argument = NamedArgument // (InlineExpression >> pure positional)
 
     -- blank? "," blank?
     -- Departure optional-commas: ","?
@@ -183,9 +183,9 @@ module _ (d : Dialect) where
     unfoldable pub PatternElement : Parser (List Raw)
     PatternElement =
         (inline-text >>= λ n. pure (text n ∷ []))
-        / block-text
-        / (raw-placeable >>= λ r. pure (r ∷ []))
-        / block-placeable
+        // block-text
+        // (raw-placeable >>= λ r. pure (r ∷ []))
+        // block-placeable
 
     unfoldable pub dedented-pattern : Parser (Unit {0})
     dedented-pattern s = in_pattern d s (some PatternElement s)
@@ -238,7 +238,7 @@ module _ (d : Dialect) where
     -- variant_list = Variant* DefaultVariant Variant* line_end
     -- Departure bare-star: / Variant* line_end blank? "*" &(blank_inline? "}")
     unfoldable pub variant-list : Parser (Unit {0})
-    variant-list = shared (many Variant) λ vs. variants vs / given d.bare-star (bare-variants vs)
+    variant-list = shared (many Variant) λ vs. variants vs // given d.bare-star (bare-variants vs)
 
     -- SelectExpression = InlineExpression blank? "->" blank_inline? variant_list
     -- Rule A10
@@ -255,7 +255,7 @@ module _ (d : Dialect) where
 
     -- SelectExpression / InlineExpression, where the InlineExpression with which both start is read once
     unfoldable pub expression : Parser Content
-    expression = shared InlineExpression λ e. SelectExpression e / (e >>= λ form. pure (inline form))
+    expression = shared InlineExpression λ e. SelectExpression e // (e >>= λ form. pure (inline form))
 
     -- inline_placeable = "{" blank? (SelectExpression / InlineExpression) blank? "}"
     -- Rule A11
@@ -302,7 +302,7 @@ module _ (d : Dialect) where
       blank-inline?
       equals
       blank-inline?
-      (Pattern >> void (many Attribute)) / void (some Attribute)
+      (Pattern >> void (many Attribute)) // void (some Attribute)
 
   -- what stands in at most n more "{" and "("
   unfoldable pub nesting : ℕ → Inside
@@ -314,7 +314,7 @@ module _ (d : Dialect) where
   unfoldable pub CommentLine : Parser Item
   CommentLine = do
     l ← sigil
-    void (space >> as-text Kind.comment_line (many comment-char)) / A1 d
+    void (space >> as-text Kind.comment_line (many comment-char)) // A1 d
     line-end
     pure (comment l)
 
@@ -333,7 +333,7 @@ module _ (d : Dialect) where
     -- Junk = junk_line (!"#" !"-" ![a-z_a-Z] junk_line)*
     -- Departure junk-swallows: swallowing-junk / junk-lines
     unfoldable pub Junk : Parser Item
-    Junk = given d.junk-swallows swallowing-junk / junk-lines
+    Junk = given d.junk-swallows swallowing-junk // junk-lines
 
     -- line_end behind a Message or Term
     -- Departure blank-at-end: line_end blank_block?
@@ -344,17 +344,17 @@ module _ (d : Dialect) where
     unfoldable pub Entry : Parser Item
     Entry =
         (Message (nesting n) >> entry-end >> pure message)
-        / (Term (nesting n) >> entry-end >> pure term)
-        / CommentLine
+        // (Term (nesting n) >> entry-end >> pure term)
+        // CommentLine
 
     -- blank_block between entries
     -- Departure blank-at-end: (blank_inline? (CR LF / LF))+
     unfoldable pub blank-lines : Parser Item
-    blank-lines = pick d.blank-at-end (some (blank-inline? >> ((CR >> LF) / LF)) >> pure gap) (blank-block >> pure gap)
+    blank-lines = pick d.blank-at-end (some (blank-inline? >> ((CR >> LF) // LF)) >> pure gap) (blank-block >> pure gap)
 
     -- Entry / blank_block / Junk
     unfoldable pub piece : Parser Part
-    piece = part (Entry / blank-lines / Junk)
+    piece = part (Entry // blank-lines // Junk)
 
   -- Resource = (Entry / blank_block / Junk)*
   -- Rules A2, A3. The marks of a source, with at most n "{" and "(" open at a time

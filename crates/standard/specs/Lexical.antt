@@ -6,7 +6,7 @@
 use Rattle.std.specs.Prelude.{ℕ, true, List, [], ◌∷◌}
 use Rattle.syntax.specs.Kind as Kind
 use Rattle.syntax.specs.Bytes.{is_letter, is_digit, is_name_part, is_hex}
-use Rattle.standard.specs.Peg.{Parser, pure, ◌>>=◌, ◌>>◌, ◌/◌, opt, many, some, times, bar, ◌but◌, one, eof, void}
+use Rattle.standard.specs.Peg.{Parser, pure, ◌>>=◌, ◌>>◌, ◌//◌, opt, many, some, times, bar, ◌but◌, one, eof, void}
 use Rattle.standard.specs.Peg.{sized, in-node, as-text}
 use Rattle.standard.specs.Signs.{LF, CR, space, quote, hash, dollar, star, minus, dot, open-bracket, letter-U}
 use Rattle.standard.specs.Signs.{backslash, close-bracket, letter-u, open-brace, close-brace}
@@ -14,7 +14,7 @@ use Rattle.standard.specs.Abstract.{Item, junk, Line, Raw, text, lines, indent, 
 
 -- line_end = CR LF / LF / EOF
 unfoldable pub line-end : Parser ℕ
-line-end = sized ((CR >> LF) / LF / eof)
+line-end = sized ((CR >> LF) // LF // eof)
 
 -- blank_inline = " "+
 unfoldable pub blank-inline : Parser ℕ
@@ -32,7 +32,7 @@ blank-block = some blank-line
 
 -- blank = (blank_inline / line_end)+
 unfoldable pub blank : Parser (Unit {0})
-blank = void (some (blank-inline / line-end))
+blank = void (some (blank-inline // line-end))
 
 unfoldable pub blank-inline? : Parser (Unit {0})
 blank-inline? = void (opt 0 blank-inline)
@@ -50,15 +50,15 @@ any-char = one (λ b. true)
 
 -- special_quoted_char = '"' / "\"
 unfoldable pub special-quoted-char : Parser (Unit {0})
-special-quoted-char = quote / backslash
+special-quoted-char = quote // backslash
 
 -- unicode_escape = "\u" [0-9a-f_a-F]{4} / "\U" [0-9a-f_a-F]{6}
 unfoldable pub unicode-escape : Parser (Unit {0})
-unicode-escape = (backslash >> letter-u >> times 4 (one is_hex)) / (backslash >> letter-U >> times 6 (one is_hex))
+unicode-escape = (backslash >> letter-u >> times 4 (one is_hex)) // (backslash >> letter-U >> times 6 (one is_hex))
 
 -- special_text_char = "{" / "}"
 unfoldable pub special-text-char : Parser (Unit {0})
-special-text-char = open-brace / close-brace
+special-text-char = open-brace // close-brace
 
 -- text_char = any_char - special_text_char - line_end
 unfoldable pub text-char : Parser (Unit {0})
@@ -98,7 +98,7 @@ unfoldable pub VariantKey : Parser (Unit {0})
 VariantKey = do
   open-bracket
   blank?
-  void (NumberLiteral Kind.number_key) / void (Identifier Kind.identifier_key)
+  void (NumberLiteral Kind.number_key) // void (Identifier Kind.identifier_key)
   blank?
   close-bracket
 
@@ -140,16 +140,16 @@ block-brace = blank-block >> blank-inline? >> open-brace
 
 -- "###" / "##" / "#", answering the level
 unfoldable pub sigil : Parser ℕ
-sigil = (hash >> hash >> hash >> pure 3) / (hash >> hash >> pure 2) / (hash >> pure 1)
+sigil = (hash >> hash >> hash >> pure 3) // (hash >> hash >> pure 2) // (hash >> pure 1)
 
 -- junk_line = [^LF]* (LF / EOF)
 unfoldable pub junk-line : Parser (Unit {0})
 junk-line = do
   many (any-char but LF)
-  LF / eof
+  LF // eof
 
 unfoldable pub entry-start : Parser (Unit {0})
-entry-start = hash / minus / one is_letter
+entry-start = hash // minus // one is_letter
 
 -- Junk = junk_line (!"#" !"-" ![a-z_a-Z] junk_line)*
 unfoldable pub junk-lines : Parser Item

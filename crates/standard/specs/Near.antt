@@ -12,7 +12,7 @@ use Rattle.syntax.specs.Reader as Reader
 use Rattle.syntax.specs.Reader.{Out, ok, bad, deep, Reader, wrap}
 use Rattle.syntax.specs.Helper.{skip_blank, as_text}
 use Rattle.standard.specs.Peg as Peg
-use Rattle.standard.specs.Peg.{Answer, fits, fails, Parser, ◌/◌, in-node, as-text}
+use Rattle.standard.specs.Peg.{Answer, fits, fails, Parser, ◌//◌, in-node, as-text}
 use Rattle.standard.specs.Lexical.{blank?}
 use Rattle.standard.specs.Steps.{text-fits, text-fails, node-fits, node-fails, after-fails, first, second}
 use Rattle.standard.specs.Blank.{behind, blanks, over, drop-over, reader-skips, parser-skips}
@@ -180,16 +180,16 @@ module _ {A B : Type 0} (f : A → B) where
   near-pick s false o o' a h l = l refl
 
   -- choice
-  left-first : (s : List ℕ) (p q : Parser B) (a : Answer B) → p s ≡ a → Left s a → q s ≡ fails → Left s ((p / q) s)
+  left-first : (s : List ℕ) (p q : Parser B) (a : Answer B) → p s ≡ a → Left s a → q s ≡ fails → Left s ((p // q) s)
   left-first s p q (fits y ms j) e h l = rw (first p q s e) h
   left-first s p q fails e h l = rw (second p q s e, l) tt
 
-  pub near_first : (s : List ℕ) (o : Out A) (p q : Parser B) → Near f s o (p s) → q s ≡ fails → Near f s o ((p / q) s)
+  pub near_first : (s : List ℕ) (o : Out A) (p q : Parser B) → Near f s o (p s) → q s ≡ fails → Near f s o ((p // q) s)
   near_first s (ok x ms k) p q (j, e, h) l = (j, first p q s e, h)
   near_first s (bad e k) p q h l = left-first s p q (p s) refl h l
   near_first s (deep k) p q h l = tt
 
-  pub near-second : (s : List ℕ) (o : Out A) (p q : Parser B) → p s ≡ fails → Near f s o (q s) → Near f s o ((p / q) s)
+  pub near-second : (s : List ℕ) (o : Out A) (p q : Parser B) → p s ≡ fails → Near f s o (q s) → Near f s o ((p // q) s)
   near-second s o p q e h = subst (Near f s o) (sym (second p q s e)) h
 
 -- an error, and such a rest

@@ -37,14 +37,14 @@ unfoldable pub ◌>>=◌ : {A B : Type 0} → Parser A → (A → Parser B) → 
 unfoldable pub ◌>>◌ : {A B : Type 0} → Parser A → Parser B → Parser B
 (p >> q) s = next s (λ _. q) (p s)
 
-infixr 5 ◌/◌
+infixr 5 ◌//◌
 -- p / q: ordered choice
-unfoldable pub ◌/◌ : {A : Type 0} → Parser A → Parser A → Parser A
-(p / q) s = elim (p s) [ fits a ms k ↦ fits a ms k | fails ↦ q s ]
+unfoldable pub ◌//◌ : {A : Type 0} → Parser A → Parser A → Parser A
+(p // q) s = elim (p s) [ fits a ms k ↦ fits a ms k | fails ↦ q s ]
 
 -- p?, with the value where p fails
 unfoldable pub opt : {A : Type 0} → A → Parser A → Parser A
-opt a p = p / pure a
+opt a p = p // pure a
 
 unfoldable pub with_first : {A : Type 0} → A → Answer (List A) → Answer (List A)
 with_first a (fits more ms k) = fits (a ∷ more) ms k

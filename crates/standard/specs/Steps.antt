@@ -10,7 +10,7 @@ use Rattle.syntax.specs.Marks.{Mark, move_up, node, text_node}
 use Rattle.laws.specs.Bytes.{by_case, clash}
 use Rattle.laws.specs.Moving.{marks-after, move_up-twice, move_up-zero}
 use Rattle.standard.specs.Peg.{Answer, fits, fails, Parser, many, some, turns, times, one, byte, with_first, after}
-use Rattle.standard.specs.Peg.{next, pure, ◌>>=◌, ◌>>◌, ◌/◌, opt, void, in-node, as-text, only, never, ahead}
+use Rattle.standard.specs.Peg.{next, pure, ◌>>=◌, ◌>>◌, ◌//◌, opt, void, in-node, as-text, only, never, ahead}
 
 -- no marks
 pub move_up-none : (k : ℕ) → move_up k [] ≡ []
@@ -39,17 +39,17 @@ module _ {A B : Type 0} where
 
 module _ {A : Type 0} where
   -- choice
-  pub first : (p q : Parser A) (s : List ℕ) {a : A} {ms : List Mark} {k : ℕ} → p s ≡ fits a ms k → (p / q) s ≡ fits a ms k
-  unfolding ◌/◌
-  first p q s e = rw (e, ◌/◌) refl
+  pub first : (p q : Parser A) (s : List ℕ) {a : A} {ms : List Mark} {k : ℕ} → p s ≡ fits a ms k → (p // q) s ≡ fits a ms k
+  unfolding ◌//◌
+  first p q s e = rw (e, ◌//◌) refl
 
-  pub second : (p q : Parser A) (s : List ℕ) → p s ≡ fails → (p / q) s ≡ q s
-  unfolding ◌/◌
-  second p q s e = rw (e, ◌/◌) refl
+  pub second : (p q : Parser A) (s : List ℕ) → p s ≡ fails → (p // q) s ≡ q s
+  unfolding ◌//◌
+  second p q s e = rw (e, ◌//◌) refl
 
   -- where the second fails
-  pub choice-first : (p q : Parser A) (s : List ℕ) → q s ≡ fails → (p / q) s ≡ p s
-  unfolding ◌/◌
+  pub choice-first : (p q : Parser A) (s : List ℕ) → q s ≡ fails → (p // q) s ≡ p s
+  unfolding ◌//◌
   choice-first p q s e = go (p s)
     where
       or : Answer A → Answer A → Answer A
@@ -59,14 +59,14 @@ module _ {A : Type 0} where
       go (fits x ms k) = refl
       go fails = e
 
-  pub choice-assoc : (p q r : Parser A) (s : List ℕ) → (p / (q / r)) s ≡ ((p / q) / r) s
-  unfolding ◌/◌
+  pub choice-assoc : (p q r : Parser A) (s : List ℕ) → (p // (q // r)) s ≡ ((p // q) // r) s
+  unfolding ◌//◌
   choice-assoc p q r s = go (p s)
     where
       or : Answer A → Answer A → Answer A
       or a b = elim a [ fits x ms k ↦ fits x ms k | fails ↦ b ]
 
-      go : (a : Answer A) → or a ((q / r) s) ≡ or (or a (q s)) (r s)
+      go : (a : Answer A) → or a ((q // r) s) ≡ or (or a (q s)) (r s)
       go (fits x ms k) = refl
       go fails = refl
 
@@ -193,8 +193,8 @@ next-after s q ms k fails = refl
 
 -- a choice between what follows one answer
 pub shared-first : {A B : Type 0} (a : Answer A) (p q : Parser B) (s : List ℕ)
-    → (((λ _. a) >> p) / ((λ _. a) >> q)) s ≡ next s (λ _. p / q) a
-unfolding ◌/◌ ◌>>◌ next
+    → (((λ _. a) >> p) // ((λ _. a) >> q)) s ≡ next s (λ _. p // q) a
+unfolding ◌//◌ ◌>>◌ next
 shared-first {B = B} (fits x ms k) p q s = go (p (drop k s))
   where
     or : Answer B → Answer B → Answer B
@@ -303,8 +303,8 @@ module _ {A B : Type 0} where
   uses-rest s q fails h = tt
 
 module _ {A : Type 0} where
-  pub uses-choice : (p q : Parser A) (s : List ℕ) → Uses (p s) → Uses (q s) → Uses ((p / q) s)
-  unfolding ◌/◌
+  pub uses-choice : (p q : Parser A) (s : List ℕ) → Uses (p s) → Uses (q s) → Uses ((p // q) s)
+  unfolding ◌//◌
   uses-choice p q s h l = go (p s) h
     where
       go : (a : Answer A) → Uses a → Uses {A = A} (elim a [ fits x ms k ↦ fits x ms k | fails ↦ q s ])

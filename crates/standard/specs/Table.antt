@@ -181,7 +181,7 @@ unfolding but reading both expected ReadBytes.starts_with ReadBytes.starts ReadB
     ReadCore.to_next_entry ReadCore.line_starts_at ReadCore.junk_end ReadCore.up_error ReadCore.following ReadCore.is_named
     ReadCore.count ReadCore.kind_of_entry ReadCore.entries ReadCore.parse ReadDecimal.digits ReadDecimal.decimal
     ReadListing.line ReadListing.lines ReadListing.mark_line Dialect.all Dialect.standard Dialect.rust Peg.pure Peg.never
-    Peg.after Peg.next Peg.◌>>=◌ Peg.◌>>◌ Peg.◌/◌ Peg.opt Peg.with_first Peg.turns Peg.many Peg.some Peg.times
+    Peg.after Peg.next Peg.◌>>=◌ Peg.◌>>◌ Peg.◌//◌ Peg.opt Peg.with_first Peg.turns Peg.many Peg.some Peg.times
     Peg.list_turns Peg.list_of Peg.ahead Peg.bar Peg.◌but◌ Peg.one Peg.byte Peg.eof Peg.void Peg.sized Peg.in-node
     Peg.as-text Peg.only Peg.given Peg.pick Peg.share Peg.shared Abstract.empty-line Abstract.A1 Abstract.level_of
     Abstract.beside Abstract.A2 Abstract.is_named Abstract.named_first Abstract.part_marks Abstract.A3 Abstract.least
@@ -242,7 +242,7 @@ unfolding reading pure given ReadBytes.starts_with ReadBytes.starts ReadBytes.se
     ReadCore.to_next_entry ReadCore.line_starts_at ReadCore.junk_end ReadCore.up_error ReadCore.following ReadCore.is_named
     ReadCore.count ReadCore.kind_of_entry ReadCore.entries ReadCore.parse ReadDecimal.digits ReadDecimal.decimal
     ReadListing.line ReadListing.lines ReadListing.mark_line Dialect.all Dialect.standard Dialect.rust Peg.pure Peg.never
-    Peg.after Peg.next Peg.◌>>=◌ Peg.◌>>◌ Peg.◌/◌ Peg.opt Peg.with_first Peg.turns Peg.many Peg.some Peg.times
+    Peg.after Peg.next Peg.◌>>=◌ Peg.◌>>◌ Peg.◌//◌ Peg.opt Peg.with_first Peg.turns Peg.many Peg.some Peg.times
     Peg.list_turns Peg.list_of Peg.ahead Peg.bar Peg.◌but◌ Peg.one Peg.byte Peg.eof Peg.void Peg.sized Peg.in-node
     Peg.as-text Peg.only Peg.given Peg.pick Peg.share Peg.shared Abstract.empty-line Abstract.A1 Abstract.level_of
     Abstract.beside Abstract.A2 Abstract.is_named Abstract.named_first Abstract.part_marks Abstract.A3 Abstract.least

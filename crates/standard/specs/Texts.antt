@@ -13,7 +13,7 @@ use Rattle.syntax.specs.Pattern.{Slice, line_feed, crlf, placeable_start, is_tex
 use Rattle.syntax.specs.Pattern.{slice_by, get_text_slice, eof as file_end}
 use Rattle.laws.specs.Bytes.{by_case, clash}
 use Rattle.standard.specs.Peg as Peg
-use Rattle.standard.specs.Peg.{fits, fails, ◌>>=◌, ◌>>◌, ◌/◌, many, some, bar, ◌but◌, one, byte, eof, sized, with_first, pure, turns}
+use Rattle.standard.specs.Peg.{fits, fails, ◌>>=◌, ◌>>◌, ◌//◌, many, some, bar, ◌but◌, one, byte, eof, sized, with_first, pure, turns}
 use Rattle.standard.specs.Lexical.{line-end, any-char, special-text-char, text-char, inline-text}
 use Rattle.standard.specs.Steps.{units, some_fits}
 use Rattle.standard.specs.Blank.{line_ends, no-line-end}
@@ -82,12 +82,12 @@ run-plain b s q r u v = rw (text_run, text_at b s q r u v) refl
 
 pub text-char-plain : (b : ℕ) (s : List ℕ) → eqb b 10 ≡ false → eqb b 123 ≡ false → eqb b 125 ≡ false
     → (eqb b 13 && starts_with 10 s) ≡ false → text-char (b ∷ s) ≡ fits tt [] 1
-unfolding text-char any-char special-text-char ◌but◌ bar ◌>>◌ Peg.next Peg.after ◌/◌ byte one starts move_up
-text-char-plain b s q r u v = rw (text-char, ◌but◌, bar, ◌>>◌, line-end-none b s q v, special-text-char, ◌/◌, byte, one, starts, r, u) refl
+unfolding text-char any-char special-text-char ◌but◌ bar ◌>>◌ Peg.next Peg.after ◌//◌ byte one starts move_up
+text-char-plain b s q r u v = rw (text-char, ◌but◌, bar, ◌>>◌, line-end-none b s q v, special-text-char, ◌//◌, byte, one, starts, r, u) refl
 
 many-text : (s : List ℕ) → many text-char s ≡ fits (units (text_run s)) [] (text_run s)
 unfolding text_run is_text_at is_text_byte units starts_with text-char any-char special-text-char ◌but◌ bar ◌>>◌ Peg.next
-    Peg.after ◌/◌ byte one starts line-end sized eof with_first move_up
+    Peg.after ◌//◌ byte one starts line-end sized eof with_first move_up
 many-text [] = unfold text_run units many turns in refl
 many-text (b ∷ bs) = go (sign_of (b ∷ bs)) (many-text bs)
   where
@@ -121,7 +121,7 @@ inline-text-some s m e = go (sign_of s) e
 
 pub inline-text-none : (s : List ℕ) → text_run s ≡ 0 → inline-text s ≡ fails
 unfolding text_run is_text_at is_text_byte starts_with inline-text sized some ◌>>=◌ Peg.next text-char any-char
-    special-text-char ◌but◌ bar ◌>>◌ Peg.after ◌/◌ byte one starts line-end eof move_up
+    special-text-char ◌but◌ bar ◌>>◌ Peg.after ◌//◌ byte one starts line-end eof move_up
 inline-text-none s e = go (sign_of s) e
   where
     go : {s : List ℕ} → Sign s → text_run s ≡ 0 → inline-text s ≡ fails
