@@ -9,50 +9,25 @@ use Rattle.marks.proofs.listing.put_error.Goals as goal
 
 pub put_span-position-requires : goal.put_span-position-requires
 put_span-position-requires c =
-    let capacity = c.word in
-    omega (
-      arith,
-      group-held c.args.errors.now c.args.i capacity.result c.requires.held c.requires.i_bound
-          capacity.ensures,
-    )
+    omega (arith, group-held c.args.errors.now c.args.i c.word.result c.requires.held c.requires.i_bound c.word.ensures)
 
 pub put_span-junk-requires : goal.put_span-junk-requires
 put_span-junk-requires c =
-    let capacity = c.word in
-    omega (
-      arith,
-      group-held c.args.errors.now c.args.i capacity.result c.requires.held c.requires.i_bound
-          capacity.ensures,
-    )
+    omega (arith, group-held c.args.errors.now c.args.i c.word.result c.requires.held c.requires.i_bound c.word.ensures)
 
 pub word-requires-3 : goal.word-requires-3
 word-requires-3 c =
-    let capacity =
-    c.word in
-    omega (
-      arith,
-      group-held c.args.errors.now c.args.i capacity.result c.requires.held c.requires.i_bound
-          capacity.ensures,
-    )
+    omega (arith, group-held c.args.errors.now c.args.i c.word.result c.requires.held c.requires.i_bound c.word.ensures)
 
 pub word-requires-4 : goal.word-requires-4
 word-requires-4 c =
-    let capacity =
-    c.word in
-    omega (
-      arith,
-      group-held c.args.errors.now c.args.i capacity.result c.requires.held c.requires.i_bound
-          capacity.ensures,
-    )
+    omega (arith, group-held c.args.errors.now c.args.i c.word.result c.requires.held c.requires.i_bound c.word.ensures)
 
 pub returns : goal.returns
 returns c =
-    let capacity =
-    c.word in
-    let first =
-    c.word-2 in
-    let kind =
-    c.put_field-kind.ensures in
+    let capacity = c.word in
+    let first = c.word-2 in
+    let kind = c.put_field-kind.ensures in
     let position = c.put_span-position.ensures in
     let junk = c.put_span-junk.ensures in
     let last = put-after _ _ _ _ (omega (arith, put-length kind, put-length position)) junk c.put_pair.ensures in

@@ -5,8 +5,7 @@ use Rattle.marks.proofs.listing.put_reading.Goals as goal
 
 pub returns : goal.returns
 returns c =
-    let accepted =
-    c.put_field-accepted.ensures in
+    let accepted = c.put_field-accepted.ensures in
     let marks = c.word.ensures in
     let errors = c.word-2.ensures in
     let counts = c.put_pair-counts.ensures in
