@@ -1,9 +1,7 @@
 -- `list_entries` meets its contract: in the loop the entries so far are listed.
 use Prim.Native.Nat.{◌-◌}
-use native.Mathlib.Omega.{arith}
 use mathlib.Core.Path.{◌≡◌}
 use lib.ListN.{length}
-use borrow.Author.Rules.{rules}
 use Rattle.entries.proofs.Going.{Going}
 use Rattle.entries.proofs.list_entries.Given as goal
 
