@@ -1,6 +1,8 @@
 // One case: its bytes from the file, and its replay.
-ghost use Rattle.std.specs.Prelude.{◌≤◌, ◌≡◌, length};
+ghost use Rattle.std.specs.Prelude.{◌≤◌, ◌≡◌, true, take, length, IfOk};
+ghost use Rattle.std.specs.Io.KnownBytes.{Consumes};
 ghost use Rattle.vectors.specs.Agreement.{Tells, left, tree_arrays, error_arrays, kinds_in, places_in, errors_in};
+ghost use Rattle.vectors.specs.Stored.{IsRead};
 ghost use Rattle.vectors.specs.Agreement.{groups_in, Lists, Answers, ReadFilled, Agrees, Fits, Replayed};
 
 use crate::compare::{Arrays, FILLING, fill, is_left};
@@ -180,6 +182,7 @@ fn replay(
 // Reads n bytes to the start of what is lent, and answers whether there were so many.
 pub fn fetch<R: Read>(file: &mut R, bytes: &mut [u8], n: usize) -> bool
     requires { n ≤ length bytes.old }
+    ensures { result ≡ true → Consumes (R.remaining file.old) (R.remaining file.new) (take n bytes.new) }
 {
     file.read_exact(&mut bytes[0..n]).is_ok()
 }
@@ -188,6 +191,7 @@ pub fn fetch<R: Read>(file: &mut R, bytes: &mut [u8], n: usize) -> bool
 // them is an error.
 pub fn read_head<R: Read>(file: &mut R, head: &mut [u8]) -> io::Result<bool>
     requires { 1 ≤ length head.old }
+    ensures { IfOk result (λ found. IsRead found (R.remaining file.old) (R.remaining file.new) head.new) }
 {
     if file.read(&mut head[0..1])? == 0 {
         return Ok(false);
