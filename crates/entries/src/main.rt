@@ -37,6 +37,10 @@ fn list_entries(source: &[u8], tree: &mut [u32], list: &mut [u32]) -> usize
     }
 }
 
+fn print_entry(rt: &impl Print, start: u32, stop: u32) -> io::Result<()> {
+    println!(rt; "{start} {stop}")
+}
+
 // Prints the entries of a source. Each takes a byte, so the list has room for all.
 fn print(rt: &impl Print, source: &[u8]) -> io::Result<()>
     requires { length source.now ≤ max_source }
@@ -46,9 +50,7 @@ fn print(rt: &impl Print, source: &[u8]) -> io::Result<()>
     let n = list_entries(source, &mut tree, &mut list);
     let mut i = 0;
     while i < n {
-        let start = list[ENTRY_WORDS * i];
-        let stop = list[ENTRY_WORDS * i + 1];
-        println!(rt; "{start} {stop}")?;
+        print_entry(rt, list[ENTRY_WORDS * i], list[ENTRY_WORDS * i + 1])?;
         i += 1;
     }
     Ok(())
