@@ -1,6 +1,5 @@
 -- What a file of cases holds: numbers, lowest byte first, and bytes.
-use Rattle.std.specs.Prelude.{ℕ, ◌+◌, ◌-◌, ◌*◌, ◌≤◌, ◌<◌, ◌≡◌, Bool, true, false, Option, List, [], ◌∷◌, length, get_or, take, drop}
-use Rattle.std.specs.Io.KnownBytes.{Consumes, IsAtEnd}
+use Rattle.std.specs.Prelude.{ℕ, ◌+◌, ◌-◌, ◌*◌, ◌≤◌, ◌<◌, ◌≡◌, List, [], ◌∷◌, length, get_or, take, drop}
 use Rattle.vectors.specs.declared.stored.Case.{Case}
 
 -- what stands from one index to another
@@ -39,8 +38,3 @@ pub record Repeats (n : ℕ) (before after : List ℕ) : Type 0 where
   pub long : length after ≡ length before
   pub first : take n after ≡ take n before
   pub again : (i : ℕ) → n ≤ i → i < length after → get_or after i 0 ≡ get_or after (i - n) 0
-
--- the next bytes of a file were read, or it is over, as far as the reader's type tells its bytes
-abbrev pub IsRead : Bool → (before after : Option (List ℕ)) → List ℕ → Type 0
-IsRead true before after bytes = Consumes before after bytes
-IsRead false before after bytes = IsAtEnd after

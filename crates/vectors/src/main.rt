@@ -13,9 +13,10 @@ mod texts;
 mod written;
 
 use replay::{LONGEST, Turn, replay_next};
-use std::fs::File;
+use std::env::{Env, FillError};
+use std::fs::{File, Files};
+use std::io;
 use std::io::Read;
-use std::{env, io};
 use syntax::layout::{ERROR_WORDS_A_BYTE, TREE_WORDS_A_BYTE};
 use texts::replay_next_text;
 
@@ -26,6 +27,9 @@ const READ_ROOM: usize = 4_100;
 const LISTING_ROOM: usize = 200_000;
 
 const OUTPUT_ROOM: usize = 65_536;
+
+// The most bytes of a file's name.
+const NAME_ROOM: usize = 4_096;
 
 // How many cases a file has, and how many of them differ.
 #[derive(Clone, Copy)]
@@ -182,11 +186,24 @@ fn refuse(rt: &(impl Eprint + AllocGlobal), path: &str, error: io::Error) -> io:
     eprintln!(rt; "{path}: {what}")
 }
 
+// Replays the file of a name, or says why it can't be opened.
+fn replay_named(rt: &(impl Print + Eprint + Files + AllocGlobal), path: &str) -> io::Result<()> {
+    match File::open(rt, path) {
+        Ok(mut file) => replay_file(rt, path, &mut file),
+        Err(error) => refuse(rt, path, error),
+    }
+}
+
 fn main(rt: HostRuntime) -> io::Result<()> {
-    for path in env::args(&rt)?.skip(1) {
-        match File::open(&rt, path.as_str()) {
-            Ok(mut file) => replay_file(&rt, path.as_str(), &mut file)?,
-            Err(error) => refuse(&rt, path.as_str(), error)?,
+    let mut name = [0u8; NAME_ROOM];
+    for i in 1..usize::MAX {
+        match rt.arg(i, &mut name) {
+            Ok(n) => match str::from_utf8(&name[..n]) {
+                Ok(path) => replay_named(&rt, path)?,
+                Err(_) => eprintln!(rt; "argument {i} is not UTF-8")?,
+            },
+            Err(FillError::NotPresent) => break,
+            Err(FillError::TooLong) => eprintln!(rt; "argument {i} is too long for a file's name")?,
         }
     }
     Ok(())

@@ -2,7 +2,6 @@
 ghost use Rattle.std.specs.Prelude.{◌≤◌, ◌≡◌, true, take, length, IfOk};
 ghost use Rattle.std.specs.Io.KnownBytes.{Consumes};
 ghost use Rattle.vectors.specs.Agreement.{Tells, left, tree_arrays, error_arrays, kinds_in, places_in, errors_in};
-ghost use Rattle.vectors.specs.Stored.{IsRead};
 ghost use Rattle.vectors.specs.Agreement.{groups_in, Lists, Answers, ReadFilled, Agrees, Fits, Replayed};
 
 use crate::compare::{Arrays, FILLING, fill, is_left};
@@ -187,15 +186,15 @@ pub fn fetch<R: Read>(file: &mut R, bytes: &mut [u8], n: usize) -> bool
     file.read_exact(&mut bytes[0..n]).is_ok()
 }
 
-// Reads the numbers that a case starts with, and answers whether there is one: at the end of the file there is none. A part of
-// them is an error.
+// Reads the numbers that a case starts with, and answers whether there is one: at the end of the file there is none, and none where
+// the first read fails. A part of them is an error.
 pub fn read_head<R: Read>(file: &mut R, head: &mut [u8]) -> io::Result<bool>
     requires { 1 ≤ length head.old }
-    ensures { IfOk result (λ found. IsRead found (R.remaining file.old) (R.remaining file.new) head.new) }
+    ensures { IfOk result (λ found. found ≡ true → Consumes (R.remaining file.old) (R.remaining file.new) head.new) }
 {
-    if file.read(&mut head[0..1])? == 0 {
+    let Ok(1) = file.read(&mut head[0..1]) else {
         return Ok(false);
-    }
+    };
     file.read_exact(&mut head[1..])?;
     Ok(true)
 }
