@@ -7,9 +7,4 @@ returns c =
     let did = c.read-reading.ensures in
     let told = c.number.ensures ∙ did.answers.number in
     let gave = c.value.ensures ∙ did.answers.value in
-    record {
-      value = told;
-      returned_after = gave;
-      tree_after = did.tree;
-      errors_after = did.errors;
-    }
+    record { value = told; returned_after = gave; tree_after = did.tree; errors_after = did.errors }

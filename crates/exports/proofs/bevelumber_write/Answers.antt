@@ -7,8 +7,4 @@ returns c =
     let did = c.write-writing.ensures in
     let told = c.number.ensures ∙ did.answers.number in
     let gave = c.value.ensures ∙ did.answers.value in
-    record {
-      value = told;
-      returned_after = gave;
-      output_after = did.output;
-    }
+    record { value = told; returned_after = gave; output_after = did.output }

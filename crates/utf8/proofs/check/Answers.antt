@@ -40,20 +40,23 @@ returns-then-n-eq0 c =
 pub skip_ascii-at-requires-else-source-at-lt128 : goal.skip_ascii-at-requires-else-source-at-lt128
 skip_ascii-at-requires-else-source-at-lt128 c =
     let loop = c.loop-at in
-    let n = c.sequence_width-n in
-    past _ loop.at c.loop-at-test.true loop.invariant.found n.result n.ensures (omega arith)
+    let n = c.sequence_width-n in past _ loop.at c.loop-at-test.true loop.invariant.found n.result n.ensures (omega arith)
 
 pub overflow_add-at-else-source-at-lt128 : goal.overflow_add-at-else-source-at-lt128
 overflow_add-at-else-source-at-lt128 c = omega (arith, (skip_ascii-at-requires-else-source-at-lt128 c).inside)
 
 pub loop-at-smaller : goal.loop-at-smaller
-loop-at-smaller c = omega (arith, c.skip_ascii-at-else-source-at-lt128.ensures.0, c.skip_ascii-at-else-source-at-lt128.ensures.1.inside, c.if-n-eq0.false)
+loop-at-smaller c =
+    omega (
+      arith,
+      c.skip_ascii-at-else-source-at-lt128.ensures.0,
+      c.skip_ascii-at-else-source-at-lt128.ensures.1.inside,
+      c.if-n-eq0.false,
+    )
 
 pub loop-at-preserved : goal.loop-at-preserved
 loop-at-preserved c = c.skip_ascii-at-else-source-at-lt128.ensures.1
 
 pub returns : goal.returns
 unfolding checked_of
-returns c =
-    let loop = c.loop-at in
-    sym (ap checked_of (ill-none _ loop.at c.loop-at-test.false loop.invariant.found))
+returns c = let loop = c.loop-at in sym (ap checked_of (ill-none _ loop.at c.loop-at-test.false loop.invariant.found))

@@ -50,8 +50,7 @@ is_within-requires-3 c = search rules
 pub returns-then-is_within : goal.returns-then-is_within
 returns-then-is_within c =
     let a = c.args in
-    let second = sym c.is_within.ensures
-    ∙ not-false _ c.if-not-is_within.false-raw in
+    let second = sym c.is_within.ensures ∙ not-false _ c.if-not-is_within.false-raw in
     let third = sym c.is_within-2.ensures ∙ not-false _ c.if-not-is_within-2.false-raw in
     let fourth = sym c.is_within-3.ensures ∙ c.if-is_within.true in
     sym
@@ -62,8 +61,7 @@ returns-then-is_within c =
 pub returns-else-is_within : goal.returns-else-is_within
 returns-else-is_within c =
     let a = c.args in
-    let second = sym c.is_within.ensures
-    ∙ not-false _ c.if-not-is_within.false-raw in
+    let second = sym c.is_within.ensures ∙ not-false _ c.if-not-is_within.false-raw in
     let third = sym c.is_within-2.ensures ∙ not-false _ c.if-not-is_within-2.false-raw in
     let fourth = sym c.is_within-3.ensures ∙ c.if-is_within.false in
     sym

@@ -32,7 +32,11 @@ loop-i-preserved c =
     let i = c.loop-i.i in (
       omega arith,
       or-ascii c.loop-i.seen (get_or s (start.at + i) 0)
-          ∙ ap (λ (t : Bool). elim t [ true ↦ within ascii (get_or s (start.at + i) 0) | false ↦ false ]) c.loop-i.invariant.1
+          ∙ ap
+          (λ (t : Bool). elim t [
+            | true ↦ within ascii (get_or s (start.at + i) 0)
+            | false ↦ false
+          ]) c.loop-i.invariant.1
           ∙ sym (fits_more ascii s i start.at (omega arith))
           ∙ ap (λ (n : ℕ). fits (replicate n ascii) (drop start.at s)) (sym (add-one i)),
     )

@@ -16,8 +16,7 @@ bounds-source-at c = search rules
 pub returns-then-b-ge128 : goal.returns-then-b-ge128
 unfolding is_boundary
 returns-then-b-ge128 c =
-    rw (ne_eqb _ _ c.if-at-eq0.false, is_boundary, lt-ltb _ _ c.if-at-source.true)
-    (starts _ c.if-b-ge128.true)
+    rw (ne_eqb _ _ c.if-at-eq0.false, is_boundary, lt-ltb _ _ c.if-at-source.true) (starts _ c.if-b-ge128.true)
 
 pub returns-else-b-ge128 : goal.returns-else-b-ge128
 unfolding is_boundary is_continuation

@@ -20,11 +20,7 @@ returns-then-low-b c =
 pub returns-else-low-b : goal.returns-else-low-b
 returns-else-low-b c =
     let a = c.args in
-    sym
-    (fits_one a.source.now a.at (a.low ‥ a.high) c.if-at-source.true
-    ∙ within-below (a.low ‥ a.high) _ c.if-low-b.false)
+    sym (fits_one a.source.now a.at (a.low ‥ a.high) c.if-at-source.true ∙ within-below (a.low ‥ a.high) _ c.if-low-b.false)
 
 pub returns-else-at-source : goal.returns-else-at-source
-returns-else-at-source c =
-    let a = c.args in
-    sym (fits-none a.source.now a.at (a.low ‥ a.high) [] c.if-at-source.false)
+returns-else-at-source c = let a = c.args in sym (fits-none a.source.now a.at (a.low ‥ a.high) [] c.if-at-source.false)

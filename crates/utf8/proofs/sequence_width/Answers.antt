@@ -13,15 +13,12 @@ pub overflow_add-next : goal.overflow_add-next
 overflow_add-next c = search rules
 
 pub returns-then-first-lt128 : goal.returns-then-first-lt128
-returns-then-first-lt128 c =
-    let a = c.args in
-    width-ascii a.source.now a.at c.requires c.if-first-lt128.true
+returns-then-first-lt128 c = let a = c.args in width-ascii a.source.now a.at c.requires c.if-first-lt128.true
 
 pub returns-then-first-lt194 : goal.returns-then-first-lt194
 unfolding table without
 returns-then-first-lt194 c =
-    let a = c.args in
-    width-none a.source.now a.at c.requires (0x80 ‥ 0xC1) (omega arith) (omega arith) refl
+    let a = c.args in width-none a.source.now a.at c.requires (0x80 ‥ 0xC1) (omega arith) (omega arith) refl
 
 pub two_bytes-requires : goal.two_bytes-requires
 two_bytes-requires c = search rules
@@ -29,8 +26,7 @@ two_bytes-requires c = search rules
 pub returns-then-first-lt224 : goal.returns-then-first-lt224
 unfolding table without
 returns-then-first-lt224 c =
-    let a = c.args in
-    c.two_bytes.ensures ∙ width-row a.source.now a.at c.requires 1 (omega arith) (omega arith) refl refl
+    let a = c.args in c.two_bytes.ensures ∙ width-row a.source.now a.at c.requires 1 (omega arith) (omega arith) refl refl
 
 pub three_bytes-requires : goal.three_bytes-requires
 three_bytes-requires c = search rules
@@ -38,8 +34,7 @@ three_bytes-requires c = search rules
 pub returns-then-first-lt225 : goal.returns-then-first-lt225
 unfolding table without
 returns-then-first-lt225 c =
-    let a = c.args in
-    c.three_bytes.ensures ∙ width-row a.source.now a.at c.requires 2 (omega arith) (omega arith) refl refl
+    let a = c.args in c.three_bytes.ensures ∙ width-row a.source.now a.at c.requires 2 (omega arith) (omega arith) refl refl
 
 pub three_bytes-requires-then-first-lt237 : goal.three_bytes-requires-then-first-lt237
 three_bytes-requires-then-first-lt237 c = search rules
@@ -74,8 +69,7 @@ four_bytes-requires c = search rules
 pub returns-then-first-lt241 : goal.returns-then-first-lt241
 unfolding table without
 returns-then-first-lt241 c =
-    let a = c.args in
-    c.four_bytes.ensures ∙ width-row a.source.now a.at c.requires 6 (omega arith) (omega arith) refl refl
+    let a = c.args in c.four_bytes.ensures ∙ width-row a.source.now a.at c.requires 6 (omega arith) (omega arith) refl refl
 
 pub four_bytes-requires-then-first-lt244 : goal.four_bytes-requires-then-first-lt244
 four_bytes-requires-then-first-lt244 c = search rules
@@ -99,7 +93,5 @@ pub returns : goal.returns
 unfolding table without
 returns c =
     let a = c.args in
-    let byte =
-    c.shared_slice_known-1.given
-    a.at in
+    let byte = c.shared_slice_known-1.given a.at in
     width-none a.source.now a.at c.requires (0xF5 ‥ 0xFF) (omega arith) (omega (arith, byte)) refl

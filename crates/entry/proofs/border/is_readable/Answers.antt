@@ -30,7 +30,8 @@ returns-then-n-at c =
 
 pub returns-else-n-at : goal.returns-else-n-at
 unfolding readable
-returns-else-n-at c = rw (le-leb _ _ c.if-length-le-MAX_LENGTH.true, le-leb _ _ c.if-at-length.true, lt-leb _ _ c.if-n-at.false)
+returns-else-n-at c =
+    rw (le-leb _ _ c.if-length-le-MAX_LENGTH.true, le-leb _ _ c.if-at-length.true, lt-leb _ _ c.if-n-at.false)
 
 pub returns-else-at-length : goal.returns-else-at-length
 unfolding readable

@@ -15,17 +15,10 @@ returns-then-not-has_room c = rw (by c.has_room.ensures (not-true _ c.if-not-has
 
 pub put-requires : goal.put-requires
 put-requires c =
-    record {
-      fits = fits _ (by c.has_room.ensures (not-false _ c.if-not-has_room.false-raw));
-      place_bound = omega arith;
-    }
+    record { fits = fits _ (by c.has_room.ensures (not-false _ c.if-not-has_room.false-raw)); place_bound = omega arith }
 
 pub shape_of-tree : goal.shape_of-tree
 shape_of-tree c = search rules
 
 pub returns : goal.returns
-returns c =
-    rw
-    (by c.has_room.ensures
-    (not-false _ c.if-not-has_room.false-raw))
-    c.put.ensures
+returns c = rw (by c.has_room.ensures (not-false _ c.if-not-has_room.false-raw)) c.put.ensures

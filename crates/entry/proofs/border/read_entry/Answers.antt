@@ -18,8 +18,7 @@ overflow_mul-length c =
     let a = c.args in
     omega (
       arith,
-      (entered a.source.now a.tree.now
-          (by c.is_readable.ensures (not-false _ c.if-not-is_readable.false-raw))).short,
+      (entered a.source.now a.tree.now (by c.is_readable.ensures (not-false _ c.if-not-is_readable.false-raw))).short,
     )
 
 pub get_entry-requires : goal.get_entry-requires
@@ -29,8 +28,4 @@ pub shape_of-tree : goal.shape_of-tree
 shape_of-tree c = search rules
 
 pub returns : goal.returns
-returns c =
-    rw
-    (by c.is_readable.ensures
-    (not-false _ c.if-not-is_readable.false-raw))
-    (tried _ c.get_entry.ensures)
+returns c = rw (by c.is_readable.ensures (not-false _ c.if-not-is_readable.false-raw)) (tried _ c.get_entry.ensures)

@@ -13,7 +13,8 @@ is_ascii_digit-requires c = search rules
 
 pub returns-then-is_ascii_uppercase : goal.returns-then-is_ascii_uppercase
 unfolding is_callee_part
-returns-then-is_ascii_uppercase c = rw (by c.is_ascii_uppercase.ensures c.if-is_ascii_uppercase.true) c.if-is_ascii_uppercase.true
+returns-then-is_ascii_uppercase c =
+    rw (by c.is_ascii_uppercase.ensures c.if-is_ascii_uppercase.true) c.if-is_ascii_uppercase.true
 
 pub returns-then-is_ascii_digit : goal.returns-then-is_ascii_digit
 unfolding is_callee_part
@@ -21,8 +22,7 @@ returns-then-is_ascii_digit c =
     rw (
       by c.is_ascii_uppercase.ensures c.if-is_ascii_uppercase.false,
       by c.is_ascii_digit.ensures c.if-is_ascii_digit.true,
-    )
-    c.if-is_ascii_digit.true
+    ) c.if-is_ascii_digit.true
 
 pub returns-then-b-eq45 : goal.returns-then-b-eq45
 unfolding is_callee_part

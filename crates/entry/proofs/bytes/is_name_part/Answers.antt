@@ -13,7 +13,8 @@ is_ascii_digit-requires c = search rules
 
 pub returns-then-is_ascii_alphabetic : goal.returns-then-is_ascii_alphabetic
 unfolding is_name_part
-returns-then-is_ascii_alphabetic c = rw (by c.is_ascii_alphabetic.ensures c.if-is_ascii_alphabetic.true) c.if-is_ascii_alphabetic.true
+returns-then-is_ascii_alphabetic c =
+    rw (by c.is_ascii_alphabetic.ensures c.if-is_ascii_alphabetic.true) c.if-is_ascii_alphabetic.true
 
 pub returns-then-is_ascii_digit : goal.returns-then-is_ascii_digit
 unfolding is_name_part
@@ -21,8 +22,7 @@ returns-then-is_ascii_digit c =
     rw (
       by c.is_ascii_alphabetic.ensures c.if-is_ascii_alphabetic.false,
       by c.is_ascii_digit.ensures c.if-is_ascii_digit.true,
-    )
-    c.if-is_ascii_digit.true
+    ) c.if-is_ascii_digit.true
 
 pub returns-then-b-eq45 : goal.returns-then-b-eq45
 unfolding is_name_part

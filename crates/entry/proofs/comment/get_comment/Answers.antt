@@ -15,32 +15,16 @@ enum_known-l c = search rules
 
 pub put_text-m-requires : goal.put_text-m-requires
 put_text-m-requires c =
-    let h =
-    rw c.in-Line.is at c.get_comment_turn.ensures in
-    let m = line-moves c.loop-l.invariant h in record {
-      fits = record {
-        fits =
-            omega (
-              arith,
-              c.loop-l.invariant.spent,
-              h.within,
-              c.requires.holds,
-            );
-        layout =
-            omega (
-              arith,
-              c.loop-l.invariant.long,
-              c.requires.layout,
-            );
-      };
+    let h = rw c.in-Line.is at c.get_comment_turn.ensures in
+    let m = line-moves c.loop-l.invariant h in
+    record {
+      fits =
+          record {
+            fits = omega (arith, c.loop-l.invariant.spent, h.within, c.requires.holds);
+            layout = omega (arith, c.loop-l.invariant.long, c.requires.layout);
+          };
       start_bound = (
-        omega (
-          arith,
-          h.text,
-          h.onward,
-          h.within,
-          c.requires.short,
-        ),
+        omega (arith, h.text, h.onward, h.within, c.requires.short),
         omega (arith, h.onward, h.within, c.requires.short),
         omega arith,
       );
@@ -48,18 +32,13 @@ put_text-m-requires c =
 
 pub loop-l-smaller : goal.loop-l-smaller
 loop-l-smaller c =
-    let h =
-    rw
-    c.in-Line.is at c.get_comment_turn.ensures in
-    let m = line-moves c.loop-l.invariant h in
-    omega (arith, h.within)
+    let h = rw c.in-Line.is at c.get_comment_turn.ensures in
+    let m = line-moves c.loop-l.invariant h in omega (arith, h.within)
 
 pub loop-l-preserved : goal.loop-l-preserved
 loop-l-preserved c =
     commenting-line c.loop-l.invariant
-    (rw
-    c.in-Line.is at c.get_comment_turn.ensures)
-    c.put_text-m.ensures.1 c.put_text-m.ensures.0
+    (rw c.in-Line.is at c.get_comment_turn.ensures) c.put_text-m.ensures.1 c.put_text-m.ensures.0
 
 pub enum_known-l-in-End-1 : goal.enum_known-l-in-End-1
 enum_known-l-in-End-1 c = search rules
@@ -68,9 +47,7 @@ pub shape_of-tree-in-End : goal.shape_of-tree-in-End
 shape_of-tree-in-End c = c.loop-l.invariant.long
 
 pub returns-in-End : goal.returns-in-End
-returns-in-End c =
-    commenting-end c.loop-l.invariant
-    (rw c.in-End.is at c.get_comment_turn.ensures)
+returns-in-End c = commenting-end c.loop-l.invariant (rw c.in-End.is at c.get_comment_turn.ensures)
 
 pub enum_known-e : goal.enum_known-e
 enum_known-e c = search rules
@@ -79,6 +56,4 @@ pub shape_of-tree-in-Bad : goal.shape_of-tree-in-Bad
 shape_of-tree-in-Bad c = c.loop-l.invariant.long
 
 pub returns-in-Bad : goal.returns-in-Bad
-returns-in-Bad c =
-    commenting-bad c.loop-l.invariant
-    (rw c.in-Bad.is at c.get_comment_turn.ensures)
+returns-in-Bad c = commenting-bad c.loop-l.invariant (rw c.in-Bad.is at c.get_comment_turn.ensures)

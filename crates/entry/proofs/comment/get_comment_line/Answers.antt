@@ -15,16 +15,12 @@ is_eol-requires c = search rules
 
 pub overflow_add-end : goal.overflow_add-end
 overflow_add-end c =
-    let l =
-    line-byte c.args.source.now c.loop-end.end
-    (by c.is_eol.ensures (not-true _ c.loop-end-test.true-raw)) in
+    let l = line-byte c.args.source.now c.loop-end.end (by c.is_eol.ensures (not-true _ c.loop-end-test.true-raw)) in
     omega arith
 
 pub loop-end-smaller : goal.loop-end-smaller
 loop-end-smaller c =
-    falls _ _
-    (line-byte c.args.source.now c.loop-end.end
-    (by c.is_eol.ensures (not-true _ c.loop-end-test.true-raw)))
+    falls _ _ (line-byte c.args.source.now c.loop-end.end (by c.is_eol.ensures (not-true _ c.loop-end-test.true-raw)))
 
 pub loop-end-preserved : goal.loop-end-preserved
 loop-end-preserved c = lining-more c.loop-end.invariant c.is_eol.ensures (not-true _ c.loop-end-test.true-raw)

@@ -145,7 +145,8 @@ pub get_call_arguments-is_current_byte-requires : goal.get_call_arguments-is_cur
 get_call_arguments-is_current_byte-requires t c = GetCallArguments.get_call_arguments-is_current_byte-requires t c
 
 pub get_call_arguments-returns-then-not-is_current_byte : goal.get_call_arguments-returns-then-not-is_current_byte
-get_call_arguments-returns-then-not-is_current_byte t c = GetCallArguments.get_call_arguments-returns-then-not-is_current_byte t c
+get_call_arguments-returns-then-not-is_current_byte t c =
+    GetCallArguments.get_call_arguments-returns-then-not-is_current_byte t c
 
 pub get_call_arguments-returns-then-left-eq0 : goal.get_call_arguments-returns-then-left-eq0
 get_call_arguments-returns-then-left-eq0 t c = GetCallArguments.get_call_arguments-returns-then-left-eq0 t c
@@ -238,7 +239,8 @@ pub get_inline_expression-enum_told-1 : goal.get_inline_expression-enum_told-1
 get_inline_expression-enum_told-1 t c = GetInlineExpression.get_inline_expression-enum_told-1 t c
 
 pub get_inline_expression-get_string_literal-requires : goal.get_inline_expression-get_string_literal-requires
-get_inline_expression-get_string_literal-requires t c = GetInlineExpression.get_inline_expression-get_string_literal-requires t c
+get_inline_expression-get_string_literal-requires t c =
+    GetInlineExpression.get_inline_expression-get_string_literal-requires t c
 
 pub get_inline_expression-enum_told-in-Number : goal.get_inline_expression-enum_told-in-Number
 get_inline_expression-enum_told-in-Number t c = GetInlineExpression.get_inline_expression-enum_told-in-Number t c
@@ -262,7 +264,8 @@ pub get_inline_expression-enum_told-in-Variable : goal.get_inline_expression-enu
 get_inline_expression-enum_told-in-Variable t c = GetInlineExpression.get_inline_expression-enum_told-in-Variable t c
 
 pub get_inline_expression-get_variable_reference-requires : goal.get_inline_expression-get_variable_reference-requires
-get_inline_expression-get_variable_reference-requires t c = GetInlineExpression.get_inline_expression-get_variable_reference-requires t c
+get_inline_expression-get_variable_reference-requires t c =
+    GetInlineExpression.get_inline_expression-get_variable_reference-requires t c
 
 pub get_inline_expression-enum_told-in-Placeable : goal.get_inline_expression-enum_told-in-Placeable
 get_inline_expression-enum_told-in-Placeable t c = GetInlineExpression.get_inline_expression-enum_told-in-Placeable t c
@@ -289,7 +292,8 @@ pub get_inline_expression-enum_told-in-Nothing : goal.get_inline_expression-enum
 get_inline_expression-enum_told-in-Nothing t c = GetInlineExpression.get_inline_expression-enum_told-in-Nothing t c
 
 pub get_inline_expression-error-requires-in-Nothing : goal.get_inline_expression-error-requires-in-Nothing
-get_inline_expression-error-requires-in-Nothing t c = GetInlineExpression.get_inline_expression-error-requires-in-Nothing t c
+get_inline_expression-error-requires-in-Nothing t c =
+    GetInlineExpression.get_inline_expression-error-requires-in-Nothing t c
 
 pub get_inline_expression-shape_of-tree-in-String : goal.get_inline_expression-shape_of-tree-in-String
 get_inline_expression-shape_of-tree-in-String t c = GetInlineExpression.get_inline_expression-shape_of-tree-in-String t c
@@ -304,7 +308,8 @@ pub get_inline_expression-returns-in-Number : goal.get_inline_expression-returns
 get_inline_expression-returns-in-Number t c = GetInlineExpression.get_inline_expression-returns-in-Number t c
 
 pub get_inline_expression-shape_of-tree-in-Reference : goal.get_inline_expression-shape_of-tree-in-Reference
-get_inline_expression-shape_of-tree-in-Reference t c = GetInlineExpression.get_inline_expression-shape_of-tree-in-Reference t c
+get_inline_expression-shape_of-tree-in-Reference t c =
+    GetInlineExpression.get_inline_expression-shape_of-tree-in-Reference t c
 
 pub get_inline_expression-returns-in-Reference : goal.get_inline_expression-returns-in-Reference
 get_inline_expression-returns-in-Reference t c = GetInlineExpression.get_inline_expression-returns-in-Reference t c
@@ -316,13 +321,15 @@ pub get_inline_expression-returns-in-Term : goal.get_inline_expression-returns-i
 get_inline_expression-returns-in-Term t c = GetInlineExpression.get_inline_expression-returns-in-Term t c
 
 pub get_inline_expression-shape_of-tree-in-Variable : goal.get_inline_expression-shape_of-tree-in-Variable
-get_inline_expression-shape_of-tree-in-Variable t c = GetInlineExpression.get_inline_expression-shape_of-tree-in-Variable t c
+get_inline_expression-shape_of-tree-in-Variable t c =
+    GetInlineExpression.get_inline_expression-shape_of-tree-in-Variable t c
 
 pub get_inline_expression-returns-in-Variable : goal.get_inline_expression-returns-in-Variable
 get_inline_expression-returns-in-Variable t c = GetInlineExpression.get_inline_expression-returns-in-Variable t c
 
 pub get_inline_expression-shape_of-tree-in-Placeable : goal.get_inline_expression-shape_of-tree-in-Placeable
-get_inline_expression-shape_of-tree-in-Placeable t c = GetInlineExpression.get_inline_expression-shape_of-tree-in-Placeable t c
+get_inline_expression-shape_of-tree-in-Placeable t c =
+    GetInlineExpression.get_inline_expression-shape_of-tree-in-Placeable t c
 
 pub get_inline_expression-returns-in-Placeable : goal.get_inline_expression-returns-in-Placeable
 get_inline_expression-returns-in-Placeable t c = GetInlineExpression.get_inline_expression-returns-in-Placeable t c

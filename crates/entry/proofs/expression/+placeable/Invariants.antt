@@ -1,30 +1,29 @@
 -- The measures and the invariants.
-use Rattle.std.specs.Prelude.{ℕ, ◌-◌, length}
+use Rattle.std.specs.Prelude.{ℕ, ◌-◌, length, List, ◌+◌, ◌*◌}
 use Rattle.syntax.specs.Expression.{level}
 use Rattle.entry.proofs.ArgumentTurns.{Going as ArgumentsGoing}
-use Rattle.std.specs.Prelude.{ℕ, ◌-◌, List, length}
 use Rattle.entry.proofs.Patterns.{Going as PatternGoing}
-use Rattle.std.specs.Prelude.{ℕ, ◌-◌, length}
-use Rattle.syntax.specs.Expression.{level}
 use Rattle.entry.proofs.Variants.{Going as VariantsGoing}
-use Rattle.std.specs.Prelude.{ℕ, ◌+◌, ◌-◌, ◌*◌, length}
 use Rattle.entry.proofs.expression.+placeable.Given as goal
 
 abbrev pub invariant-arguments-loop-tree : goal.invariant-arguments-loop-tree
-invariant-arguments-loop-tree l = ArgumentsGoing l.source (level l.left) l.cap l.at l.n l.initial.tree l.end l.m l.named l.tree
+invariant-arguments-loop-tree l =
+    ArgumentsGoing l.source (level l.left) l.cap l.at l.n l.initial.tree l.end l.m l.named l.tree
 
 abbrev pub decreases-arguments-loop-tree : goal.decreases-arguments-loop-tree
 decreases-arguments-loop-tree l = length l.source - l.end
 
 abbrev pub invariant-get_pattern-loop-st : goal.invariant-get_pattern-loop-st
-invariant-get_pattern-loop-st l = (t : List ℕ) → PatternGoing (level l.left) l.source l.cap l.at l.n t l.initial.tree l.initial.st
+invariant-get_pattern-loop-st l =
+    (t : List ℕ) → PatternGoing (level l.left) l.source l.cap l.at l.n t l.initial.tree l.initial.st
     → PatternGoing (level l.left) l.source l.cap l.at l.n t l.tree l.st
 
 abbrev pub decreases-get_pattern-loop-st : goal.decreases-get_pattern-loop-st
 decreases-get_pattern-loop-st l = length l.source - l.st.at
 
 abbrev pub invariant-get_variants-loop-default : goal.invariant-get_variants-loop-default
-invariant-get_variants-loop-default l = VariantsGoing l.source (level l.left) l.cap l.at l.n l.initial.tree l.end l.m l.has_default l.tree
+invariant-get_variants-loop-default l =
+    VariantsGoing l.source (level l.left) l.cap l.at l.n l.initial.tree l.end l.m l.has_default l.tree
 
 abbrev pub decreases-get_variants-loop-default : goal.decreases-get_variants-loop-default
 decreases-get_variants-loop-default l = length l.source - l.end

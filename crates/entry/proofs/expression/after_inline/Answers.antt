@@ -13,10 +13,7 @@ is_arrow-requires c = search rules
 pub get_select-requires : goal.get_select-requires
 get_select-requires c =
     record {
-      in_source = record {
-        inside = c.skip_blank-end.ensures.within;
-        short = c.requires.short;
-      };
+      in_source = record { inside = c.skip_blank-end.ensures.within; short = c.requires.short };
       source_value = by c.is_arrow.ensures c.if-is_arrow.true;
     }
 
@@ -25,12 +22,9 @@ alone-requires c = search rules
 
 pub returns-then-is_arrow : goal.returns-then-is_arrow
 returns-then-is_arrow c =
-    select-followed c.args.exp
-    c.skip_blank-end.ensures (by c.is_arrow.ensures c.if-is_arrow.true)
-    c.get_select.result c.get_select.ensures
+    select-followed c.args.exp c.skip_blank-end.ensures
+    (by c.is_arrow.ensures c.if-is_arrow.true) c.get_select.result c.get_select.ensures
 
 pub returns-else-is_arrow : goal.returns-else-is_arrow
 returns-else-is_arrow c =
-    rw c.alone.ensures
-    (alone-followed c.args.exp
-    c.skip_blank-end.ensures (by c.is_arrow.ensures c.if-is_arrow.false))
+    rw c.alone.ensures (alone-followed c.args.exp c.skip_blank-end.ensures (by c.is_arrow.ensures c.if-is_arrow.false))

@@ -50,10 +50,12 @@ pub error-requires-in-Select : goal.error-requires-in-Select
 error-requires-in-Select c = search rules
 
 pub returns-else-attribute : goal.returns-else-attribute
-returns-else-attribute c = rw (c.in-MessageReference.is, c.if-attribute.false) (ap₂ Bad c.error-in-MessageReference.ensures refl)
+returns-else-attribute c =
+    rw (c.in-MessageReference.is, c.if-attribute.false) (ap₂ Bad c.error-in-MessageReference.ensures refl)
 
 pub returns-else-attribute-2 : goal.returns-else-attribute-2
-returns-else-attribute-2 c = rw (c.in-TermReference.is, c.if-attribute-2.false) (ap₂ Bad c.error-in-TermReference.ensures refl)
+returns-else-attribute-2 c =
+    rw (c.in-TermReference.is, c.if-attribute-2.false) (ap₂ Bad c.error-in-TermReference.ensures refl)
 
 pub returns-in-StringLiteral : goal.returns-in-StringLiteral
 returns-in-StringLiteral c = rw c.in-StringLiteral.is

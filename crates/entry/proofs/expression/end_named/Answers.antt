@@ -10,16 +10,10 @@ pub enum_known-r : goal.enum_known-r
 enum_known-r c = search rules
 
 pub put-m-requires : goal.put-m-requires
-put-m-requires c =
-    record {
-      fits = rw c.in-Ok.is at c.requires.closable;
-      place_bound = search rules;
-    }
+put-m-requires c = record { fits = rw c.in-Ok.is at c.requires.closable; place_bound = search rules }
 
 pub skip_separator-requires : goal.skip_separator-requires
-skip_separator-requires c =
-    rw
-    c.in-Ok.is at c.requires.endable
+skip_separator-requires c = rw c.in-Ok.is at c.requires.endable
 
 pub enum_known-r-in-Bad-1 : goal.enum_known-r-in-Bad-1
 enum_known-r-in-Bad-1 c = search rules

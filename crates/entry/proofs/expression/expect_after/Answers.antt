@@ -10,7 +10,8 @@ pub enum_known-r : goal.enum_known-r
 enum_known-r c = search rules
 
 pub returns-in_default : goal.returns-in_default
-returns-in_default c = ended-stop (expect_byte c.args.b) c.args.source.now _ (not-ok _ (opened c.in_default.in_default-own.keys2))
+returns-in_default c =
+    ended-stop (expect_byte c.args.b) c.args.source.now _ (not-ok _ (opened c.in_default.in_default-own.keys2))
 
 pub expect_byte-requires : goal.expect_byte-requires
 expect_byte-requires c = rw c.in-Ok.is at c.requires
@@ -23,14 +24,7 @@ enum_known-e c = search rules
 
 pub returns-in-At : goal.returns-in-At
 returns-in-At c =
-    ended_at (expect_byte c.args.b)
-    c.args.source.now _ (expect-quiet _)
-    c.in-Ok.is c.expect_byte.ensures
-    c.in-At.is
+    ended_at (expect_byte c.args.b) c.args.source.now _ (expect-quiet _) c.in-Ok.is c.expect_byte.ensures c.in-At.is
 
 pub returns-in-Bad : goal.returns-in-Bad
-returns-in-Bad c =
-    ended-bad (expect_byte c.args.b)
-    c.args.source.now _
-    c.in-Ok.is c.expect_byte.ensures
-    c.in-Bad.is
+returns-in-Bad c = ended-bad (expect_byte c.args.b) c.args.source.now _ c.in-Ok.is c.expect_byte.ensures c.in-Bad.is

@@ -28,6 +28,4 @@ unfolding number_literal
 returns c =
     rw c.expressed.ensures
     (did-shape _ number (get_number_literal 20) _
-    (did-number c.args.source.now _
-    c.get_number_literal-end.ensures
-    c.put_found.ensures))
+    (did-number c.args.source.now _ c.get_number_literal-end.ensures c.put_found.ensures))

@@ -17,13 +17,10 @@ returns-in-Bad c = (
   omega (
     arith,
     c.requires.in_source.inside,
-    selector-place c.args.at
-        c.args.exp
-        (sym c.check_selector.ensures ∙ c.in-Bad.is),
+    selector-place c.args.at c.args.exp (sym c.check_selector.ensures ∙ c.in-Bad.is),
   ),
   λ sub b i q. select-refused _ i
-      (selector-bad _ b i _
-      (rw q at (sym c.check_selector.ensures ∙ c.in-Bad.is))) sub,
+      (selector-bad _ b i _ (rw q at (sym c.check_selector.ensures ∙ c.in-Bad.is))) sub,
 )
 
 pub enum_told-1 : goal.enum_told-1
@@ -44,12 +41,8 @@ error-requires c = search rules
 pub returns-then-start-end : goal.returns-then-start-end
 returns-then-start-end c = (
   c.skip_blank_inline-end.ensures.within,
-  λ sub b i q.
-      select-unended _ _ i c.requires.source_value
-      (selector-ok _ b i _
-      (rw q at (sym c.check_selector.ensures
-      ∙ c.in_default.is)))
-      c.skip_blank_inline-end.ensures
+  λ sub b i q. select-unended _ _ i c.requires.source_value
+      (selector-ok _ b i _ (rw q at (sym c.check_selector.ensures ∙ c.in_default.is))) c.skip_blank_inline-end.ensures
       (omega (arith, c.skip_eol-start.ensures.end, c.if-start-end.true)) c.error.ensures sub,
 )
 
@@ -58,18 +51,11 @@ skip_blank-requires c = search rules
 
 pub returns : goal.returns
 returns c = (
-  omega (
-    arith,
-    c.skip_blank_inline-end.ensures.end,
-    c.skip_eol-start.ensures.end,
-    c.skip_blank.ensures.onward,
-  ),
+  omega (arith, c.skip_blank_inline-end.ensures.end, c.skip_eol-start.ensures.end, c.skip_blank.ensures.onward),
   c.skip_blank.ensures.within,
-  λ sub b i q.
-      select-ended _ _ i c.requires.source_value
+  λ sub b i q. select-ended _ _ i c.requires.source_value
       (selector-ok _ b i _
       (rw q at (sym c.check_selector.ensures
-      ∙ c.in_default.is)))
-      c.skip_blank_inline-end.ensures c.skip_eol-start.ensures
-      c.if-start-end.false c.skip_blank.ensures sub,
+      ∙ c.in_default.is))) c.skip_blank_inline-end.ensures c.skip_eol-start.ensures c.if-start-end.false
+      c.skip_blank.ensures sub,
 )

@@ -18,19 +18,13 @@ pub overflow_add-at : goal.overflow_add-at
 overflow_add-at c = search rules
 
 pub overflow_sub-end : goal.overflow_sub-end
-overflow_sub-end c =
-    omega (
-      arith,
-      string-ends c.args.source.now
-          c.skip_string_literal.ensures c.in-At.is,
-    )
+overflow_sub-end c = omega (arith, string-ends c.args.source.now c.skip_string_literal.ensures c.in-At.is)
 
 pub put_text-m-requires : goal.put_text-m-requires
 put_text-m-requires c =
     omega (
       arith,
-      string-ends c.args.source.now
-          c.skip_string_literal.ensures c.in-At.is,
+      string-ends c.args.source.now c.skip_string_literal.ensures c.in-At.is,
       found_within c.skip_string_literal.ensures c.in-At.is,
       c.requires,
     )
@@ -43,14 +37,9 @@ shape_of-tree c = search rules
 
 pub returns-in-At : goal.returns-in-At
 returns-in-At c =
-    did-string c.args.source.now
-    c.skip_string_literal.ensures
-    c.in-At.is c.put_text-m.ensures.0
-    c.put_text-m.ensures.1
+    did-string c.args.source.now c.skip_string_literal.ensures c.in-At.is c.put_text-m.ensures.0 c.put_text-m.ensures.1
 
 pub returns-in-Bad : goal.returns-in-Bad
 returns-in-Bad c =
-    did-lost (expressing c.args.at)
-    (lost-string c.args.source.now
-    c.skip_string_literal.ensures c.in-Bad.is)
+    did-lost (expressing c.args.at) (lost-string c.args.source.now c.skip_string_literal.ensures c.in-Bad.is)
     (step-none _ _ _)

@@ -30,15 +30,13 @@ is_ascii_alphabetic-requires c = search rules
 
 pub returns-then-is_ascii_alphabetic : goal.returns-then-is_ascii_alphabetic
 returns-then-is_ascii_alphabetic c =
-    start-letter _ _ _ c.if-at-source.false
-    (ne_eqb _ _ c.if-b-eq34.false)
+    start-letter _ _ _ c.if-at-source.false (ne_eqb _ _ c.if-b-eq34.false)
     (by c.is_ascii_digit.ensures c.if-is_ascii_digit.false)
     (by c.is_ascii_alphabetic.ensures c.if-is_ascii_alphabetic.true)
 
 pub returns-then-literal : goal.returns-then-literal
 returns-then-literal c =
-    start-literal _ _ _ c.if-at-source.false
-    (ne_eqb _ _ c.if-b-eq34.false)
+    start-literal _ _ _ c.if-at-source.false (ne_eqb _ _ c.if-b-eq34.false)
     (by c.is_ascii_digit.ensures c.if-is_ascii_digit.false)
     (by c.is_ascii_alphabetic.ensures c.if-is_ascii_alphabetic.false) c.if-literal.true
 
@@ -53,9 +51,7 @@ non_literal-requires c = search rules
 
 pub returns : goal.returns
 returns c =
-    start-other _ _ _ c.if-at-source.false
-    (ne_eqb _ _ c.if-b-eq34.false)
-    (by c.is_ascii_digit.ensures
-    c.if-is_ascii_digit.false)
-    (by c.is_ascii_alphabetic.ensures c.if-is_ascii_alphabetic.false)
-    c.if-literal.false c.is_identifier_start.ensures.is c.non_literal.ensures
+    start-other _ _ _ c.if-at-source.false (ne_eqb _ _ c.if-b-eq34.false)
+    (by c.is_ascii_digit.ensures c.if-is_ascii_digit.false)
+    (by c.is_ascii_alphabetic.ensures c.if-is_ascii_alphabetic.false) c.if-literal.false
+    c.is_identifier_start.ensures.is c.non_literal.ensures

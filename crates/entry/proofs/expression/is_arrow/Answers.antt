@@ -13,7 +13,8 @@ pub is_current_byte-requires-then-is_current_byte : goal.is_current_byte-require
 is_current_byte-requires-then-is_current_byte c = search rules
 
 pub returns-then-is_current_byte : goal.returns-then-is_current_byte
-returns-then-is_current_byte c = arrow-second _ _ c.is_current_byte.ensures c.if-is_current_byte.true c.is_current_byte-then-is_current_byte.ensures
+returns-then-is_current_byte c =
+    arrow-second _ _ c.is_current_byte.ensures c.if-is_current_byte.true c.is_current_byte-then-is_current_byte.ensures
 
 pub returns-else-is_current_byte : goal.returns-else-is_current_byte
 returns-else-is_current_byte c = arrow-first _ _ c.is_current_byte.ensures c.if-is_current_byte.false

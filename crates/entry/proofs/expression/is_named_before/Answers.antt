@@ -19,59 +19,27 @@ is_name_at-requires c =
 
 pub returns-then-is_name_at : goal.returns-then-is_name_at
 returns-then-is_name_at c =
-    record {
-      is =
-          looking-found c.loop-i.invariant c.loop-i-test.true
-          c.is_name_at.ensures c.if-is_name_at.true;
-    }
+    record { is = looking-found c.loop-i.invariant c.loop-i-test.true c.is_name_at.ensures c.if-is_name_at.true }
 
 pub overflow_add-k : goal.overflow_add-k
-overflow_add-k c =
-    omega (
-      arith,
-      c.loop-i-test.true,
-      c.requires.has_names.are,
-      c.well_formed,
-    )
+overflow_add-k c = omega (arith, c.loop-i-test.true, c.requires.has_names.are, c.well_formed)
 
 pub offset_bounds-tree-k : goal.offset_bounds-tree-k
 offset_bounds-tree-k c =
     scaled_Fits _ (length c.args.tree.now) 4
-    (omega (arith, c.loop-i-test.true, c.requires.has_names.are))
-    c.well_formed.1.1.1.0.1
+    (omega (arith, c.loop-i-test.true, c.requires.has_names.are)) c.well_formed.1.1.1.0.1
 
 pub bounds-tree-k : goal.bounds-tree-k
-bounds-tree-k c =
-    omega (
-      arith,
-      c.loop-i-test.true,
-      c.requires.has_names.are,
-    )
+bounds-tree-k c = omega (arith, c.loop-i-test.true, c.requires.has_names.are)
 
 pub overflow_add-depth : goal.overflow_add-depth
-overflow_add-depth c =
-    omega (
-      arith,
-      c.loop-i-test.true,
-      c.loop-i.invariant.small,
-      c.requires.has_names.are,
-      c.well_formed,
-    )
+overflow_add-depth c = omega (arith, c.loop-i-test.true, c.loop-i.invariant.small, c.requires.has_names.are, c.well_formed)
 
 pub overflow_sub-depth : goal.overflow_sub-depth
-overflow_sub-depth c =
-    looking-deep c.loop-i.invariant
-    c.loop-i-test.true
-    c.requires.has_names c.if-tree-k-lt-CLOSING.false
+overflow_sub-depth c = looking-deep c.loop-i.invariant c.loop-i-test.true c.requires.has_names c.if-tree-k-lt-CLOSING.false
 
 pub overflow_add-i : goal.overflow_add-i
-overflow_add-i c =
-    omega (
-      arith,
-      c.loop-i-test.true,
-      c.requires.has_names.are,
-      c.well_formed,
-    )
+overflow_add-i c = omega (arith, c.loop-i-test.true, c.requires.has_names.are, c.well_formed)
 
 pub loop-i-smaller : goal.loop-i-smaller
 loop-i-smaller c = omega (arith, c.loop-i-test.true)
@@ -79,10 +47,14 @@ loop-i-smaller c = omega (arith, c.loop-i-test.true)
 pub loop-i-preserved : goal.loop-i-preserved
 loop-i-preserved c =
     elim c.if-tree-k-lt-CLOSING.branch [
-      | then-tree-k-lt-CLOSING w ↦ rw w.depth-is (looking-open c.loop-i.invariant c.loop-i-test.true c.is_name_at.ensures
-          c.if-is_name_at.false w.if-tree-k-lt-CLOSING.true)
-      | else-tree-k-lt-CLOSING w ↦ rw w.depth-is (looking-close c.loop-i.invariant c.loop-i-test.true c.is_name_at.ensures
-          c.if-is_name_at.false w.if-tree-k-lt-CLOSING.false)
+      | then-tree-k-lt-CLOSING w ↦
+          rw w.depth-is
+          (looking-open c.loop-i.invariant c.loop-i-test.true c.is_name_at.ensures c.if-is_name_at.false
+          w.if-tree-k-lt-CLOSING.true)
+      | else-tree-k-lt-CLOSING w ↦
+          rw w.depth-is
+          (looking-close c.loop-i.invariant c.loop-i-test.true c.is_name_at.ensures c.if-is_name_at.false
+          w.if-tree-k-lt-CLOSING.false)
     ]
 
 pub returns : goal.returns

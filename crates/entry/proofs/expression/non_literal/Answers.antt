@@ -17,8 +17,10 @@ returns-then-b-eq36 c = rw (ne_eqb _ _ c.if-b-eq45.false, non_literal_start, eq-
 
 pub returns-then-b-eq123 : goal.returns-then-b-eq123
 unfolding non_literal_start
-returns-then-b-eq123 c = rw (ne_eqb _ _ c.if-b-eq45.false, non_literal_start, ne_eqb _ _ c.if-b-eq36.false, eq-eqb _ _ c.if-b-eq123.true)
+returns-then-b-eq123 c =
+    rw (ne_eqb _ _ c.if-b-eq45.false, non_literal_start, ne_eqb _ _ c.if-b-eq36.false, eq-eqb _ _ c.if-b-eq123.true)
 
 pub returns : goal.returns
 unfolding non_literal_start
-returns c = rw (ne_eqb _ _ c.if-b-eq45.false, non_literal_start, ne_eqb _ _ c.if-b-eq36.false, ne_eqb _ _ c.if-b-eq123.false)
+returns c =
+    rw (ne_eqb _ _ c.if-b-eq45.false, non_literal_start, ne_eqb _ _ c.if-b-eq36.false, ne_eqb _ _ c.if-b-eq123.false)

@@ -13,13 +13,12 @@ overflow_sub-d c = search rules
 pub returns-then-b-a : goal.returns-then-b-a
 returns-then-b-a c =
     sym
-    (parts-differ c.args.source.now c.args.a c.args.b c.args.c
-    c.args.d c.requires.a_le_b.1 c.requires.c_le_d.1 c.if-b-a.true)
+    (parts-differ c.args.source.now c.args.a c.args.b c.args.c c.args.d c.requires.a_le_b.1 c.requires.c_le_d.1
+    c.if-b-a.true)
 
 pub loop-i-init : goal.loop-i-init
 loop-i-init c =
-    matching-none _ _ _ _ _ c.requires.a_le_b.0 c.requires.a_le_b.1 c.requires.c_le_d.0 c.requires.c_le_d.1
-    c.if-b-a.false
+    matching-none _ _ _ _ _ c.requires.a_le_b.0 c.requires.a_le_b.1 c.requires.c_le_d.0 c.requires.c_le_d.1 c.if-b-a.false
 
 pub bounds-source-i : goal.bounds-source-i
 bounds-source-i c = search rules
@@ -28,10 +27,7 @@ pub bounds-source-j : goal.bounds-source-j
 bounds-source-j c = search rules
 
 pub returns-then-source-i : goal.returns-then-source-i
-returns-then-source-i c =
-    sym
-    (matching-fails c.loop-i.invariant c.loop-i-test.true
-    c.if-source-i.true)
+returns-then-source-i c = sym (matching-fails c.loop-i.invariant c.loop-i-test.true c.if-source-i.true)
 
 pub overflow_add-i : goal.overflow_add-i
 overflow_add-i c = search rules

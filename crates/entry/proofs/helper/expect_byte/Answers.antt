@@ -22,5 +22,6 @@ returns-then-is_current_byte c =
 
 pub returns-else-is_current_byte : goal.returns-else-is_current_byte
 returns-else-is_current_byte c =
-    found-fail _ _ (expect-no _ _ (by c.is_current_byte.ensures.is c.if-is_current_byte.false))
-    c.requires.inside refl c.error.ensures
+    found-fail _ _
+    (expect-no _ _
+    (by c.is_current_byte.ensures.is c.if-is_current_byte.false)) c.requires.inside refl c.error.ensures

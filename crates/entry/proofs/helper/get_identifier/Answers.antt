@@ -18,21 +18,20 @@ pub returns-then-not-is_identifier_start : goal.returns-then-not-is_identifier_s
 returns-then-not-is_identifier_start c =
     λ kind. found-fail _ _
     (identifier-none kind _
-    (by c.is_identifier_start.ensures.is (not-true _ c.if-not-is_identifier_start.true-raw)))
-    c.requires.inside refl c.error.ensures
+    (by c.is_identifier_start.ensures.is
+    (not-true _ c.if-not-is_identifier_start.true-raw))) c.requires.inside refl c.error.ensures
 
 pub overflow_add-at : goal.overflow_add-at
 overflow_add-at c = search rules
 
 pub get_identifier_unchecked-requires : goal.get_identifier_unchecked-requires
 get_identifier_unchecked-requires c =
-    let l =
-    c.is_identifier_start.ensures.here (not-false _ c.if-not-is_identifier_start.false-raw) in
+    let l = c.is_identifier_start.ensures.here (not-false _ c.if-not-is_identifier_start.false-raw) in
     record { inside = omega arith; short = c.requires.short }
 
 pub returns : goal.returns
 returns c =
     let h = by c.is_identifier_start.ensures.is (not-false _ c.if-not-is_identifier_start.false-raw) in
     let e = run-name _ _ (c.is_identifier_start.ensures.here (not-false _ c.if-not-is_identifier_start.false-raw)) h in
-    λ kind. found_ok (identifier-some kind _ h) (omega (arith, e, c.get_identifier_unchecked.ensures.end))
-    c.get_identifier_unchecked.ensures.within
+    λ kind. found_ok (identifier-some kind _ h)
+    (omega (arith, e, c.get_identifier_unchecked.ensures.end)) c.get_identifier_unchecked.ensures.within

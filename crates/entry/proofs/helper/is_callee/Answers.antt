@@ -18,8 +18,8 @@ is_callee_part-requires c = search rules
 pub returns-then-not-is_callee_part : goal.returns-then-not-is_callee_part
 returns-then-not-is_callee_part c =
     sym
-    (passing-fails c.loop-i.invariant c.loop-i-test.true
-    c.is_callee_part.ensures (not-true _ c.if-not-is_callee_part.true-raw))
+    (passing-fails c.loop-i.invariant c.loop-i-test.true c.is_callee_part.ensures
+    (not-true _ c.if-not-is_callee_part.true-raw))
 
 pub overflow_add-i : goal.overflow_add-i
 overflow_add-i c = search rules
@@ -29,8 +29,8 @@ loop-i-smaller c = search rules
 
 pub loop-i-preserved : goal.loop-i-preserved
 loop-i-preserved c =
-    passing-more c.loop-i.invariant c.loop-i-test.true
-    c.is_callee_part.ensures (not-false _ c.if-not-is_callee_part.false-raw)
+    passing-more c.loop-i.invariant c.loop-i-test.true c.is_callee_part.ensures
+    (not-false _ c.if-not-is_callee_part.false-raw)
 
 pub returns : goal.returns
 returns c = sym (passing-end c.loop-i.invariant c.loop-i-test.false)

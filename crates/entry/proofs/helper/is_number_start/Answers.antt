@@ -13,7 +13,8 @@ pub is_number_byte-requires : goal.is_number_byte-requires
 is_number_byte-requires c = search rules
 
 pub returns-then-at-source : goal.returns-then-at-source
-returns-then-at-source c = test-byte (λ b. is_digit b || eqb b Byte.minus) _ _ _ c.if-at-source.true c.is_number_byte.ensures
+returns-then-at-source c =
+    test-byte (λ b. is_digit b || eqb b Byte.minus) _ _ _ c.if-at-source.true c.is_number_byte.ensures
 
 pub returns-else-at-source : goal.returns-else-at-source
 returns-else-at-source c = test-end (λ b. is_digit b || eqb b Byte.minus) _ _ c.if-at-source.false

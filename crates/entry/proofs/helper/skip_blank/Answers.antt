@@ -21,5 +21,5 @@ loop-end-smaller c = omega arith
 
 pub loop-end-preserved : goal.loop-end-preserved
 loop-end-preserved c =
-    turning-more blank_turn-moves c.loop-end.invariant (blank-again _ (omega arith))
-    c.skip_one_blank-next.ensures.end c.skip_one_blank-next.ensures.within
+    turning-more blank_turn-moves c.loop-end.invariant
+    (blank-again _ (omega arith)) c.skip_one_blank-next.ensures.end c.skip_one_blank-next.ensures.within

@@ -16,8 +16,7 @@ skip_eol-next-requires c = c.skip_blank_inline-line_end.ensures.within
 
 pub returns-then-next-line_end : goal.returns-then-next-line_end
 returns-then-next-line_end c =
-    went-block c.loop-at.invariant.0 c.skip_blank_inline-line_end.ensures
-    c.skip_eol-next.ensures c.if-next-line_end.true
+    went-block c.loop-at.invariant.0 c.skip_blank_inline-line_end.ensures c.skip_eol-next.ensures c.if-next-line_end.true
 
 pub overflow_add-count : goal.overflow_add-count
 overflow_add-count c =
@@ -42,8 +41,8 @@ loop-at-smaller c =
 
 pub loop-at-preserved : goal.loop-at-preserved
 loop-at-preserved c = (
-  turning-block c.loop-at.invariant.0 c.skip_blank_inline-line_end.ensures
-      c.skip_eol-next.ensures c.if-next-line_end.false,
+  turning-block c.loop-at.invariant.0 c.skip_blank_inline-line_end.ensures c.skip_eol-next.ensures
+      c.if-next-line_end.false,
   omega (
     arith,
     c.loop-at.invariant.1,

@@ -27,14 +27,10 @@ error-requires c = search rules
 
 pub returns-then-end-at : goal.returns-then-end-at
 returns-then-end-at c =
-    let e =
-    going_end c.loop-end.invariant c.is_digit_at.ensures
-    c.loop-end-test.false in
-    found-fail _ _ (digits-none _ (omega arith)) c.requires.inside refl
-    c.error.ensures
+    let e = going_end c.loop-end.invariant c.is_digit_at.ensures c.loop-end-test.false in
+    found-fail _ _ (digits-none _ (omega arith)) c.requires.inside refl c.error.ensures
 
 pub returns : goal.returns
 returns c =
-    let e =
-    going_end c.loop-end.invariant c.is_digit_at.ensures c.loop-end-test.false in
+    let e = going_end c.loop-end.invariant c.is_digit_at.ensures c.loop-end-test.false in
     found_ok (digits-some _ (λ z. omega arith)) e.end e.within

@@ -42,10 +42,7 @@ pub returns-then-is_current_byte-2 : goal.returns-then-is_current_byte-2
 returns-then-is_current_byte-2 c =
     let l = c.is_current_byte-3.ensures.here c.if-is_current_byte-2.true in
     passed 2
-    (eol-crlf c.args.source.now
-    c.args.at
-    (by c.is_current_byte.ensures.is
-    c.if-is_current_byte.false)
+    (eol-crlf c.args.source.now c.args.at (by c.is_current_byte.ensures.is c.if-is_current_byte.false)
     (by c.is_current_byte-2.ensures.is (not-false _ c.if-not-is_current_byte.false-raw))
     (by c.is_current_byte-3.ensures.is c.if-is_current_byte-2.true)) refl
     (omega arith)
@@ -53,10 +50,7 @@ returns-then-is_current_byte-2 c =
 pub returns-else-is_current_byte-2 : goal.returns-else-is_current_byte-2
 returns-else-is_current_byte-2 c =
     passed 0
-    (eol-lone c.args.source.now
-    c.args.at
-    (by c.is_current_byte.ensures.is
-    c.if-is_current_byte.false)
+    (eol-lone c.args.source.now c.args.at (by c.is_current_byte.ensures.is c.if-is_current_byte.false)
     (by c.is_current_byte-2.ensures.is (not-false _ c.if-not-is_current_byte.false-raw))
     (by c.is_current_byte-3.ensures.is c.if-is_current_byte-2.false))
     (omega arith) (omega arith)

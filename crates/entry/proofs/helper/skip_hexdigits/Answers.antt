@@ -21,9 +21,7 @@ overflow_add-result c = omega arith
 
 pub returns-then-not-is_hexdigit_at : goal.returns-then-not-is_hexdigit_at
 returns-then-not-is_hexdigit_at c =
-    let e =
-    going_end c.loop-n.invariant.0 c.is_hexdigit_at.ensures
-    (not-true _ c.if-not-is_hexdigit_at.true-raw) in
+    let e = going_end c.loop-n.invariant.0 c.is_hexdigit_at.ensures (not-true _ c.if-not-is_hexdigit_at.true-raw) in
     record { end = omega arith; within = e.within }
 
 pub overflow_add-n : goal.overflow_add-n
@@ -35,8 +33,7 @@ loop-n-smaller c = omega arith
 pub loop-n-preserved : goal.loop-n-preserved
 loop-n-preserved c = (
   rw (← add_assoc)
-      (going_more c.loop-n.invariant.0 c.is_hexdigit_at.ensures
-      (not-false _ c.if-not-is_hexdigit_at.false-raw)),
+      (going_more c.loop-n.invariant.0 c.is_hexdigit_at.ensures (not-false _ c.if-not-is_hexdigit_at.false-raw)),
   omega arith,
 )
 

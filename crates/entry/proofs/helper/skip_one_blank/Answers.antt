@@ -23,5 +23,6 @@ returns-then-is_current_byte c =
 
 pub returns-else-is_current_byte : goal.returns-else-is_current_byte
 returns-else-is_current_byte c =
-    passed _ (blank-eol _ (by c.is_current_byte.ensures.is c.if-is_current_byte.false))
-    c.skip_eol.ensures.end c.skip_eol.ensures.within
+    passed _
+    (blank-eol _
+    (by c.is_current_byte.ensures.is c.if-is_current_byte.false)) c.skip_eol.ensures.end c.skip_eol.ensures.within

@@ -18,4 +18,5 @@ returns-then-is_current_byte c =
     went-ok (take-yes _ _ (by c.is_current_byte.ensures.is c.if-is_current_byte.true)) refl (omega arith)
 
 pub returns-else-is_current_byte : goal.returns-else-is_current_byte
-returns-else-is_current_byte c = went-ok (take_no _ _ (by c.is_current_byte.ensures.is c.if-is_current_byte.false)) (omega arith) (omega arith)
+returns-else-is_current_byte c =
+    went-ok (take_no _ _ (by c.is_current_byte.ensures.is c.if-is_current_byte.false)) (omega arith) (omega arith)

@@ -11,11 +11,7 @@ pub overflow_add-kind : goal.overflow_add-kind
 overflow_add-kind c = search rules
 
 pub put-m-requires : goal.put-m-requires
-put-m-requires c =
-    record {
-      fits = rw c.in-Ok.is at c.requires.closable;
-      place_bound = search rules;
-    }
+put-m-requires c = record { fits = rw c.in-Ok.is at c.requires.closable; place_bound = search rules }
 
 pub enum_known-r-in-Bad-1 : goal.enum_known-r-in-Bad-1
 enum_known-r-in-Bad-1 c = search rules
@@ -27,9 +23,7 @@ pub shape_of-tree : goal.shape_of-tree
 shape_of-tree c = search rules
 
 pub returns-in-Ok : goal.returns-in-Ok
-returns-in-Ok c =
-    rw c.in-Ok.is
-    (record { holds = (ap₂ Ok refl c.put-m.ensures.0, c.put-m.ensures.1) })
+returns-in-Ok c = rw c.in-Ok.is (record { holds = (ap₂ Ok refl c.put-m.ensures.0, c.put-m.ensures.1) })
 
 pub returns-in-Bad : goal.returns-in-Bad
 returns-in-Bad c = rw c.in-Bad.is (record { holds = (refl, refl) })

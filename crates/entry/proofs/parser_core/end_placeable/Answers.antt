@@ -16,22 +16,14 @@ skip_blank_inline-end-requires c = (rw c.in-Ok.is at c.requires).inside
 
 pub expect_byte-requires : goal.expect_byte-requires
 expect_byte-requires c =
-    record {
-      inside = c.skip_blank_inline-end.ensures.within;
-      short = (rw c.in-Ok.is at c.requires).short;
-    }
+    record { inside = c.skip_blank_inline-end.ensures.within; short = (rw c.in-Ok.is at c.requires).short }
 
 pub enum_known-end : goal.enum_known-end
 enum_known-end c = search rules
 
 pub without_attribute-requires : goal.without_attribute-requires
 without_attribute-requires c =
-    omega (
-      arith,
-      found_within c.expect_byte.ensures c.in-At.is,
-      (rw
-          c.in-Ok.is at c.requires).short,
-    )
+    omega (arith, found_within c.expect_byte.ensures c.in-At.is, (rw c.in-Ok.is at c.requires).short)
 
 pub enum_known-e : goal.enum_known-e
 enum_known-e c = search rules
@@ -45,16 +37,13 @@ enum_known-exp-in-Deep-1 c = search rules
 pub returns-in-At : goal.returns-in-At
 returns-in-At c =
     c.without_attribute.ensures
-    ∙ (rw c.in-Ok.is
-    (placeable-at _ c.skip_blank_inline-end.ensures
-    c.expect_byte.ensures _ c.in-At.is))
+    ∙ (rw c.in-Ok.is (placeable-at _ c.skip_blank_inline-end.ensures c.expect_byte.ensures _ c.in-At.is))
 
 pub returns-in-Bad-expect_byte : goal.returns-in-Bad-expect_byte
 returns-in-Bad-expect_byte c =
-    ended-bad (placeable_end (read_attribute c.args.exp)) c.args.source.now _
-    (ap plainly c.in-Ok.is)
-    (placeable-bad (read_attribute c.args.exp) c.skip_blank_inline-end.ensures
-    c.expect_byte.ensures c.in-Bad-expect_byte.is)
+    ended-bad (placeable_end (read_attribute c.args.exp)) c.args.source.now _ (ap plainly c.in-Ok.is)
+    (placeable-bad
+    (read_attribute c.args.exp) c.skip_blank_inline-end.ensures c.expect_byte.ensures c.in-Bad-expect_byte.is)
     c.in-Bad-expect_byte.is
 
 pub returns-in-Bad : goal.returns-in-Bad

@@ -11,8 +11,7 @@ is_current_byte-requires c = search rules
 
 pub returns-then-not-is_current_byte : goal.returns-then-not-is_current_byte
 returns-then-not-is_current_byte c =
-    accessor-none c.args.source.now
-    (by c.is_current_byte.ensures.is (not-true _ c.if-not-is_current_byte.true-raw))
+    accessor-none c.args.source.now (by c.is_current_byte.ensures.is (not-true _ c.if-not-is_current_byte.true-raw))
 
 pub overflow_add-at : goal.overflow_add-at
 overflow_add-at c = search rules
@@ -31,11 +30,11 @@ pub put_found-requires : goal.put_found-requires
 put_found-requires c =
     record {
       kind_bound = (search rules, omega (arith, c.requires));
-      textable = identifier-textable _
+      textable =
+          identifier-textable _
           (record {
             inside =
-                omega
-                (arith, c.is_current_byte.ensures.here (not-false _ c.if-not-is_current_byte.false-raw));
+                omega (arith, c.is_current_byte.ensures.here (not-false _ c.if-not-is_current_byte.false-raw));
             spent = omega (arith, c.requires.spent);
             short = c.requires.short;
             holds = c.requires.holds;
@@ -49,7 +48,5 @@ shape_of-tree c = search rules
 
 pub returns : goal.returns
 returns c =
-    accessor-some c.args.source.now _
-    (by c.is_current_byte.ensures.is
-    (not-false _ c.if-not-is_current_byte.false-raw))
+    accessor-some c.args.source.now _ (by c.is_current_byte.ensures.is (not-false _ c.if-not-is_current_byte.false-raw))
     (c.get_identifier-end.ensures 9) c.put_found.ensures

@@ -50,24 +50,17 @@ enum_known-attribute c = search rules
 pub loop-at-smaller : goal.loop-at-smaller
 loop-at-smaller c =
     let l =
-    attributes-on c.loop-at.invariant
-    c.skip_blank_inline-dot.ensures
+    attributes-on c.loop-at.invariant c.skip_blank_inline-dot.ensures
     (by c.is_current_byte.ensures.is
-    (not-false _ c.if-not-is_current_byte.false-raw))
-    c.get_attribute-attribute.ensures c.in-Ok.is in
-    let h =
-    c.is_current_byte.ensures.here
-    (not-false _ c.if-not-is_current_byte.false-raw) in
-    omega
-    (arith, c.skip_blank_inline-dot.ensures.end)
+    (not-false _ c.if-not-is_current_byte.false-raw)) c.get_attribute-attribute.ensures c.in-Ok.is in
+    let h = c.is_current_byte.ensures.here (not-false _ c.if-not-is_current_byte.false-raw) in
+    omega (arith, c.skip_blank_inline-dot.ensures.end)
 
 pub loop-at-preserved : goal.loop-at-preserved
 loop-at-preserved c =
-    attributes-more c.loop-at.invariant
-    c.skip_blank_inline-dot.ensures
+    attributes-more c.loop-at.invariant c.skip_blank_inline-dot.ensures
     (by c.is_current_byte.ensures.is
-    (not-false _ c.if-not-is_current_byte.false-raw))
-    c.get_attribute-attribute.ensures c.in-Ok.is
+    (not-false _ c.if-not-is_current_byte.false-raw)) c.get_attribute-attribute.ensures c.in-Ok.is
 
 pub enum_known-attribute-in_default : goal.enum_known-attribute-in_default
 enum_known-attribute-in_default c = search rules
@@ -77,21 +70,17 @@ shape_of-tree-in-Deep c = search rules
 
 pub returns-in-Deep : goal.returns-in-Deep
 returns-in-Deep c =
-    attributes-deep
-    c.loop-at.invariant
-    c.skip_blank_inline-dot.ensures
+    attributes-deep c.loop-at.invariant c.skip_blank_inline-dot.ensures
     (by c.is_current_byte.ensures.is
-    (not-false _ c.if-not-is_current_byte.false-raw))
-    c.get_attribute-attribute.ensures c.in-Deep.is
+    (not-false _ c.if-not-is_current_byte.false-raw)) c.get_attribute-attribute.ensures c.in-Deep.is
 
 pub shape_of-tree-in_default : goal.shape_of-tree-in_default
 shape_of-tree-in_default c = search rules
 
 pub returns-in_default : goal.returns-in_default
 returns-in_default c =
-    attributes-stop c.loop-at.invariant
-    c.skip_blank_inline-dot.ensures
+    attributes-stop c.loop-at.invariant c.skip_blank_inline-dot.ensures
     (by c.is_current_byte.ensures.is
-    (not-false _ c.if-not-is_current_byte.false-raw))
-    c.get_attribute-attribute.ensures (not-ok _ (opened c.in_default.in_default-own.keys2))
+    (not-false _ c.if-not-is_current_byte.false-raw)) c.get_attribute-attribute.ensures
+    (not-ok _ (opened c.in_default.in_default-own.keys2))
     (not-deep _ (opened c.in_default-attribute.in_default-attribute-own.keys2))

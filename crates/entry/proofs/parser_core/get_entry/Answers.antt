@@ -15,10 +15,7 @@ shape_of-tree-then-is_current_byte c = search rules
 
 pub returns-then-is_current_byte : goal.returns-then-is_current_byte
 returns-then-is_current_byte c =
-    entry-comment _ _
-    (by c.is_current_byte.ensures.is
-    c.if-is_current_byte.true)
-    c.get_comment.ensures
+    entry-comment _ _ (by c.is_current_byte.ensures.is c.if-is_current_byte.true) c.get_comment.ensures
 
 pub is_current_byte-requires-2 : goal.is_current_byte-requires-2
 is_current_byte-requires-2 c = search rules
@@ -31,12 +28,8 @@ shape_of-tree-then-is_current_byte-2 c = search rules
 
 pub returns-then-is_current_byte-2 : goal.returns-then-is_current_byte-2
 returns-then-is_current_byte-2 c =
-    entry-term _ _
-    (by c.is_current_byte.ensures.is
-    c.if-is_current_byte.false)
-    (by c.is_current_byte-2.ensures.is
-    c.if-is_current_byte-2.true)
-    c.get_term.ensures
+    entry-term _ _ (by c.is_current_byte.ensures.is c.if-is_current_byte.false)
+    (by c.is_current_byte-2.ensures.is c.if-is_current_byte-2.true) c.get_term.ensures
 
 pub get_message-requires : goal.get_message-requires
 get_message-requires c = search rules
@@ -46,9 +39,5 @@ shape_of-tree c = search rules
 
 pub returns : goal.returns
 returns c =
-    entry-message _ _
-    (by c.is_current_byte.ensures.is
-    c.if-is_current_byte.false)
-    (by c.is_current_byte-2.ensures.is
-    c.if-is_current_byte-2.false)
-    c.get_message.ensures
+    entry-message _ _ (by c.is_current_byte.ensures.is c.if-is_current_byte.false)
+    (by c.is_current_byte-2.ensures.is c.if-is_current_byte-2.false) c.get_message.ensures

@@ -13,17 +13,14 @@ enum_known-length c = search rules
 
 pub get_pattern-requires : goal.get_pattern-requires
 get_pattern-requires c =
-    let z =
-    named-at c.get_name.ensures
-    c.in-Ok.is in
+    let z = named-at c.get_name.ensures c.in-Ok.is in
     let p = c.requires in
     record {
       inside = z.1;
       spent = omega (arith, p.spent);
       short = p.short;
       holds = p.holds;
-      layout =
-          omega (arith, p.layout, c.get_name.ensures.did.wrote.long);
+      layout = omega (arith, p.layout, c.get_name.ensures.did.wrote.long);
     }
 
 pub enum_known-end : goal.enum_known-end
@@ -31,36 +28,20 @@ enum_known-end c = search rules
 
 pub skip_blank_block-block-requires : goal.skip_blank_block-block-requires
 skip_blank_block-block-requires c =
-    (pattern-at _ _
-    (named-at
-    c.get_name.ensures
-    c.in-Ok.is).1
-    c.get_pattern.ensures c.in-Ok-get_pattern.is).1
+    (pattern-at _ _ (named-at c.get_name.ensures c.in-Ok.is).1 c.get_pattern.ensures c.in-Ok-get_pattern.is).1
 
 pub get_attributes-requires : goal.get_attributes-requires
 get_attributes-requires c =
-    let z =
-    named-at
-    c.get_name.ensures
-    c.in-Ok.is in
-    let y =
-    pattern-at _ _ z.1 c.get_pattern.ensures
-    c.in-Ok-get_pattern.is in
-    let p =
-    c.requires in
+    let z = named-at c.get_name.ensures c.in-Ok.is in
+    let y = pattern-at _ _ z.1 c.get_pattern.ensures c.in-Ok-get_pattern.is in
+    let p = c.requires in
     let w = c.skip_blank_block-block.ensures in
     record {
       inside = w.within;
       spent = omega (arith, p.spent, w.onward);
       short = p.short;
       holds = p.holds;
-      layout =
-          omega (
-            arith,
-            p.layout,
-            c.get_name.ensures.did.wrote.long,
-            c.get_pattern.ensures.wrote.long,
-          );
+      layout = omega (arith, p.layout, c.get_name.ensures.did.wrote.long, c.get_pattern.ensures.wrote.long);
     }
 
 pub enum_known-end-in-Ok-get_attributes : goal.enum_known-end-in-Ok-get_attributes
@@ -86,17 +67,9 @@ shape_of-tree-in-Ok-get_attributes c = search rules
 
 pub returns-in-Ok-get_attributes : goal.returns-in-Ok-get_attributes
 returns-in-Ok-get_attributes c =
-    let z =
-    named-at
-    c.get_name.ensures
-    c.in-Ok.is in (
-      fields-ok _
-          c.get_name.ensures
-          c.in-Ok.is
-          c.get_pattern.ensures
-          c.in-Ok-get_pattern.is
-          c.skip_blank_block-block.ensures
-          c.get_attributes.ensures c.in-Ok-get_attributes.is,
+    let z = named-at c.get_name.ensures c.in-Ok.is in (
+      fields-ok _ c.get_name.ensures c.in-Ok.is c.get_pattern.ensures c.in-Ok-get_pattern.is
+          c.skip_blank_block-block.ensures c.get_attributes.ensures c.in-Ok-get_attributes.is,
       omega arith,
     )
 
@@ -105,13 +78,8 @@ shape_of-tree-in-Bad-get_attributes c = search rules
 
 pub returns-in-Bad-get_attributes : goal.returns-in-Bad-get_attributes
 returns-in-Bad-get_attributes c = (
-  fields-bad-after _
-      c.get_name.ensures
-      c.in-Ok.is
-      c.get_pattern.ensures
-      c.in-Ok-get_pattern.is
-      c.skip_blank_block-block.ensures
-      c.get_attributes.ensures c.in-Bad-get_attributes.is,
+  fields-bad-after _ c.get_name.ensures c.in-Ok.is c.get_pattern.ensures c.in-Ok-get_pattern.is
+      c.skip_blank_block-block.ensures c.get_attributes.ensures c.in-Bad-get_attributes.is,
   tt,
 )
 
@@ -120,13 +88,8 @@ shape_of-tree-in-Deep-get_attributes c = search rules
 
 pub returns-in-Deep-get_attributes : goal.returns-in-Deep-get_attributes
 returns-in-Deep-get_attributes c = (
-  fields-far-after _
-      c.get_name.ensures
-      c.in-Ok.is
-      c.get_pattern.ensures
-      c.in-Ok-get_pattern.is
-      c.skip_blank_block-block.ensures
-      c.get_attributes.ensures c.in-Deep-get_attributes.is,
+  fields-far-after _ c.get_name.ensures c.in-Ok.is c.get_pattern.ensures c.in-Ok-get_pattern.is
+      c.skip_blank_block-block.ensures c.get_attributes.ensures c.in-Deep-get_attributes.is,
   tt,
 )
 
@@ -135,10 +98,7 @@ shape_of-tree-in-Bad-get_pattern c = search rules
 
 pub returns-in-Bad-get_pattern : goal.returns-in-Bad-get_pattern
 returns-in-Bad-get_pattern c = (
-  fields-bad _
-      c.get_name.ensures
-      c.in-Ok.is
-      c.get_pattern.ensures c.in-Bad-get_pattern.is,
+  fields-bad _ c.get_name.ensures c.in-Ok.is c.get_pattern.ensures c.in-Bad-get_pattern.is,
   tt,
 )
 
@@ -147,10 +107,7 @@ shape_of-tree-in-Deep c = search rules
 
 pub returns-in-Deep : goal.returns-in-Deep
 returns-in-Deep c = (
-  fields-far _
-      c.get_name.ensures
-      c.in-Ok.is
-      c.get_pattern.ensures c.in-Deep.is,
+  fields-far _ c.get_name.ensures c.in-Ok.is c.get_pattern.ensures c.in-Deep.is,
   tt,
 )
 

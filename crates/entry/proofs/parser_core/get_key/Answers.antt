@@ -24,8 +24,7 @@ pub put_found-requires-else-is_number_start : goal.put_found-requires-else-is_nu
 put_found-requires-else-is_number_start c =
     record {
       kind_bound = (search rules, omega (arith, c.requires));
-      textable = identifier-textable _ c.requires
-          (c.get_identifier-end.ensures 9);
+      textable = identifier-textable _ c.requires (c.get_identifier-end.ensures 9);
     }
 
 pub shape_of-tree-then-is_number_start : goal.shape_of-tree-then-is_number_start
@@ -33,17 +32,13 @@ shape_of-tree-then-is_number_start c = search rules
 
 pub returns-then-is_number_start : goal.returns-then-is_number_start
 returns-then-is_number_start c =
-    key-number c.args.source.now _
-    c.is_number_start.ensures
-    c.if-is_number_start.true
-    c.get_number_literal-end.ensures c.put_found.ensures
+    key-number c.args.source.now _ c.is_number_start.ensures c.if-is_number_start.true c.get_number_literal-end.ensures
+    c.put_found.ensures
 
 pub shape_of-tree-else-is_number_start : goal.shape_of-tree-else-is_number_start
 shape_of-tree-else-is_number_start c = search rules
 
 pub returns-else-is_number_start : goal.returns-else-is_number_start
 returns-else-is_number_start c =
-    key-name c.args.source.now _
-    c.is_number_start.ensures
-    c.if-is_number_start.false
+    key-name c.args.source.now _ c.is_number_start.ensures c.if-is_number_start.false
     (c.get_identifier-end.ensures 18) c.put_found-else-is_number_start.ensures

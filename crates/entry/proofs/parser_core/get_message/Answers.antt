@@ -19,43 +19,25 @@ returns-then-value c =
     did-message _ c.get_fields.ensures.0
     (elim c.then-value.branch [
       | then-value-via-then-value w ↦ message-first _ c.in-Ok.is w.if-value.true
-      | then-value-via-else-value+then-attributes w ↦ message-second _ c.in-Ok.is w.if-value.false w.if-attributes.true
+      | then-value-via-else-value+then-attributes w ↦ message-second _ c.in-Ok.is w.if-value.false
+          w.if-attributes.true
     ])
 
 pub overflow_add-name_end : goal.overflow_add-name_end
-overflow_add-name_end c =
-    omega (
-      arith,
-      rw
-          c.in-Ok.is at c.get_fields.ensures.1,
-      c.requires.short,
-    )
+overflow_add-name_end c = omega (arith, rw c.in-Ok.is at c.get_fields.ensures.1, c.requires.short)
 
 pub overflow_cast-kind : goal.overflow_cast-kind
 overflow_cast-kind c = search rules
 
 pub overflow_cast-kind-in-Ok : goal.overflow_cast-kind-in-Ok
-overflow_cast-kind-in-Ok c =
-    omega (
-      arith,
-      rw
-          c.in-Ok.is at c.get_fields.ensures.1,
-      c.requires.short,
-    )
+overflow_cast-kind-in-Ok c = omega (arith, rw c.in-Ok.is at c.get_fields.ensures.1, c.requires.short)
 
 pub overflow_cast-error : goal.overflow_cast-error
 overflow_cast-error c = search rules
 
 pub overflow_cast-error-in-Ok : goal.overflow_cast-error-in-Ok
 overflow_cast-error-in-Ok c =
-    omega (
-      arith,
-      fields_within _ _ _
-          c.requires.inside
-          c.get_fields.ensures.0
-          c.in-Ok.is,
-      c.requires.short,
-    )
+    omega (arith, fields_within _ _ _ c.requires.inside c.get_fields.ensures.0 c.in-Ok.is, c.requires.short)
 
 pub enum_known-e : goal.enum_known-e
 enum_known-e c = search rules
@@ -68,8 +50,7 @@ shape_of-tree-else-attributes c = search rules
 
 pub returns-else-attributes : goal.returns-else-attributes
 returns-else-attributes c =
-    did-message _ c.get_fields.ensures.0
-    (message-none _ c.in-Ok.is c.if-value.false c.if-attributes.false)
+    did-message _ c.get_fields.ensures.0 (message-none _ c.in-Ok.is c.if-value.false c.if-attributes.false)
 
 pub shape_of-tree-in-Bad : goal.shape_of-tree-in-Bad
 shape_of-tree-in-Bad c = search rules

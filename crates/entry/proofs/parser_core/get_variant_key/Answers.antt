@@ -27,21 +27,15 @@ shape_of-tree-in_default c = search rules
 pub returns-in_default : goal.returns-in_default
 unfolding get_variant_key
 returns-in_default c =
-    did_then c.args.source.now skip_blank _
-    (went c.skip_blank-start.ensures)
+    did_then c.args.source.now skip_blank _ (went c.skip_blank-start.ensures)
     (stop-then _ key_text _ c.get_key-r.ensures (not-ok _ (opened c.in_default.in_default-own.keys2)))
 
 pub skip_blank-end-requires : goal.skip_blank-end-requires
 skip_blank-end-requires c =
     let w =
     kept_at c.args.source.now
-    ((key-text-bounds {n = 0}).on _)
-    c.skip_blank-start.ensures.within
-    c.get_key-r.ensures c.in-Ok.is in
-    record {
-      inside = w.1;
-      short = c.requires.short;
-    }
+    ((key-text-bounds {n = 0}).on _) c.skip_blank-start.ensures.within c.get_key-r.ensures c.in-Ok.is in
+    record { inside = w.1; short = c.requires.short }
 
 pub expect_after-requires : goal.expect_after-requires
 expect_after-requires c = search rules
@@ -52,17 +46,7 @@ shape_of-tree c = search rules
 pub returns : goal.returns
 unfolding get_variant_key
 returns c =
-    did_then
-    c.args.source.now
-    skip_blank _
-    (went c.skip_blank-start.ensures)
-    (did_then
-    c.args.source.now
-    key_text _
-    (found _ c.get_key-r.ensures
-    c.in-Ok.is)
-    (did_then
-    c.args.source.now
-    skip_blank
-    (expect_byte Byte.close_bracket) (went c.skip_blank-end.ensures)
+    did_then c.args.source.now skip_blank _ (went c.skip_blank-start.ensures)
+    (did_then c.args.source.now key_text _ (found _ c.get_key-r.ensures c.in-Ok.is)
+    (did_then c.args.source.now skip_blank (expect_byte Byte.close_bracket) (went c.skip_blank-end.ensures)
     (record { answers = c.expect_after.ensures; wrote = rw (expect-quiet, words-none) (step-none _ _ _) })))

@@ -16,9 +16,7 @@ pub returns-then-is_ascii_digit : goal.returns-then-is_ascii_digit
 returns-then-is_ascii_digit c = number-starts _ _ _ c.if-at-source.true c.is_ascii_digit.ensures c.if-is_ascii_digit.true
 
 pub returns-else-is_ascii_digit : goal.returns-else-is_ascii_digit
-returns-else-is_ascii_digit c =
-    minus-starts _ _ _ c.if-at-source.true c.is_ascii_digit.ensures
-    c.if-is_ascii_digit.false
+returns-else-is_ascii_digit c = minus-starts _ _ _ c.if-at-source.true c.is_ascii_digit.ensures c.if-is_ascii_digit.false
 
 pub returns-else-at-source : goal.returns-else-at-source
 returns-else-at-source c = none-starts _ _ _ c.if-at-source.false

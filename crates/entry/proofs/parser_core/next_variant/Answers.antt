@@ -19,8 +19,7 @@ error-requires c = search rules
 pub returns-then-has : goal.returns-then-has
 returns-then-has c = (
   c.take_byte_if-start.ensures.within,
-  λ sub. next-double sub c.args.has
-      c.is_current_byte-default.ensures c.take_byte_if-start.ensures
+  λ sub. next-double sub c.args.has c.is_current_byte-default.ensures c.take_byte_if-start.ensures
       c.if-default.true c.if-has.true c.error.ensures,
 )
 
@@ -32,8 +31,7 @@ returns-then-is_current_byte c = (
   c.take_byte_if-start.ensures.onward,
   c.take_byte_if-start.ensures.within,
   by c.is_current_byte.ensures.is c.if-is_current_byte.true,
-  λ sub. next-some sub c.args.has
-      c.is_current_byte-default.ensures c.take_byte_if-start.ensures
+  λ sub. next-some sub c.args.has c.is_current_byte-default.ensures c.take_byte_if-start.ensures
       (elim c.else-default.branch [
         | else-default-via-then-default+else-has w ↦ and_second _ _ w.if-default.true w.if-has.false
         | else-default-via-else-default w ↦ and_first _ _ w.if-default.false
@@ -45,9 +43,7 @@ pub returns-then-default-2 : goal.returns-then-default-2
 returns-then-default-2 c = (
   c.take_byte_if-start.ensures.onward,
   c.take_byte_if-start.ensures.within,
-  λ sub. next-end sub c.args.has
-      c.is_current_byte-default.ensures
-      c.take_byte_if-start.ensures
+  λ sub. next-end sub c.args.has c.is_current_byte-default.ensures c.take_byte_if-start.ensures
       (elim c.else-default.branch [
         | else-default-via-then-default+else-has w ↦ and_second _ _ w.if-default.true w.if-has.false
         | else-default-via-else-default w ↦ and_first _ _ w.if-default.false
@@ -65,9 +61,7 @@ error-requires-2 c = search rules
 pub returns : goal.returns
 returns c = (
   c.take_byte_if-start.ensures.within,
-  λ sub. next-none sub c.args.has
-      c.is_current_byte-default.ensures
-      c.take_byte_if-start.ensures
+  λ sub. next-none sub c.args.has c.is_current_byte-default.ensures c.take_byte_if-start.ensures
       (elim c.else-default.branch [
         | else-default-via-then-default+else-has w ↦ and_second _ _ w.if-default.true w.if-has.false
         | else-default-via-else-default w ↦ and_first _ _ w.if-default.false

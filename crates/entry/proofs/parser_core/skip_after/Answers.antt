@@ -16,6 +16,4 @@ pub skip_blank-requires : goal.skip_blank-requires
 skip_blank-requires c = rw c.in-Ok.is at c.requires
 
 pub returns : goal.returns
-returns c =
-    ended-went skip_blank c.args.source.now _
-    c.in-Ok.is c.skip_blank.ensures
+returns c = ended-went skip_blank c.args.source.now _ c.in-Ok.is c.skip_blank.ensures

@@ -13,14 +13,11 @@ pub error-requires : goal.error-requires
 error-requires c = search rules
 
 pub returns-then-attribute : goal.returns-then-attribute
-returns-then-attribute c =
-    attribute-refused _ c.args.exp c.in-TermReference.is
-    c.if-attribute.true c.error.ensures
+returns-then-attribute c = attribute-refused _ c.args.exp c.in-TermReference.is c.if-attribute.true c.error.ensures
 
 pub returns-else-attribute : goal.returns-else-attribute
 returns-else-attribute c =
-    attribute-none _ _ c.args.exp
-    (ap is_attribute_of_term c.in-TermReference.is ∙ c.if-attribute.false)
+    attribute-none _ _ c.args.exp (ap is_attribute_of_term c.in-TermReference.is ∙ c.if-attribute.false)
 
 pub returns-in_default : goal.returns-in_default
 returns-in_default c = attribute-none _ _ c.args.exp (no-term c.args.exp (opened c.in_default.in_default-own.keys2))

@@ -20,9 +20,7 @@ pub with_text-requires : goal.with_text-requires
 with_text-requires c =
     record {
       fits = c.requires.fits;
-      size_bound = text-fits c.requires
-          c.in-Text.slice c.get_text_slice.ensures
-          c.in-Text.is;
+      size_bound = text-fits c.requires c.in-Text.slice c.get_text_slice.ensures c.in-Text.is;
     }
 
 pub enum_known-k : goal.enum_known-k
@@ -32,27 +30,20 @@ pub overflow_add-end : goal.overflow_add-end
 overflow_add-end c =
     omega (
       arith,
-      brace-fits c.requires c.in-UnbalancedClosingBrace.k
-          c.get_text_slice.ensures c.in-UnbalancedClosingBrace.is,
+      brace-fits c.requires c.in-UnbalancedClosingBrace.k c.get_text_slice.ensures c.in-UnbalancedClosingBrace.is,
     )
 
 pub error-requires : goal.error-requires
 error-requires c =
-    brace-fits c.requires c.in-UnbalancedClosingBrace.k
-    c.get_text_slice.ensures c.in-UnbalancedClosingBrace.is
+    brace-fits c.requires c.in-UnbalancedClosingBrace.k c.get_text_slice.ensures c.in-UnbalancedClosingBrace.is
 
 pub shape_of-tree : goal.shape_of-tree
 shape_of-tree c = search rules
 
 pub returns-in-Text : goal.returns-in-Text
-returns-in-Text c =
-    text-next c.requires
-    c.in-Text.slice
-    c.get_text_slice.ensures
-    c.in-Text.is c.with_text.ensures
+returns-in-Text c = text-next c.requires c.in-Text.slice c.get_text_slice.ensures c.in-Text.is c.with_text.ensures
 
 pub returns-in-UnbalancedClosingBrace : goal.returns-in-UnbalancedClosingBrace
 returns-in-UnbalancedClosingBrace c =
-    text-bad c.requires
-    c.in-UnbalancedClosingBrace.k c.get_text_slice.ensures
-    c.in-UnbalancedClosingBrace.is c.error.ensures
+    text-bad c.requires c.in-UnbalancedClosingBrace.k c.get_text_slice.ensures c.in-UnbalancedClosingBrace.is
+    c.error.ensures

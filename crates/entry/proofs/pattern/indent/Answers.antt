@@ -26,9 +26,7 @@ pub loop-n-smaller : goal.loop-n-smaller
 loop-n-smaller c = falls _ _ c.loop-n-test.true
 
 pub loop-n-preserved : goal.loop-n-preserved
-loop-n-preserved c =
-    indent-more _ _ _ _ c.loop-n.invariant c.loop-n-test.true
-    c.if-i-source.false c.if-source-i-ne32.false
+loop-n-preserved c = indent-more _ _ _ _ c.loop-n.invariant c.loop-n-test.true c.if-i-source.false c.if-source-i-ne32.false
 
 pub returns : goal.returns
 returns c = indent-full _ _ _ _ c.loop-n.invariant c.loop-n-test.false

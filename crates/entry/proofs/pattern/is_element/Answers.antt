@@ -16,13 +16,7 @@ is_line_feed-requires c = search rules
 pub returns-then-slice : goal.returns-then-slice
 unfolding is_part
 returns-then-slice c =
-    c.is_line_feed.ensures
-    ∙ sym
-    (simp (
-      lt-ltb 0 c.args.slice.size (omega arith),
-      c.if-line.true,
-      c.if-slice.true,
-    ))
+    c.is_line_feed.ensures ∙ sym (simp (lt-ltb 0 c.args.slice.size (omega arith), c.if-line.true, c.if-slice.true))
 
 pub returns-else-slice : goal.returns-else-slice
 unfolding is_part

@@ -18,10 +18,6 @@ shape_of-tree c = search rules
 
 pub returns : goal.returns
 returns c = (
-  omega
-      (arith, c.put.ensures.0, c.put-m.ensures.0),
-  step_then
-      (rw
-      c.opening_kind.ensures at c.put-m.ensures.1)
-      c.put-m.ensures.0 c.put.ensures.1,
+  omega (arith, c.put.ensures.0, c.put-m.ensures.0),
+  step_then (rw c.opening_kind.ensures at c.put-m.ensures.1) c.put-m.ensures.0 c.put.ensures.1,
 )

@@ -15,8 +15,8 @@ pub returns-then-next-line_end : goal.returns-then-next-line_end
 returns-then-next-line_end c =
     record {
       state =
-          start-here c.args.source.now c.args.at
-          c.skip_blank_inline-line_end.ensures c.skip_eol-next.ensures c.if-next-line_end.true;
+          start-here c.args.source.now c.args.at c.skip_blank_inline-line_end.ensures c.skip_eol-next.ensures
+          c.if-next-line_end.true;
       onward = omega (arith, c.skip_blank_inline-line_end.ensures.end);
       within = c.skip_blank_inline-line_end.ensures.within;
       count = refl;
@@ -31,9 +31,8 @@ pub returns : goal.returns
 returns c =
     record {
       state =
-          start-below c.args.source.now
-          c.args.at c.skip_blank_inline-line_end.ensures
-          c.skip_eol-next.ensures c.if-next-line_end.false c.skip_blank_block-block.ensures;
+          start-below c.args.source.now c.args.at c.skip_blank_inline-line_end.ensures c.skip_eol-next.ensures
+          c.if-next-line_end.false c.skip_blank_block-block.ensures;
       onward =
           omega (
             arith,

@@ -9,8 +9,7 @@ is_line_start-requires c = search rules
 
 pub get_text-requires : goal.get_text-requires
 get_text-requires c =
-    ready-text c.args.st c.requires.room
-    c.requires.at_in_bounds c.is_line_start.ensures
+    ready-text c.args.st c.requires.room c.requires.at_in_bounds c.is_line_start.ensures
     (not-true _ c.if-not-is_line_start.true-raw)
 
 pub shape_of-tree-then-not-is_line_start : goal.shape_of-tree-then-not-is_line_start
@@ -18,10 +17,7 @@ shape_of-tree-then-not-is_line_start c = search rules
 
 pub returns-then-not-is_line_start : goal.returns-then-not-is_line_start
 returns-then-not-is_line_start c =
-    turn-text c.args.st
-    c.requires.room
-    c.requires.at_in_bounds
-    c.is_line_start.ensures
+    turn-text c.args.st c.requires.room c.requires.at_in_bounds c.is_line_start.ensures
     (not-true _ c.if-not-is_line_start.true-raw) c.get_text.ensures
 
 pub skip_blank_inline-start-requires : goal.skip_blank_inline-start-requires
@@ -29,9 +25,7 @@ skip_blank_inline-start-requires c = search rules
 
 pub returns-then-start-source : goal.returns-then-start-source
 returns-then-start-source c =
-    line-end c.args.st
-    c.requires.room
-    c.requires.at_in_bounds c.is_line_start.ensures
+    line-end c.args.st c.requires.room c.requires.at_in_bounds c.is_line_start.ensures
     (not-false _ c.if-not-is_line_start.false-raw) c.skip_blank_inline-start.ensures c.if-start-source.true
 
 pub overflow_sub-start : goal.overflow_sub-start
@@ -48,36 +42,21 @@ overflow_sub-start-then-goes_on c = search rules
 
 pub get_text-requires-then-goes_on : goal.get_text-requires-then-goes_on
 get_text-requires-then-goes_on c =
-    ready-line c.args.st
-    c.requires.room
-    c.requires.at_in_bounds
-    c.is_line_start.ensures
-    (not-false _ c.if-not-is_line_start.false-raw)
-    c.skip_blank_inline-start.ensures
-    c.if-start-source.false c.goes_on.ensures
+    ready-line c.args.st c.requires.room c.requires.at_in_bounds c.is_line_start.ensures
+    (not-false _ c.if-not-is_line_start.false-raw) c.skip_blank_inline-start.ensures c.if-start-source.false
+    c.goes_on.ensures
 
 pub shape_of-tree-then-goes_on : goal.shape_of-tree-then-goes_on
 shape_of-tree-then-goes_on c = search rules
 
 pub returns-then-goes_on : goal.returns-then-goes_on
 returns-then-goes_on c =
-    turn-line
-    c.args.st
-    c.requires.room
-    c.requires.at_in_bounds
-    c.is_line_start.ensures
-    (not-false _ c.if-not-is_line_start.false-raw)
-    c.skip_blank_inline-start.ensures
-    c.if-start-source.false
-    c.goes_on.ensures c.if-goes_on.true
-    c.get_text-then-goes_on.ensures
+    turn-line c.args.st c.requires.room c.requires.at_in_bounds c.is_line_start.ensures
+    (not-false _ c.if-not-is_line_start.false-raw) c.skip_blank_inline-start.ensures c.if-start-source.false
+    c.goes_on.ensures c.if-goes_on.true c.get_text-then-goes_on.ensures
 
 pub returns : goal.returns
 returns c =
-    line-stop c.args.st
-    c.requires.room
-    c.requires.at_in_bounds
-    c.is_line_start.ensures
-    (not-false _ c.if-not-is_line_start.false-raw)
-    c.skip_blank_inline-start.ensures c.if-start-source.false
+    line-stop c.args.st c.requires.room c.requires.at_in_bounds c.is_line_start.ensures
+    (not-false _ c.if-not-is_line_start.false-raw) c.skip_blank_inline-start.ensures c.if-start-source.false
     c.goes_on.ensures c.if-goes_on.false

@@ -22,14 +22,12 @@ loop-end-smaller c = omega arith
 
 pub loop-end-preserved : goal.loop-end-preserved
 loop-end-preserved c =
-    trim-more _ _ _ _ c.requires.1
-    c.loop-end.invariant c.loop-end-test.true
+    trim-more _ _ _ _ c.requires.1 c.loop-end.invariant c.loop-end-test.true
     (sym c.is_trimmed.ensures ∙ c.if-is_trimmed.true)
 
 pub returns-else-is_trimmed : goal.returns-else-is_trimmed
 returns-else-is_trimmed c =
-    trim-stop _ _ _ _ c.requires.1
-    c.loop-end.invariant c.loop-end-test.true
+    trim-stop _ _ _ _ c.requires.1 c.loop-end.invariant c.loop-end-test.true
     (sym c.is_trimmed.ensures ∙ c.if-is_trimmed.false)
 
 pub returns : goal.returns

@@ -28,11 +28,8 @@ is_element-requires c = search rules
 
 pub returns-then-not-is_element : goal.returns-then-not-is_element
 returns-then-not-is_element c =
-    text_out c.args.st
-    c.args.indent
-    c.args.slice
-    c.is_line_start-line.ensures c.is_element.ensures
-    c.crlf_width.ensures c.role_after-role.ensures
+    text_out c.args.st c.args.indent c.args.slice c.is_line_start-line.ensures c.is_element.ensures c.crlf_width.ensures
+    c.role_after-role.ensures
     (not-true _ c.if-not-is_element.true-raw)
 
 pub put_element-n-requires : goal.put_element-n-requires
@@ -43,16 +40,9 @@ shape_of-tree-then-slice c = search rules
 
 pub returns-then-slice : goal.returns-then-slice
 returns-then-slice c =
-    text-blank
-    c.args.st
-    c.args.indent
-    c.args.slice
-    c.is_line_start-line.ensures
-    c.is_element.ensures
-    c.crlf_width.ensures
-    c.role_after-role.ensures
-    (not-false _ c.if-not-is_element.false-raw) c.if-slice.true
-    c.put_element-n.ensures.0 c.put_element-n.ensures.1
+    text-blank c.args.st c.args.indent c.args.slice c.is_line_start-line.ensures c.is_element.ensures
+    c.crlf_width.ensures c.role_after-role.ensures
+    (not-false _ c.if-not-is_element.false-raw) c.if-slice.true c.put_element-n.ensures.0 c.put_element-n.ensures.1
 
 pub least_indent-requires : goal.least_indent-requires
 least_indent-requires c = search rules
@@ -62,14 +52,7 @@ shape_of-tree c = search rules
 
 pub returns : goal.returns
 returns c =
-    text-full
-    c.args.st
-    c.args.indent
-    c.args.slice
-    c.is_line_start-line.ensures
-    c.is_element.ensures
-    c.crlf_width.ensures
-    c.role_after-role.ensures
-    (not-false _ c.if-not-is_element.false-raw) c.if-slice.false
-    c.put_element-n.ensures.0 c.least_indent.ensures
+    text-full c.args.st c.args.indent c.args.slice c.is_line_start-line.ensures c.is_element.ensures
+    c.crlf_width.ensures c.role_after-role.ensures
+    (not-false _ c.if-not-is_element.false-raw) c.if-slice.false c.put_element-n.ensures.0 c.least_indent.ensures
     c.put_element-n.ensures.1

@@ -25,9 +25,7 @@ overflow_add-result c = search rules
 
 pub returns-then-is_escaped : goal.returns-then-is_escaped
 returns-then-is_escaped c =
-    escape-self c.args.source.now
-    c.args.at (omega arith)
-    (by c.is_escaped.ensures c.if-is_escaped.true)
+    escape-self c.args.source.now c.args.at (omega arith) (by c.is_escaped.ensures c.if-is_escaped.true)
 
 pub overflow_add-at : goal.overflow_add-at
 overflow_add-at c = search rules
@@ -37,10 +35,8 @@ skip_unicode_escape_sequence-requires c = search rules
 
 pub returns-then-b-eq117 : goal.returns-then-b-eq117
 returns-then-b-eq117 c =
-    escape-lower c.args.source.now
-    c.args.at (omega arith)
-    (by c.is_escaped.ensures c.if-is_escaped.false) c.if-b-eq117.true
-    c.skip_unicode_escape_sequence.ensures
+    escape-lower c.args.source.now c.args.at (omega arith)
+    (by c.is_escaped.ensures c.if-is_escaped.false) c.if-b-eq117.true c.skip_unicode_escape_sequence.ensures
 
 pub overflow_add-at-then-b-eq85 : goal.overflow_add-at-then-b-eq85
 overflow_add-at-then-b-eq85 c = search rules
@@ -50,17 +46,14 @@ skip_unicode_escape_sequence-requires-then-b-eq85 c = search rules
 
 pub returns-then-b-eq85 : goal.returns-then-b-eq85
 returns-then-b-eq85 c =
-    escape-upper c.args.source.now
-    c.args.at (omega arith)
-    (by c.is_escaped.ensures c.if-is_escaped.false)
-    c.if-b-eq117.false c.if-b-eq85.true c.skip_unicode_escape_sequence-then-b-eq85.ensures
+    escape-upper c.args.source.now c.args.at (omega arith)
+    (by c.is_escaped.ensures c.if-is_escaped.false) c.if-b-eq117.false c.if-b-eq85.true
+    c.skip_unicode_escape_sequence-then-b-eq85.ensures
 
 pub error-requires-2 : goal.error-requires-2
 error-requires-2 c = search rules
 
 pub returns : goal.returns
 returns c =
-    escape-unknown c.args.source.now
-    c.args.at (omega arith)
-    (by c.is_escaped.ensures c.if-is_escaped.false)
-    c.if-b-eq117.false c.if-b-eq85.false c.error-2.ensures
+    escape-unknown c.args.source.now c.args.at (omega arith)
+    (by c.is_escaped.ensures c.if-is_escaped.false) c.if-b-eq117.false c.if-b-eq85.false c.error-2.ensures

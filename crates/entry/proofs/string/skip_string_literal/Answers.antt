@@ -20,10 +20,7 @@ returns-in_default c = found-stop _ _ c.expect_byte-opened.ensures c.in_default.
 
 pub skip_string-text-requires : goal.skip_string-text-requires
 skip_string-text-requires c =
-    record {
-      inside = found_within c.expect_byte-opened.ensures c.in-At.is;
-      short = c.requires.short;
-    }
+    record { inside = found_within c.expect_byte-opened.ensures c.in-At.is; short = c.requires.short }
 
 pub enum_known-text : goal.enum_known-text
 enum_known-text c = search rules
@@ -34,23 +31,16 @@ enum_told-in_default-text c = search rules
 pub returns-in_default-text : goal.returns-in_default-text
 unfolding string_literal ◌>>◌
 returns-in_default-text c =
-    let o =
-    found_at c.expect_byte-opened.ensures
-    c.in-At.is in
+    let o = found_at c.expect_byte-opened.ensures c.in-At.is in
     found-next _ o.is o.place (found-stop _ _ c.skip_string-text.ensures c.in_default-text.is)
 
 pub expect_byte-requires : goal.expect_byte-requires
 expect_byte-requires c =
-    record {
-      inside = found_within c.skip_string-text.ensures c.in-At-text.is;
-      short = c.requires.short;
-    }
+    record { inside = found_within c.skip_string-text.ensures c.in-At-text.is; short = c.requires.short }
 
 pub returns : goal.returns
 unfolding string_literal ◌>>◌
 returns c =
-    let o =
-    found_at c.expect_byte-opened.ensures
-    c.in-At.is in
+    let o = found_at c.expect_byte-opened.ensures c.in-At.is in
     let t = found_at c.skip_string-text.ensures c.in-At-text.is in
     found-next _ o.is o.place (found-next _ t.is t.place c.expect_byte.ensures)

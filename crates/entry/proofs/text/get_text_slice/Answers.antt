@@ -16,19 +16,14 @@ text-requires c = search rules
 
 pub returns-then-end-rest : goal.returns-then-end-rest
 returns-then-end-rest c =
-    rw c.text.ensures
-    (slice-eof (text_of c.skip_blank_inline-spaces.ensures c.skip_text-end.ensures)
-    c.if-end-rest.true)
+    rw c.text.ensures (slice-eof (text_of c.skip_blank_inline-spaces.ensures c.skip_text-end.ensures) c.if-end-rest.true)
 
 pub bounds-rest-end : goal.bounds-rest-end
 bounds-rest-end c = search rules
 
 pub returns-then-b-eq125 : goal.returns-then-b-eq125
 returns-then-b-eq125 c =
-    slice-closing
-    (text_of c.skip_blank_inline-spaces.ensures
-    c.skip_text-end.ensures)
-    (omega arith) c.if-b-eq125.true
+    slice-closing (text_of c.skip_blank_inline-spaces.ensures c.skip_text-end.ensures) (omega arith) c.if-b-eq125.true
 
 pub text-requires-then-b-eq123 : goal.text-requires-then-b-eq123
 text-requires-then-b-eq123 c = search rules
@@ -36,9 +31,7 @@ text-requires-then-b-eq123 c = search rules
 pub returns-then-b-eq123 : goal.returns-then-b-eq123
 returns-then-b-eq123 c =
     rw c.text-then-b-eq123.ensures
-    (slice-opening
-    (text_of c.skip_blank_inline-spaces.ensures
-    c.skip_text-end.ensures)
+    (slice-opening (text_of c.skip_blank_inline-spaces.ensures c.skip_text-end.ensures)
     (omega arith) c.if-b-eq125.false c.if-b-eq123.true)
 
 pub ends_in_cr-requires : goal.ends_in_cr-requires
@@ -53,11 +46,8 @@ text-requires-then-ends_in_cr c = search rules
 pub returns-then-ends_in_cr : goal.returns-then-ends_in_cr
 returns-then-ends_in_cr c =
     rw c.text-then-ends_in_cr.ensures
-    (slice-crlf
-    (text_of c.skip_blank_inline-spaces.ensures
-    c.skip_text-end.ensures)
-    (omega arith) c.if-b-eq125.false c.if-b-eq123.false
-    (by c.ends_in_cr.ensures c.if-ends_in_cr.true))
+    (slice-crlf (text_of c.skip_blank_inline-spaces.ensures c.skip_text-end.ensures)
+    (omega arith) c.if-b-eq125.false c.if-b-eq123.false (by c.ends_in_cr.ensures c.if-ends_in_cr.true))
 
 pub overflow_add-end : goal.overflow_add-end
 overflow_add-end c = search rules
@@ -68,8 +58,5 @@ text-requires-2 c = search rules
 pub returns : goal.returns
 returns c =
     rw c.text-2.ensures
-    (slice-feed
-    (text_of c.skip_blank_inline-spaces.ensures
-    c.skip_text-end.ensures)
-    (omega arith) c.if-b-eq125.false c.if-b-eq123.false
-    (by c.ends_in_cr.ensures c.if-ends_in_cr.false))
+    (slice-feed (text_of c.skip_blank_inline-spaces.ensures c.skip_text-end.ensures)
+    (omega arith) c.if-b-eq125.false c.if-b-eq123.false (by c.ends_in_cr.ensures c.if-ends_in_cr.false))

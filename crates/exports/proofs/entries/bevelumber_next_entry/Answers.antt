@@ -7,9 +7,4 @@ returns c =
     let did = c.next_entry-asked.ensures in
     let told = c.number.ensures ∙ did.answers.number in
     let gave = c.value.ensures ∙ did.answers.value in
-    record {
-      value = told;
-      start_after = gave;
-      stop_after = did.place;
-      next_tree = did.tree;
-    }
+    record { value = told; start_after = gave; stop_after = did.place; next_tree = did.tree }

@@ -34,5 +34,5 @@ returns c =
     let rest = put-after _ _ _ _ (omega (arith, put-length kind)) position last in
     put_as (put_first first.result _ _ (omega arith) kind rest)
     (ap line
-    (error-row c.args.errors.now c.args.i capacity.result _ capacity.ensures refl first.ensures
-    c.word-3.ensures c.word-4.ensures))
+    (error-row c.args.errors.now c.args.i capacity.result _ capacity.ensures refl first.ensures c.word-3.ensures
+    c.word-4.ensures))

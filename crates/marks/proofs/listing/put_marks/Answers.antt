@@ -11,5 +11,4 @@ loop-i-init c = (c.word-n.ensures, (omega arith, put-no-row _ (omega arith)))
 pub loop-i-preserved : goal.loop-i-preserved
 loop-i-preserved c =
     let inv = c.loop-i.invariant in
-    let row = put-row _ _ (omega arith) inv.1.1 c.put_mark-next.ensures in
-    (inv.0, (omega (arith, c.loop-i-test.true), row))
+    let row = put-row _ _ (omega arith) inv.1.1 c.put_mark-next.ensures in (inv.0, (omega (arith, c.loop-i-test.true), row))

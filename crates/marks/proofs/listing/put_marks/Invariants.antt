@@ -8,7 +8,8 @@ use Rattle.marks.specs.Rows.{rows, mark_row}
 use Rattle.marks.proofs.listing.put_marks.Given as goal
 
 abbrev pub invariant-loop-i : goal.invariant-loop-i
-invariant-loop-i l = (l.n ≡ count l.tree) × ((l.i ≤ l.n) × Put l.initial.output l.output l.at l.next (lines (rows (mark_row l.tree) l.i)))
+invariant-loop-i l =
+    (l.n ≡ count l.tree) × ((l.i ≤ l.n) × Put l.initial.output l.output l.at l.next (lines (rows (mark_row l.tree) l.i)))
 
 abbrev pub decreases-loop-i : goal.decreases-loop-i
 decreases-loop-i l = l.n - l.i

@@ -9,5 +9,4 @@ returns c =
     let marks = c.word.ensures in
     let errors = c.word-2.ensures in
     let counts = c.put_pair-counts.ensures in
-    put-reading _ _ (omega arith) marks errors accepted counts
-    c.put_marks-marks.ensures c.put_errors.ensures
+    put-reading _ _ (omega arith) marks errors accepted counts c.put_marks-marks.ensures c.put_errors.ensures

@@ -20,9 +20,7 @@ pub shape_of-output-then-x-lt-BASE : goal.shape_of-output-then-x-lt-BASE
 shape_of-output-then-x-lt-BASE t c = search rules
 
 pub returns-then-x-lt-BASE : goal.returns-then-x-lt-BASE
-returns-then-x-lt-BASE t c =
-    let x = c.args.x in
-    put_as c.put.ensures (sym (decimal-one x c.if-x-lt-BASE.true))
+returns-then-x-lt-BASE t c = let x = c.args.x in put_as c.put.ensures (sym (decimal-one x c.if-x-lt-BASE.true))
 
 pub put_number-next-requires : goal.put_number-next-requires
 put_number-next-requires t c =
@@ -46,5 +44,4 @@ pub returns : goal.returns
 returns t c =
     let several = c.if-x-lt-BASE.false in
     let before = c.put_number-next.ensures in
-    put_as (put_then (omega arith) before c.put-2.ensures)
-    (sym (decimal-last c.args.x several c.ranges.x.fits))
+    put_as (put_then (omega arith) before c.put-2.ensures) (sym (decimal-last c.args.x several c.ranges.x.fits))

@@ -14,6 +14,4 @@ pub shape_of-output : goal.shape_of-output
 shape_of-output c = search rules
 
 pub returns : goal.returns
-returns c =
-    let number = c.put_number-next.ensures in
-    put_then (omega arith) number c.put.ensures
+returns c = let number = c.put_number-next.ensures in put_then (omega arith) number c.put.ensures

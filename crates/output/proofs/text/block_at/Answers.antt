@@ -39,6 +39,5 @@ returns c =
     let start = c.args in
     let t = drop start.at start.item.now in
     let e : loop.i ≡ block = omega arith in
-    loop.invariant.1
-    ∙ ap (λ n. sets (replicate block 0) 0 (take n t)) e
+    loop.invariant.1 ∙ ap (λ n. sets (replicate block 0) 0 (take n t)) e
     ∙ block-all t (omega (arith, length-drop start.at start.item.now))

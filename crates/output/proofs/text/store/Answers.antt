@@ -39,8 +39,7 @@ loop-i-preserved c =
 pub shape_of-output : goal.shape_of-output
 shape_of-output c =
     let start = c.args in
-    let loop = c.loop-i in
-    ap length loop.invariant.1 ∙ length-sets start.output.now start.at (take loop.i start.item.now)
+    let loop = c.loop-i in ap length loop.invariant.1 ∙ length-sets start.output.now start.at (take loop.i start.item.now)
 
 pub returns : goal.returns
 returns c =

@@ -23,8 +23,7 @@ overflow_add-at c = omega arith
 pub slice_bounds-store-end : goal.slice_bounds-store-end
 slice_bounds-store-end c =
     let start = c.args in
-    let loop = c.loop-i in
-    sym (ap length c.block_at-block.ensures ∙ block-length start.item.now loop.i (omega arith))
+    let loop = c.loop-i in sym (ap length c.block_at-block.ensures ∙ block-length start.item.now loop.i (omega arith))
 
 pub store-requires : goal.store-requires
 store-requires c =
@@ -47,8 +46,7 @@ loop-i-preserved c =
       omega arith,
       (
         omega arith,
-        c.store.ensures
-            ∙ ap₂ (λ o b. sets o (start.at + loop.i) b) loop.invariant.1.1 c.block_at-block.ensures
+        c.store.ensures ∙ ap₂ (λ o b. sets o (start.at + loop.i) b) loop.invariant.1.1 c.block_at-block.ensures
             ∙ sets_more start.output.now start.at start.item.now loop.i block (omega arith),
       ),
     )
@@ -61,8 +59,7 @@ overflow_add-at-2 c = omega arith
 
 pub slice_bounds-store-end-2 : goal.slice_bounds-store-end-2
 slice_bounds-store-end-2 c =
-    let t = c.args.item.now in
-    sym (ap length c.block_at-block-2.ensures ∙ block-length t (length t - block) (omega arith))
+    let t = c.args.item.now in sym (ap length c.block_at-block-2.ensures ∙ block-length t (length t - block) (omega arith))
 
 pub store-requires-2 : goal.store-requires-2
 store-requires-2 c =
@@ -80,11 +77,8 @@ returns c =
     let last = length t - block in
     let filled = c.block_at-block-2.ensures in
     let all = take_all block (drop last t) (omega (arith, length-drop last t)) in
-    c.store-2.ensures
-    ∙ ap₂ (λ o b. sets o (start.at + last) b) loop.invariant.1.1 (filled ∙ all)
+    c.store-2.ensures ∙ ap₂ (λ o b. sets o (start.at + last) b) loop.invariant.1.1 (filled ∙ all)
     ∙ sets_over start.output.now start.at last loop.i t (omega arith)
 
 pub shape_of-output : goal.shape_of-output
-shape_of-output c =
-    let start = c.args in
-    ap length (returns c) ∙ length-sets start.output.now start.at start.item.now
+shape_of-output c = let start = c.args in ap length (returns c) ∙ length-sets start.output.now start.at start.item.now

@@ -7,7 +7,8 @@ use Rattle.output.specs.Put.{block}
 use Rattle.output.proofs.text.store_blocks.Given as goal
 
 abbrev pub invariant-loop-i : goal.invariant-loop-i
-invariant-loop-i l = (l.i ≤ length l.item) × ((length l.item ≡ l.last + block) × (l.output ≡ sets l.initial.output l.at (take l.i l.item)))
+invariant-loop-i l =
+    (l.i ≤ length l.item) × ((length l.item ≡ l.last + block) × (l.output ≡ sets l.initial.output l.at (take l.i l.item)))
 
 abbrev pub decreases-loop-i : goal.decreases-loop-i
 decreases-loop-i l = length l.item - l.i

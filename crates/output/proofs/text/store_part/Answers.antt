@@ -9,8 +9,7 @@ use Rattle.output.proofs.text.store_part.Goals as goal
 
 pub returns-then-output-at : goal.returns-then-output-at
 returns-then-output-at c =
-    let start = c.args in
-    sym (sets-past start.output.now start.at start.item.now c.if-output-at.true)
+    let start = c.args in sym (sets-past start.output.now start.at start.item.now c.if-output-at.true)
 
 pub overflow_sub-room : goal.overflow_sub-room
 overflow_sub-room c = search rules

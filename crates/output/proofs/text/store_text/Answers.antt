@@ -6,8 +6,7 @@ use Rattle.output.proofs.text.store_text.Goals as goal
 
 pub returns-then-output-at : goal.returns-then-output-at
 returns-then-output-at c =
-    let start = c.args in
-    sym (sets-past start.output.now start.at start.text.now c.if-output-at.true)
+    let start = c.args in sym (sets-past start.output.now start.at start.text.now c.if-output-at.true)
 
 pub overflow_sub-output : goal.overflow_sub-output
 overflow_sub-output c = search rules

@@ -8,23 +8,16 @@ pub is_ascii_alphabetic-requires : goal.is_ascii_alphabetic-requires
 is_ascii_alphabetic-requires c = search rules
 
 pub returns-then-is_ascii_alphabetic : goal.returns-then-is_ascii_alphabetic
-returns-then-is_ascii_alphabetic c = rw (c.if-fresh.true, by c.is_ascii_alphabetic.ensures c.if-is_ascii_alphabetic.true) c.if-is_ascii_alphabetic.true
+returns-then-is_ascii_alphabetic c =
+    rw (c.if-fresh.true, by c.is_ascii_alphabetic.ensures c.if-is_ascii_alphabetic.true) c.if-is_ascii_alphabetic.true
 
 pub returns-then-b-eq45 : goal.returns-then-b-eq45
 returns-then-b-eq45 c =
-    rw (
-      c.if-fresh.true,
-      by c.is_ascii_alphabetic.ensures c.if-is_ascii_alphabetic.false,
-      eq-eqb _ _ c.if-b-eq45.true,
-    )
+    rw (c.if-fresh.true, by c.is_ascii_alphabetic.ensures c.if-is_ascii_alphabetic.false, eq-eqb _ _ c.if-b-eq45.true)
 
 pub returns-else-b-eq45 : goal.returns-else-b-eq45
 returns-else-b-eq45 c =
-    rw (
-      c.if-fresh.true,
-      by c.is_ascii_alphabetic.ensures c.if-is_ascii_alphabetic.false,
-      ne_eqb _ _ c.if-b-eq45.false,
-    )
+    rw (c.if-fresh.true, by c.is_ascii_alphabetic.ensures c.if-is_ascii_alphabetic.false, ne_eqb _ _ c.if-b-eq45.false)
 
 pub returns-else-fresh : goal.returns-else-fresh
 returns-else-fresh c = search rules

@@ -17,8 +17,7 @@ is_entry_start-requires c = search rules
 
 pub returns-then-is_entry_start : goal.returns-then-is_entry_start
 returns-then-is_entry_start c =
-    seeking-found c.loop-end.invariant c.loop-end-test.true
-    c.is_entry_start.ensures c.if-is_entry_start.true
+    seeking-found c.loop-end.invariant c.loop-end-test.true c.is_entry_start.ensures c.if-is_entry_start.true
 
 pub overflow_add-end : goal.overflow_add-end
 overflow_add-end c = search rules
@@ -28,8 +27,7 @@ loop-end-smaller c = search rules
 
 pub loop-end-preserved : goal.loop-end-preserved
 loop-end-preserved c =
-    seeking-more c.loop-end.invariant c.loop-end-test.true
-    c.is_entry_start.ensures c.if-is_entry_start.false
+    seeking-more c.loop-end.invariant c.loop-end-test.true c.is_entry_start.ensures c.if-is_entry_start.false
 
 pub returns : goal.returns
 returns c = seeking-end c.loop-end.invariant c.loop-end-test.false

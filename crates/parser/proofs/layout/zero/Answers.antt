@@ -26,7 +26,8 @@ loop-i-preserved c =
     let start = c.args in (
       omega arith,
       omega arith,
-      ap (λ r. set r loop.i 0) loop.invariant.2 ∙ zeroed-more start.from loop.i start.slice.now loop.invariant.0 (omega arith),
+      ap (λ r. set r loop.i 0) loop.invariant.2
+          ∙ zeroed-more start.from loop.i start.slice.now loop.invariant.0 (omega arith),
       length-set loop.slice loop.i 0 ∙ loop.invariant.3,
     )
 
@@ -38,5 +39,4 @@ unfolding zeroed
 returns c =
     let loop = c.loop-i in
     let start = c.args in
-    let e : loop.i ≡ start.to = omega arith in
-    loop.invariant.2 ∙ ap (λ k. zeroed start.from k start.slice.now) e
+    let e : loop.i ≡ start.to = omega arith in loop.invariant.2 ∙ ap (λ k. zeroed start.from k start.slice.now) e

@@ -47,32 +47,19 @@ pub overflow_add-group-4 : goal.overflow_add-group-4
 overflow_add-group-4 c = search rules
 
 pub put_pair-requires-3 : goal.put_pair-requires-3
-put_pair-requires-3 c =
-    let k =
-    simp length-set at c.put_pair.ensures.1 in
-    let m = c.put_pair-2.ensures.1 in omega arith
+put_pair-requires-3 c = let k = simp length-set at c.put_pair.ensures.1 in let m = c.put_pair-2.ensures.1 in omega arith
 
 pub overflow_add-result : goal.overflow_add-result
 overflow_add-result c = search rules
 
 pub shape_of-list : goal.shape_of-list
-shape_of-list c =
-    let k =
-    simp length-set at c.put_pair.ensures.1 in
-    c.put_pair-3.ensures.1 ∙ c.put_pair-2.ensures.1
-    ∙ k
+shape_of-list c = let k = simp length-set at c.put_pair.ensures.1 in c.put_pair-3.ensures.1 ∙ c.put_pair-2.ensures.1 ∙ k
 
 pub returns : goal.returns
 returns c =
-    let start =
-    c.args in
+    let start = c.args in
     let e = with_junk start.e start.junk_start start.junk_end in (
       refl,
-      error-written start.cap start.n start.list.now
-          c.requires.spare
-          e _ _ _ _
-          c.kind_words-words.ensures
-          c.put_pair.ensures.0
-          c.put_pair-2.ensures.0
-          c.put_pair-3.ensures.0,
+      error-written start.cap start.n start.list.now c.requires.spare e _ _ _ _ c.kind_words-words.ensures
+          c.put_pair.ensures.0 c.put_pair-2.ensures.0 c.put_pair-3.ensures.0,
     )

@@ -16,21 +16,10 @@ pub shape_of-tree-in-Entry : goal.shape_of-tree-in-Entry
 shape_of-tree-in-Entry c = search rules
 
 pub returns-in-Entry : goal.returns-in-Entry
-returns-in-Entry c =
-    answered _
-    (rw
-    (can-read
-    c.requires) at c.read_entry.ensures)
-    c.in-Entry.is
+returns-in-Entry c = answered _ (rw (can-read c.requires) at c.read_entry.ensures) c.in-Entry.is
 
 pub shape_of-tree-in-Refused : goal.shape_of-tree-in-Refused
 shape_of-tree-in-Refused c = search rules
 
 pub returns-in-Refused : goal.returns-in-Refused
-returns-in-Refused c =
-    absurd
-    (not-refused _
-    (rw
-    (can-read
-    c.requires) at c.read_entry.ensures)
-    c.in-Refused.is)
+returns-in-Refused c = absurd (not-refused _ (rw (can-read c.requires) at c.read_entry.ensures) c.in-Refused.is)

@@ -11,8 +11,7 @@ skip_blank_lines-block-requires c = search rules
 
 pub returns-then-length-start : goal.returns-then-length-start
 returns-then-length-start c =
-    asked-end _ _ c.args.tree.now c.if-length-gt-MAX_LENGTH.false
-    c.skip_blank_lines-block.ensures c.if-length-start.true
+    asked-end _ _ c.args.tree.now c.if-length-gt-MAX_LENGTH.false c.skip_blank_lines-block.ensures c.if-length-start.true
 
 pub overflow_mul-words : goal.overflow_mul-words
 overflow_mul-words c = search rules
@@ -22,9 +21,8 @@ overflow_add-words c = search rules
 
 pub returns-then-tree-words : goal.returns-then-tree-words
 returns-then-tree-words c =
-    asked-short _ _ c.args.tree.now
-    c.if-length-gt-MAX_LENGTH.false c.skip_blank_lines-block.ensures c.if-length-start.false
-    c.if-tree-words.true
+    asked-short _ _ c.args.tree.now c.if-length-gt-MAX_LENGTH.false c.skip_blank_lines-block.ensures
+    c.if-length-start.false c.if-tree-words.true
 
 pub entry_at-requires : goal.entry_at-requires
 entry_at-requires c = search rules
@@ -34,8 +32,5 @@ shape_of-tree c = search rules
 
 pub returns : goal.returns
 returns c =
-    asked_entry _ _ c.args.tree.now
-    c.if-length-gt-MAX_LENGTH.false
-    c.skip_blank_lines-block.ensures
-    c.if-length-start.false c.if-tree-words.false
-    c.entry_at.ensures
+    asked_entry _ _ c.args.tree.now c.if-length-gt-MAX_LENGTH.false c.skip_blank_lines-block.ensures
+    c.if-length-start.false c.if-tree-words.false c.entry_at.ensures

@@ -21,6 +21,4 @@ pub enum_told-in_default : goal.enum_told-in_default
 enum_told-in_default c = search rules
 
 pub returns : goal.returns
-returns c =
-    first-formed _ c.if-length-gt-MAX_LENGTH.false
-    (formed _ [] [] _ c.check.ensures c.in_default.is)
+returns c = first-formed _ c.if-length-gt-MAX_LENGTH.false (formed _ [] [] _ c.check.ensures c.in_default.is)

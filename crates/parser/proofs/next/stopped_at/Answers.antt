@@ -32,9 +32,7 @@ pub returns-in-Comment : goal.returns-in-Comment
 returns-in-Comment c = rw c.in-Comment.is
 
 pub returns-in-Bad : goal.returns-in-Bad
-returns-in-Bad c =
-    rw c.in-Bad.is
-    (ap (Entry c.args.start) c.skip_to_next_entry_start-end.ensures.end)
+returns-in-Bad c = rw c.in-Bad.is (ap (Entry c.args.start) c.skip_to_next_entry_start-end.ensures.end)
 
 pub returns-in-Deep : goal.returns-in-Deep
 returns-in-Deep c = search rules

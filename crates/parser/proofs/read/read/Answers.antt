@@ -13,9 +13,7 @@ pub enum_known-at : goal.enum_known-at
 enum_known-at c = search rules
 
 pub returns-in-IllFormed : goal.returns-in-IllFormed
-returns-in-IllFormed c =
-    not-utf8 _ _ _ c.if-length-gt-MAX_LENGTH.false _ _ c.check.ensures
-    c.in-IllFormed.is
+returns-in-IllFormed c = not-utf8 _ _ _ c.if-length-gt-MAX_LENGTH.false _ _ c.check.ensures c.in-IllFormed.is
 
 pub enum_told-1 : goal.enum_told-1
 enum_told-1 c = search rules
@@ -29,10 +27,7 @@ overflow_add-words c = search rules
 pub returns-then-tree-words : goal.returns-then-tree-words
 returns-then-tree-words c =
     tree-short _ _ _ c.if-length-gt-MAX_LENGTH.false
-    (formed _ c.args.tree.now
-    c.args.errors.now _
-    c.check.ensures c.in_default.is)
-    c.if-tree-words.true
+    (formed _ c.args.tree.now c.args.errors.now _ c.check.ensures c.in_default.is) c.if-tree-words.true
 
 pub overflow_mul-rows : goal.overflow_mul-rows
 overflow_mul-rows c = search rules
@@ -43,10 +38,8 @@ overflow_add-rows c = search rules
 pub returns-then-errors-rows : goal.returns-then-errors-rows
 returns-then-errors-rows c =
     errors-short _ _ _ c.if-length-gt-MAX_LENGTH.false
-    (formed _ c.args.tree.now
-    c.args.errors.now _
-    c.check.ensures c.in_default.is)
-    c.if-tree-words.false c.if-errors-rows.true
+    (formed _ c.args.tree.now c.args.errors.now _ c.check.ensures c.in_default.is) c.if-tree-words.false
+    c.if-errors-rows.true
 
 pub read_into-requires : goal.read_into-requires
 read_into-requires c = search rules
@@ -59,14 +52,6 @@ shape_of-errors c = search rules
 
 pub returns : goal.returns
 returns c =
-    none-short _ _ _
-    c.if-length-gt-MAX_LENGTH.false
-    (formed _
-    c.args.tree.now
-    c.args.errors.now
-    _
-    c.check.ensures
-    c.in_default.is)
-    c.if-tree-words.false _ _ _
-    c.if-errors-rows.false
-    c.read_into.ensures
+    none-short _ _ _ c.if-length-gt-MAX_LENGTH.false
+    (formed _ c.args.tree.now c.args.errors.now _ c.check.ensures c.in_default.is) c.if-tree-words.false _ _ _
+    c.if-errors-rows.false c.read_into.ensures

@@ -18,11 +18,7 @@ overflow_mul-length-in-Counts c = search rules
 
 pub finish-requires : goal.finish-requires
 finish-requires c =
-    let k =
-    counted _ _ _ _ _ _
-    c.requires
-    c.parse.ensures _ _
-    c.in-Counts.is in
+    let k = counted _ _ _ _ _ _ c.requires c.parse.ensures _ _ c.in-Counts.is in
     let l = c.parse.ensures.tree.long in
     let z = c.requires in
     record {
@@ -37,31 +33,14 @@ overflow_mul-length-in-Counts-2 c = search rules
 
 pub overflow_mul-k : goal.overflow_mul-k
 overflow_mul-k c =
-    let k =
-    counted _ _ _ _ _ _
-    c.requires
-    c.parse.ensures
-    _ _
-    c.in-Counts.is in
-    omega (
-      arith,
-      k.errors,
-      k.few,
-      c.requires.short,
-    )
+    let k = counted _ _ _ _ _ _ c.requires c.parse.ensures _ _ c.in-Counts.is in
+    omega (arith, k.errors, k.few, c.requires.short)
 
 pub finish-requires-in-Counts : goal.finish-requires-in-Counts
 finish-requires-in-Counts c =
-    let k =
-    counted _ _ _ _ _ _
-    c.requires
-    c.parse.ensures
-    _ _
-    c.in-Counts.is in
-    let l =
-    c.parse.ensures.errors.long in
-    let z =
-    c.requires in
+    let k = counted _ _ _ _ _ _ c.requires c.parse.ensures _ _ c.in-Counts.is in
+    let l = c.parse.ensures.errors.long in
+    let z = c.requires in
     record {
       held = omega (arith, k.errors, k.few);
       filled = omega (arith, k.errors, k.few);
@@ -98,12 +77,7 @@ shape_of-errors-in-Counts c = search rules
 
 pub returns-in-Counts : goal.returns-in-Counts
 returns-in-Counts c =
-    accepted _ _ _ _ _ _
-    c.requires
-    c.parse.ensures
-    _ _ _ _
-    c.in-Counts.is
-    c.finish.ensures c.finish-in-Counts.ensures
+    accepted _ _ _ _ _ _ c.requires c.parse.ensures _ _ _ _ c.in-Counts.is c.finish.ensures c.finish-in-Counts.ensures
 
 pub shape_of-tree-in-Deep : goal.shape_of-tree-in-Deep
 shape_of-tree-in-Deep c = search rules
@@ -112,10 +86,4 @@ pub shape_of-errors-in-Deep : goal.shape_of-errors-in-Deep
 shape_of-errors-in-Deep c = search rules
 
 pub returns-in-Deep : goal.returns-in-Deep
-returns-in-Deep c =
-    too-deep _ _ _ _ _ _
-    c.requires
-    c.parse.ensures
-    _ _ _
-    c.in-Deep.is
-    c.zero.ensures c.zero-in-Deep.ensures
+returns-in-Deep c = too-deep _ _ _ _ _ _ c.requires c.parse.ensures _ _ _ c.in-Deep.is c.zero.ensures c.zero-in-Deep.ensures

@@ -14,6 +14,5 @@ shape_of-tree c = search rules
 pub returns : goal.returns
 returns c = (
   c.close_entry.ensures.0,
-  rw
-      c.attach_comment.ensures at c.close_entry.ensures.1,
+  rw c.attach_comment.ensures at c.close_entry.ensures.1,
 )

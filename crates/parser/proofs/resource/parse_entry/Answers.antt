@@ -24,43 +24,25 @@ enum_known-end c = search rules
 pub close_named-marks-requires : goal.close_named-marks-requires
 close_named-marks-requires c =
     record {
-      attachable = entry-attachable
-          c.requires.held
-          c.requires.at_in_bounds
-          c.put-opened.ensures.0
-          c.put-opened.ensures.1
-          (got message _ c.get_entry.ensures
-          c.in-Message.is);
-      fits = record {
-        fits =
-            (entry-room
-            c.requires.held
-            c.requires.at_in_bounds
-            c.put-opened.ensures.0
-            c.put-opened.ensures.1
-            (got message _ c.get_entry.ensures
-            c.in-Message.is)).1;
-        layout =
-            omega (
-              arith,
-              entry-long
-                  c.requires.held
-                  c.requires.at_in_bounds
-                  c.put-opened.ensures.0
-                  c.put-opened.ensures.1
-                  (got message _ c.get_entry.ensures
-                  c.in-Message.is),
-              c.requires.held.sized.tree,
-            );
-      };
+      attachable =
+          entry-attachable c.requires.held c.requires.at_in_bounds c.put-opened.ensures.0 c.put-opened.ensures.1
+          (got message _ c.get_entry.ensures c.in-Message.is);
+      fits =
+          record {
+            fits =
+                (entry-room c.requires.held c.requires.at_in_bounds c.put-opened.ensures.0 c.put-opened.ensures.1
+                (got message _ c.get_entry.ensures c.in-Message.is)).1;
+            layout =
+                omega (
+                  arith,
+                  entry-long c.requires.held c.requires.at_in_bounds c.put-opened.ensures.0 c.put-opened.ensures.1
+                      (got message _ c.get_entry.ensures c.in-Message.is),
+                  c.requires.held.sized.tree,
+                );
+          };
       marks_lt_m = (
-        (entry-room
-            c.requires.held
-            c.requires.at_in_bounds
-            c.put-opened.ensures.0
-            c.put-opened.ensures.1
-            (got message _ c.get_entry.ensures
-            c.in-Message.is)).0,
+        (entry-room c.requires.held c.requires.at_in_bounds c.put-opened.ensures.0 c.put-opened.ensures.1
+            (got message _ c.get_entry.ensures c.in-Message.is)).0,
         omega arith,
       );
     }
@@ -74,43 +56,25 @@ enum_known-end-in-Term-1 c = search rules
 pub close_named-marks-requires-in-Term : goal.close_named-marks-requires-in-Term
 close_named-marks-requires-in-Term c =
     record {
-      attachable = entry-attachable
-          c.requires.held
-          c.requires.at_in_bounds
-          c.put-opened.ensures.0
-          c.put-opened.ensures.1
-          (got term _ c.get_entry.ensures
-          c.in-Term.is);
-      fits = record {
-        fits =
-            (entry-room
-            c.requires.held
-            c.requires.at_in_bounds
-            c.put-opened.ensures.0
-            c.put-opened.ensures.1
-            (got term _ c.get_entry.ensures
-            c.in-Term.is)).1;
-        layout =
-            omega (
-              arith,
-              entry-long
-                  c.requires.held
-                  c.requires.at_in_bounds
-                  c.put-opened.ensures.0
-                  c.put-opened.ensures.1
-                  (got term _ c.get_entry.ensures
-                  c.in-Term.is),
-              c.requires.held.sized.tree,
-            );
-      };
+      attachable =
+          entry-attachable c.requires.held c.requires.at_in_bounds c.put-opened.ensures.0 c.put-opened.ensures.1
+          (got term _ c.get_entry.ensures c.in-Term.is);
+      fits =
+          record {
+            fits =
+                (entry-room c.requires.held c.requires.at_in_bounds c.put-opened.ensures.0 c.put-opened.ensures.1
+                (got term _ c.get_entry.ensures c.in-Term.is)).1;
+            layout =
+                omega (
+                  arith,
+                  entry-long c.requires.held c.requires.at_in_bounds c.put-opened.ensures.0 c.put-opened.ensures.1
+                      (got term _ c.get_entry.ensures c.in-Term.is),
+                  c.requires.held.sized.tree,
+                );
+          };
       marks_lt_m = (
-        (entry-room
-            c.requires.held
-            c.requires.at_in_bounds
-            c.put-opened.ensures.0
-            c.put-opened.ensures.1
-            (got term _ c.get_entry.ensures
-            c.in-Term.is)).0,
+        (entry-room c.requires.held c.requires.at_in_bounds c.put-opened.ensures.0 c.put-opened.ensures.1
+            (got term _ c.get_entry.ensures c.in-Term.is)).0,
         omega arith,
       );
     }
@@ -127,67 +91,39 @@ last_comment-comment-requires c = search rules
 pub overflow_cast-level : goal.overflow_cast-level
 overflow_cast-level c =
     let q =
-    entry-small
-    c.requires.held
-    c.requires.at_in_bounds
-    c.put-opened.ensures.0
-    c.put-opened.ensures.1
-    (got (comment _) _ c.get_entry.ensures
-    c.in-Comment.is) in
+    entry-small c.requires.held c.requires.at_in_bounds c.put-opened.ensures.0 c.put-opened.ensures.1
+    (got (comment _) _ c.get_entry.ensures c.in-Comment.is) in
     omega (arith, q.1)
 
 pub overflow_add-level : goal.overflow_add-level
 overflow_add-level c =
     let q =
-    entry-small
-    c.requires.held
-    c.requires.at_in_bounds
-    c.put-opened.ensures.0
-    c.put-opened.ensures.1
-    (got (comment _) _ c.get_entry.ensures
-    c.in-Comment.is) in
+    entry-small c.requires.held c.requires.at_in_bounds c.put-opened.ensures.0 c.put-opened.ensures.1
+    (got (comment _) _ c.get_entry.ensures c.in-Comment.is) in
     omega (arith, q.1)
 
 pub close_entry-marks-requires : goal.close_entry-marks-requires
 close_entry-marks-requires c =
     let q =
-    entry-small
-    c.requires.held
-    c.requires.at_in_bounds
-    c.put-opened.ensures.0
-    c.put-opened.ensures.1
-    (got (comment _) _ c.get_entry.ensures
-    c.in-Comment.is) in record {
-      fits = record {
-        fits =
-            (entry-room
-            c.requires.held
-            c.requires.at_in_bounds
-            c.put-opened.ensures.0
-            c.put-opened.ensures.1
-            (got (comment _) _ c.get_entry.ensures
-            c.in-Comment.is)).1;
-        layout =
-            omega (
-              arith,
-              entry-long
-                  c.requires.held
-                  c.requires.at_in_bounds
-                  c.put-opened.ensures.0
-                  c.put-opened.ensures.1
-                  (got (comment _) _ c.get_entry.ensures
-                  c.in-Comment.is),
-              c.requires.held.sized.tree,
-            );
-      };
+    entry-small c.requires.held c.requires.at_in_bounds c.put-opened.ensures.0 c.put-opened.ensures.1
+    (got (comment _) _ c.get_entry.ensures c.in-Comment.is) in
+    record {
+      fits =
+          record {
+            fits =
+                (entry-room c.requires.held c.requires.at_in_bounds c.put-opened.ensures.0 c.put-opened.ensures.1
+                (got (comment _) _ c.get_entry.ensures c.in-Comment.is)).1;
+            layout =
+                omega (
+                  arith,
+                  entry-long c.requires.held c.requires.at_in_bounds c.put-opened.ensures.0 c.put-opened.ensures.1
+                      (got (comment _) _ c.get_entry.ensures c.in-Comment.is),
+                  c.requires.held.sized.tree,
+                );
+          };
       n_lt_m = (
-        (entry-room
-            c.requires.held
-            c.requires.at_in_bounds
-            c.put-opened.ensures.0
-            c.put-opened.ensures.1
-            (got (comment _) _ c.get_entry.ensures
-            c.in-Comment.is)).0,
+        (entry-room c.requires.held c.requires.at_in_bounds c.put-opened.ensures.0 c.put-opened.ensures.1
+            (got (comment _) _ c.get_entry.ensures c.in-Comment.is)).0,
         omega (arith, q.1),
       );
     }
@@ -203,39 +139,22 @@ put_junk-requires c =
     record {
       sized =
           record {
-            short =
-                c.requires.held.sized.short;
+            short = c.requires.held.sized.short;
             tree =
                 omega (
                   arith,
-                  lost-long
-                      c.requires.held
-                      c.requires.at_in_bounds
-                      c.put-opened.ensures.0
-                      c.put-opened.ensures.1
-                      (failed-wrote c.get_entry.ensures)
-                      (lost clear-entrying _ c.get_entry.ensures
-                      c.in-Bad.is),
+                  lost-long c.requires.held c.requires.at_in_bounds c.put-opened.ensures.0 c.put-opened.ensures.1
+                      (failed-wrote c.get_entry.ensures) (lost clear-entrying _ c.get_entry.ensures c.in-Bad.is),
                   c.requires.held.sized.tree,
                 );
-            errors =
-                c.requires.held.sized.errors;
+            errors = c.requires.held.sized.errors;
           };
       inside =
-          lost-inside
-          c.requires.held
-          c.requires.at_in_bounds
-          c.put-opened.ensures.0
-          c.put-opened.ensures.1
-          (failed-wrote c.get_entry.ensures)
-          (lost clear-entrying _ c.get_entry.ensures
-          c.in-Bad.is);
-      here =
-          c.requires.at_in_bounds;
-      marks =
-          c.requires.held.room;
-      errors =
-          c.requires.held.few;
+          lost-inside c.requires.held c.requires.at_in_bounds c.put-opened.ensures.0 c.put-opened.ensures.1
+          (failed-wrote c.get_entry.ensures) (lost clear-entrying _ c.get_entry.ensures c.in-Bad.is);
+      here = c.requires.at_in_bounds;
+      marks = c.requires.held.room;
+      errors = c.requires.held.few;
     }
 
 pub enum_known-k : goal.enum_known-k
@@ -247,16 +166,9 @@ shape_of-tree-in-Message c = search rules
 pub returns-in-Message : goal.returns-in-Message
 unfolding is_named kind_of_entry
 returns-in-Message c =
-    held-named
-    c.requires.held
-    c.requires.at_in_bounds
-    c.put-opened.ensures.0
-    c.put-opened.ensures.1
-    (got message _
-    c.get_entry.ensures
-    c.in-Message.is)
-    c.close_named-marks.ensures.0 c.go_on.ensures 1 refl refl (λ b. refl)
-    c.close_named-marks.ensures.1
+    held-named c.requires.held c.requires.at_in_bounds c.put-opened.ensures.0 c.put-opened.ensures.1
+    (got message _ c.get_entry.ensures c.in-Message.is) c.close_named-marks.ensures.0 c.go_on.ensures 1 refl refl
+    (λ b. refl) c.close_named-marks.ensures.1
 
 pub shape_of-tree-in-Term : goal.shape_of-tree-in-Term
 shape_of-tree-in-Term c = search rules
@@ -264,32 +176,20 @@ shape_of-tree-in-Term c = search rules
 pub returns-in-Term : goal.returns-in-Term
 unfolding is_named kind_of_entry
 returns-in-Term c =
-    held-named
-    c.requires.held
-    c.requires.at_in_bounds
-    c.put-opened.ensures.0
-    c.put-opened.ensures.1
-    (got term _ c.get_entry.ensures
-    c.in-Term.is)
-    c.close_named-marks-in-Term.ensures.0 c.go_on-in-Term.ensures 2 refl refl (λ b. refl)
-    c.close_named-marks-in-Term.ensures.1
+    held-named c.requires.held c.requires.at_in_bounds c.put-opened.ensures.0 c.put-opened.ensures.1
+    (got term _ c.get_entry.ensures c.in-Term.is) c.close_named-marks-in-Term.ensures.0 c.go_on-in-Term.ensures 2
+    refl refl
+    (λ b. refl) c.close_named-marks-in-Term.ensures.1
 
 pub shape_of-tree-in-Comment : goal.shape_of-tree-in-Comment
 shape_of-tree-in-Comment c = search rules
 
 pub returns-in-Comment : goal.returns-in-Comment
 returns-in-Comment c =
-    held-comment
-    c.requires.held
-    c.requires.at_in_bounds
-    c.put-opened.ensures.0
-    c.put-opened.ensures.1
-    (got (comment _) _
-    c.get_entry.ensures
-    c.in-Comment.is)
-    c.close_entry-marks.ensures.0 c.go_on-in-Comment.ensures _ refl
-    c.last_comment-comment.ensures
-    c.close_entry-marks.ensures.1
+    held-comment c.requires.held c.requires.at_in_bounds c.put-opened.ensures.0 c.put-opened.ensures.1
+    (got
+    (comment _) _ c.get_entry.ensures c.in-Comment.is) c.close_entry-marks.ensures.0 c.go_on-in-Comment.ensures _
+    refl c.last_comment-comment.ensures c.close_entry-marks.ensures.1
 
 pub shape_of-tree-in-Bad : goal.shape_of-tree-in-Bad
 shape_of-tree-in-Bad c = search rules
@@ -299,27 +199,13 @@ shape_of-errors c = search rules
 
 pub returns-in-Bad : goal.returns-in-Bad
 returns-in-Bad c =
-    held-junk
-    c.requires.held
-    c.requires.at_in_bounds
-    c.put-opened.ensures.0
-    c.put-opened.ensures.1
-    (failed-wrote
-    c.get_entry.ensures)
-    (lost clear-entrying _
-    c.get_entry.ensures
-    c.in-Bad.is)
-    c.put_junk.ensures
+    held-junk c.requires.held c.requires.at_in_bounds c.put-opened.ensures.0 c.put-opened.ensures.1
+    (failed-wrote c.get_entry.ensures) (lost clear-entrying _ c.get_entry.ensures c.in-Bad.is) c.put_junk.ensures
 
 pub shape_of-tree-in-Deep : goal.shape_of-tree-in-Deep
 shape_of-tree-in-Deep c = search rules
 
 pub returns-in-Deep : goal.returns-in-Deep
 returns-in-Deep c =
-    held-far
-    c.requires.held
-    c.requires.at_in_bounds
-    c.put-opened.ensures.0
-    c.put-opened.ensures.1
-    (failed-wrote c.get_entry.ensures)
-    (far clear-entrying _ c.get_entry.ensures c.in-Deep.is)
+    held-far c.requires.held c.requires.at_in_bounds c.put-opened.ensures.0 c.put-opened.ensures.1
+    (failed-wrote c.get_entry.ensures) (far clear-entrying _ c.get_entry.ensures c.in-Deep.is)

@@ -32,11 +32,5 @@ shape_of-errors c = search rules
 
 pub returns : goal.returns
 returns c =
-    junked
-    c.skip_to_next_entry_start-end.ensures
-    c.put-opened.ensures.1
-    c.put-opened.ensures.0
-    c.put-marks.ensures.1
-    c.put-marks.ensures.0
-    c.put_error-count.ensures.1
-    c.put_error-count.ensures.0 c.go_on.ensures
+    junked c.skip_to_next_entry_start-end.ensures c.put-opened.ensures.1 c.put-opened.ensures.0 c.put-marks.ensures.1
+    c.put-marks.ensures.0 c.put_error-count.ensures.1 c.put_error-count.ensures.0 c.go_on.ensures

@@ -24,28 +24,18 @@ new-requires c = search rules
 pub loop-serializer-init : goal.loop-serializer-init
 loop-serializer-init c =
     rw c.new.ensures
-    (entries-first c.args.source.now
-    c.args.tree.now
-    c.args.with_junk
-    c.args.output.now
-    c.requires.accepted c.requires.room)
+    (entries-first c.args.source.now c.args.tree.now c.args.with_junk c.args.output.now c.requires.accepted
+    c.requires.room)
 
 pub kind_at-kind-requires : goal.kind_at-kind-requires
 unfolding count
-kind_at-kind-requires c =
-    record {
-      fit = c.requires.fit;
-      mark_bound = c.loop-serializer-test.true;
-    }
+kind_at-kind-requires c = record { fit = c.requires.fit; mark_bound = c.loop-serializer-test.true }
 
 pub serialize_entry-next-requires : goal.serialize_entry-next-requires
 unfolding count
 serialize_entry-next-requires c =
-    (entry_next c.args.source.now
-    c.args.tree.now
-    c.args.with_junk
-    c.requires.fit
-    c.loop-serializer.invariant c.loop-serializer-test.true).ready
+    (entry_next c.args.source.now c.args.tree.now c.args.with_junk c.requires.fit c.loop-serializer.invariant
+    c.loop-serializer-test.true).ready
 
 pub copied-requires : goal.copied-requires
 copied-requires c = search rules
@@ -55,46 +45,27 @@ wrote_by-wrote_non_junk_entry-requires c = search rules
 
 pub loop-serializer-smaller : goal.loop-serializer-smaller
 unfolding count after
-loop-serializer-smaller c =
-    omega (
-      arith,
-      c.serialize_entry-next.ensures.next,
-      c.loop-serializer-test.true,
-    )
+loop-serializer-smaller c = omega (arith, c.serialize_entry-next.ensures.next, c.loop-serializer-test.true)
 
 pub loop-serializer-preserved : goal.loop-serializer-preserved
 unfolding count
 loop-serializer-preserved c =
     rw c.copied.ensures
-    ((entry_next
-    c.args.source.now
-    c.args.tree.now
-    c.args.with_junk
-    c.requires.fit
-    c.loop-serializer.invariant
-    c.loop-serializer-test.true).on _
-    c.serialize_entry-next.ensures
+    ((entry_next c.args.source.now c.args.tree.now c.args.with_junk c.requires.fit c.loop-serializer.invariant
+    c.loop-serializer-test.true).on
+    _ c.serialize_entry-next.ensures
     (c.wrote_by-wrote_non_junk_entry.ensures
-    ∙ ap
-    (λ k. wrote_by []
-    c.loop-serializer.wrote_non_junk_entry k)
-    c.kind_at-kind.ensures))
+    ∙ ap (λ k. wrote_by [] c.loop-serializer.wrote_non_junk_entry k) c.kind_at-kind.ensures))
 
 pub shape_of-output : goal.shape_of-output
 unfolding count
 shape_of-output c =
     wrote-length
-    (entries-done c.args.source.now
-    c.args.tree.now
-    c.args.with_junk
-    c.requires.fit
-    c.loop-serializer.invariant (omega (arith, c.loop-serializer-test.false)))
+    (entries-done c.args.source.now c.args.tree.now c.args.with_junk c.requires.fit c.loop-serializer.invariant
+    (omega (arith, c.loop-serializer-test.false)))
 
 pub returns : goal.returns
 unfolding count
 returns c =
-    entries-done c.args.source.now
-    c.args.tree.now
-    c.args.with_junk
-    c.requires.fit
-    c.loop-serializer.invariant (omega (arith, c.loop-serializer-test.false))
+    entries-done c.args.source.now c.args.tree.now c.args.with_junk c.requires.fit c.loop-serializer.invariant
+    (omega (arith, c.loop-serializer-test.false))

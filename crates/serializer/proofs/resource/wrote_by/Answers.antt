@@ -14,4 +14,9 @@ returns-in-6 c = rw c.in-6.is
 
 pub returns-in_default : goal.returns-in_default
 unfolding wrote_by
-returns-in_default c = rw (ne_eqb _ Kind.junk c.in_default.in_default-own.rest.0.1, wrote_by, ne_eqb _ Kind.attached_comment c.in_default.in_default-own.rest.1)
+returns-in_default c =
+    rw (
+      ne_eqb _ Kind.junk c.in_default.in_default-own.rest.0.1,
+      wrote_by,
+      ne_eqb _ Kind.attached_comment c.in_default.in_default-own.rest.1,
+    )

@@ -25,9 +25,7 @@ has_newline_at-requires c = omega arith
 
 pub returns-then-has_newline_at : goal.returns-then-has_newline_at
 returns-then-has_newline_at c =
-    sym
-    (newline-within c.args.text.now
-    c.loop-at.at (sym c.has_newline_at.ensures ∙ c.if-has_newline_at.true))
+    sym (newline-within c.args.text.now c.loop-at.at (sym c.has_newline_at.ensures ∙ c.if-has_newline_at.true))
 
 pub overflow_add-at : goal.overflow_add-at
 overflow_add-at c = omega arith
@@ -40,8 +38,7 @@ loop-at-preserved c = (
   omega arith,
   (
     omega arith,
-    newline-past c.args.text.now
-        c.loop-at.at c.loop-at.invariant.1.1
+    newline-past c.args.text.now c.loop-at.at c.loop-at.invariant.1.1
         (sym c.has_newline_at.ensures ∙ c.if-has_newline_at.false),
   ),
 )
@@ -53,5 +50,4 @@ pub returns : goal.returns
 returns c =
     let t = c.args.text.now in
     c.has_newline_at-2.ensures
-    ∙ newline-last t c.loop-at.at (length t - 16) (omega arith) (omega arith)
-    c.loop-at.invariant.1.1
+    ∙ newline-last t c.loop-at.at (length t - 16) (omega arith) (omega arith) c.loop-at.invariant.1.1

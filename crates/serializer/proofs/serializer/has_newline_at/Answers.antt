@@ -31,8 +31,7 @@ pub loop-i-preserved : goal.loop-i-preserved
 loop-i-preserved c =
     let start = c.args in (
       omega arith,
-      ap (λ (v : Bool). v || eqb (get_or start.text.now (start.at + c.loop-i.i) 0) Byte.line_feed)
-          c.loop-i.invariant.1
+      ap (λ (v : Bool). v || eqb (get_or start.text.now (start.at + c.loop-i.i) 0) Byte.line_feed) c.loop-i.invariant.1
           ∙ sym (newline-more start.text.now start.at c.loop-i.i (omega arith)),
     )
 

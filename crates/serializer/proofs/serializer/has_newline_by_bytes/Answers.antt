@@ -13,9 +13,7 @@ bounds-text-i c = omega arith
 
 pub returns-then-text-i-eq10 : goal.returns-then-text-i-eq10
 returns-then-text-i-eq10 c =
-    sym
-    (c.loop-i.invariant.1
-    ∙ newline-off _ _ c.loop-i-test.true (eq-eqb _ _ c.if-text-i-eq10.true))
+    sym (c.loop-i.invariant.1 ∙ newline-off _ _ c.loop-i-test.true (eq-eqb _ _ c.if-text-i-eq10.true))
 
 pub overflow_add-i : goal.overflow_add-i
 overflow_add-i c = omega arith
@@ -26,8 +24,7 @@ loop-i-smaller c = omega arith
 pub loop-i-preserved : goal.loop-i-preserved
 loop-i-preserved c = (
   omega arith,
-  c.loop-i.invariant.1
-      ∙ newline-on _ _ c.loop-i-test.true (ne_eqb _ _ c.if-text-i-eq10.false),
+  c.loop-i.invariant.1 ∙ newline-on _ _ c.loop-i-test.true (ne_eqb _ _ c.if-text-i-eq10.false),
 )
 
 pub returns : goal.returns

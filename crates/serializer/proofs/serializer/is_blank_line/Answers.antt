@@ -18,8 +18,7 @@ pub returns-then-not-matches_fluent_ws : goal.returns-then-not-matches_fluent_ws
 returns-then-not-matches_fluent_ws c =
     sym
     (c.loop-i.invariant.1
-    ∙ blank-off _ _ c.loop-i-test.true
-    (sym c.matches_fluent_ws.ensures ∙ c.if-not-matches_fluent_ws.true))
+    ∙ blank-off _ _ c.loop-i-test.true (sym c.matches_fluent_ws.ensures ∙ c.if-not-matches_fluent_ws.true))
 
 pub overflow_add-i : goal.overflow_add-i
 overflow_add-i c = omega arith
@@ -31,8 +30,7 @@ pub loop-i-preserved : goal.loop-i-preserved
 loop-i-preserved c = (
   omega arith,
   c.loop-i.invariant.1
-      ∙ blank-on _ _ c.loop-i-test.true
-      (sym c.matches_fluent_ws.ensures ∙ c.if-not-matches_fluent_ws.false),
+      ∙ blank-on _ _ c.loop-i-test.true (sym c.matches_fluent_ws.ensures ∙ c.if-not-matches_fluent_ws.false),
 )
 
 pub returns : goal.returns

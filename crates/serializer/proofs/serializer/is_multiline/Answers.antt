@@ -16,8 +16,7 @@ overflow_add-next c =
     omega (
       arith,
       sizes c.args.tree.now c.requires.fit,
-      at_count c.args.tree.now
-          (sizes c.args.tree.now c.requires.fit) c.requires.at,
+      at_count c.args.tree.now (sizes c.args.tree.now c.requires.fit) c.requires.at,
     )
 
 pub loop-mark-init : goal.loop-mark-init
@@ -32,46 +31,37 @@ pub kind_at-requires : goal.kind_at-requires
 kind_at-requires c =
     record {
       fit = c.requires.fit;
-      mark_bound = inside-count c.args.tree.now
-          (sizes c.args.tree.now c.requires.fit) c.loop-mark.invariant.0.here;
+      mark_bound = inside-count c.args.tree.now (sizes c.args.tree.now c.requires.fit) c.loop-mark.invariant.0.here;
     }
 
 pub is_multiline_element-requires : goal.is_multiline_element-requires
 is_multiline_element-requires c =
     record {
       fit = c.requires.fit;
-      one_at = (element-next c.loop-mark.invariant.0
-          (omega (arith, c.kind_at.ensures, c.loop-mark-test.true))).follows.child;
+      one_at =
+          (element-next c.loop-mark.invariant.0 (omega (arith, c.kind_at.ensures, c.loop-mark-test.true))).follows.child;
     }
 
 pub returns-then-is_multiline_element : goal.returns-then-is_multiline_element
 returns-then-is_multiline_element c =
     sym
     (c.loop-mark.invariant.1
-    ∙ multiline-first c.loop-mark.invariant.0
-    c.args.source.now
+    ∙ multiline-first c.loop-mark.invariant.0 c.args.source.now
     (omega (arith, c.kind_at.ensures, c.loop-mark-test.true))
     (sym c.is_multiline_element.ensures ∙ c.if-is_multiline_element.true))
 
 pub after_element-next-requires : goal.after_element-next-requires
 after_element-next-requires c =
     let e =
-    (element-next c.loop-mark.invariant.0
-    (omega (arith, c.kind_at.ensures, c.loop-mark-test.true))).follows.child in record {
-      fit = c.requires.fit;
-      node_at = record { boundary = _; kind = e.kind; at = e.at };
-    }
+    (element-next c.loop-mark.invariant.0 (omega (arith, c.kind_at.ensures, c.loop-mark-test.true))).follows.child in
+    record { fit = c.requires.fit; node_at = record { boundary = _; kind = e.kind; at = e.at } }
 
 pub loop-mark-smaller : goal.loop-mark-smaller
 unfolding after
 loop-mark-smaller c =
     let tree = c.args.tree.now in
     let fit = sizes tree c.requires.fit in
-    omega (
-      arith,
-      inside-count tree fit c.loop-mark.invariant.0.here,
-      c.after_element-next.ensures,
-    )
+    omega (arith, inside-count tree fit c.loop-mark.invariant.0.here, c.after_element-next.ensures)
 
 pub loop-mark-preserved : goal.loop-mark-preserved
 loop-mark-preserved c =

@@ -10,8 +10,10 @@ use Rattle.tree.specs.Walk.{node_at, inner_at, Open}
 use Rattle.serializer.proofs.serializer.is_multiline.Given as goal
 
 abbrev pub invariant-loop-mark : goal.invariant-loop-mark
-invariant-loop-mark l = Open (is_boundary l.source) (marks_in l.tree) l.next Kind.pattern start
-    × (is_multiline l.source (nodes (node_at (marks_in l.tree) l.mark).inner) ≡ is_multiline l.source (nodes (inner_at (marks_in l.tree) l.next)))
+invariant-loop-mark l =
+    Open (is_boundary l.source) (marks_in l.tree) l.next Kind.pattern start
+    × (is_multiline l.source (nodes (node_at (marks_in l.tree) l.mark).inner)
+    ≡ is_multiline l.source (nodes (inner_at (marks_in l.tree) l.next)))
 
 abbrev pub decreases-loop-mark : goal.decreases-loop-mark
 decreases-loop-mark l = count l.tree - l.next

@@ -13,10 +13,8 @@ use Rattle.serializer.proofs.serializer.is_multiline_element.Goals as goal
 
 pub kind_at-requires : goal.kind_at-requires
 kind_at-requires c =
-    let t = c.args.tree.now in record {
-      fit = c.requires.fit;
-      mark_bound = at_count t (sizes t c.requires.fit) c.requires.one_at.at;
-    }
+    let t = c.args.tree.now in
+    record { fit = c.requires.fit; mark_bound = at_count t (sizes t c.requires.fit) c.requires.one_at.at }
 
 pub text_at-text-requires : goal.text_at-text-requires
 text_at-text-requires c =
@@ -35,28 +33,23 @@ returns-then-kind_at-eq-TEXT c =
 
 pub overflow_add-inner : goal.overflow_add-inner
 overflow_add-inner c =
-    let t = c.args.tree.now in
-    let fit = sizes t c.requires.fit in
-    omega (arith, fit, at_count t fit c.requires.one_at.at)
+    let t = c.args.tree.now in let fit = sizes t c.requires.fit in omega (arith, fit, at_count t fit c.requires.one_at.at)
 
 pub kind_at-requires-2 : goal.kind_at-requires-2
 kind_at-requires-2 c =
     let t = c.args.tree.now in
-    let placed = multiline-placeable c.requires.one_at (λ e. c.if-kind_at-eq-TEXT.false (c.kind_at.ensures ∙ e)) in record {
-      fit = c.requires.fit;
-      mark_bound = at_count t (sizes t c.requires.fit) placed.there.at;
-    }
+    let placed = multiline-placeable c.requires.one_at (λ e. c.if-kind_at-eq-TEXT.false (c.kind_at.ensures ∙ e)) in
+    record { fit = c.requires.fit; mark_bound = at_count t (sizes t c.requires.fit) placed.there.at }
 
 pub overflow_add-inner-in-13 : goal.overflow_add-inner-in-13
 overflow_add-inner-in-13 c =
-    let t = c.args.tree.now in
-    let fit = sizes t c.requires.fit in
-    omega (arith, fit, at_count t fit c.requires.one_at.at)
+    let t = c.args.tree.now in let fit = sizes t c.requires.fit in omega (arith, fit, at_count t fit c.requires.one_at.at)
 
 pub is_select_expr-requires : goal.is_select_expr-requires
 is_select_expr-requires c =
     let placed = multiline-placeable c.requires.one_at (λ e. c.if-kind_at-eq-TEXT.false (c.kind_at.ensures ∙ e)) in
-    let a = placed.there.at in record {
+    let a = placed.there.at in
+    record {
       fit = c.requires.fit;
       node_at = (select-within a (sym (at-kind a) ∙ sym c.kind_at-2.ensures ∙ c.in-13.is)).there;
     }
@@ -72,8 +65,7 @@ returns-in-13 c =
     let placed = multiline-placeable c.requires.one_at (λ e. c.if-kind_at-eq-TEXT.false (c.kind_at.ensures ∙ e)) in
     let a = placed.there.at in
     let within = select-within a (sym (at-kind a) ∙ sym c.kind_at-2.ensures ∙ c.in-13.is) in
-    placed.same c.args.source.now c.is_select_expr.result
-    (within.same c.is_select_expr.result c.is_select_expr.ensures)
+    placed.same c.args.source.now c.is_select_expr.result (within.same c.is_select_expr.result c.is_select_expr.ensures)
 
 pub returns-in_default : goal.returns-in_default
 returns-in_default c =
@@ -81,4 +73,5 @@ returns-in_default c =
     let a = placed.there.at in
     let k = c.kind_at-2.ensures ∙ at-kind a in
     placed.same c.args.source.now false
-    (select-other a (λ e. c.in_default.in_default-own.rest.0.1 (k ∙ e)) (λ e. c.in_default.in_default-own.rest.1 (k ∙ e)))
+    (select-other a (λ e. c.in_default.in_default-own.rest.0.1 (k ∙ e))
+    (λ e. c.in_default.in_default-own.rest.1 (k ∙ e)))

@@ -6,11 +6,7 @@ use Rattle.serializer.proofs.serializer.mark_default.Goals as goal
 
 pub star-requires : goal.star-requires
 unfolding if
-star-requires c =
-    record {
-      le_indent = c.requires.le_indent;
-      room = rw c.if-default.true at c.requires.room;
-    }
+star-requires c = record { le_indent = c.requires.le_indent; room = rw c.if-default.true at c.requires.room }
 
 pub shape_of-output : goal.shape_of-output
 shape_of-output c = search rules

@@ -23,4 +23,5 @@ pub returns-in-24 : goal.returns-in-24
 returns-in-24 c = rw (c.in-24.is, sigil-term) c.write_literal-in-24.ensures
 
 pub returns-in_default : goal.returns-in_default
-returns-in_default c = rw (sigil-none _ c.in_default.in_default-own.rest.0.1 c.in_default.in_default-own.rest.1) wrote_nothing
+returns-in_default c =
+    rw (sigil-none _ c.in_default.in_default-own.rest.0.1 c.in_default.in_default-own.rest.1) wrote_nothing

@@ -16,6 +16,4 @@ bounds-tree-mark c = omega (arith, sizes c.args.tree.now c.requires.fit, c.requi
 
 pub returns : goal.returns
 unfolding kind_in
-returns c =
-    let a = c.args in
-    kind-word a.tree.now (sizes a.tree.now c.requires.fit) a.mark c.requires.mark_bound
+returns c = let a = c.args in kind-word a.tree.now (sizes a.tree.now c.requires.fit) a.mark c.requires.mark_bound

@@ -11,11 +11,7 @@ slice_bounds-serialize_resource-end-2 c = search rules
 
 pub serialize_resource-counted-requires : goal.serialize_resource-counted-requires
 serialize_resource-counted-requires c =
-    let ready = c.requires in record {
-      fit = ready.sizes;
-      accepted = ready.shape;
-      room = roomy _ _ _ ready;
-    }
+    let ready = c.requires in record { fit = ready.sizes; accepted = ready.shape; room = roomy _ _ _ ready }
 
 pub shape_of-output-then-output-length : goal.shape_of-output-then-output-length
 shape_of-output-then-output-length c = search rules
@@ -25,16 +21,11 @@ returns-then-output-length c = no_room _ _ _ _ _ _ c.serialize_resource-counted.
 
 pub serialize_resource-requires : goal.serialize_resource-requires
 serialize_resource-requires c =
-    let ready = c.requires in record {
-      fit = ready.sizes;
-      accepted = ready.shape;
-      room = roomy _ _ _ ready;
-    }
+    let ready = c.requires in record { fit = ready.sizes; accepted = ready.shape; room = roomy _ _ _ ready }
 
 pub shape_of-output : goal.shape_of-output
 shape_of-output c = search rules
 
 pub returns : goal.returns
 returns c =
-    with-room _ _ _ _ _ _ c.serialize_resource-counted.ensures _ _
-    c.if-output-length.false c.serialize_resource.ensures
+    with-room _ _ _ _ _ _ c.serialize_resource-counted.ensures _ _ c.if-output-length.false c.serialize_resource.ensures

@@ -12,8 +12,10 @@ is_between-requires c = search rules
 
 pub returns-then-is_ascii_uppercase : goal.returns-then-is_ascii_uppercase
 unfolding is_letter is_upper
-returns-then-is_ascii_uppercase c = rw (sym c.is_ascii_uppercase.ensures ∙ c.if-is_ascii_uppercase.true) c.if-is_ascii_uppercase.true
+returns-then-is_ascii_uppercase c =
+    rw (sym c.is_ascii_uppercase.ensures ∙ c.if-is_ascii_uppercase.true) c.if-is_ascii_uppercase.true
 
 pub returns-else-is_ascii_uppercase : goal.returns-else-is_ascii_uppercase
 unfolding is_letter is_upper
-returns-else-is_ascii_uppercase c = rw (sym c.is_ascii_uppercase.ensures ∙ c.if-is_ascii_uppercase.false) c.is_between.ensures
+returns-else-is_ascii_uppercase c =
+    rw (sym c.is_ascii_uppercase.ensures ∙ c.if-is_ascii_uppercase.false) c.is_between.ensures

@@ -21,18 +21,16 @@ pub returns-then-is_between : goal.returns-then-is_between
 unfolding is_hex
 returns-then-is_between c =
     rw (
-      sym c.is_ascii_digit.ensures
-          ∙ c.if-is_ascii_digit.false,
-      sym c.is_between.ensures ∙ c.if-is_between.true,
-    )
-    c.if-is_between.true
+      sym c.is_ascii_digit.ensures ∙ c.if-is_ascii_digit.false,
+      sym c.is_between.ensures
+          ∙ c.if-is_between.true,
+    ) c.if-is_between.true
 
 pub returns-else-is_between : goal.returns-else-is_between
 unfolding is_hex
 returns-else-is_between c =
     rw (
-      sym c.is_ascii_digit.ensures
-          ∙ c.if-is_ascii_digit.false,
-      sym c.is_between.ensures ∙ c.if-is_between.false,
-    )
-    c.is_between-else-is_between.ensures
+      sym c.is_ascii_digit.ensures ∙ c.if-is_ascii_digit.false,
+      sym c.is_between.ensures
+          ∙ c.if-is_between.false,
+    ) c.is_between-else-is_between.ensures

@@ -42,12 +42,7 @@ offset_bounds-tree-i c = omega (arith, sizes _ c.requires, c.loop-i-test.true)
 
 pub bounds-tree-i : goal.bounds-tree-i
 unfolding count capacity
-bounds-tree-i c =
-    omega (
-      arith,
-      sizes _ c.requires,
-      c.loop-i-test.true,
-    )
+bounds-tree-i c = omega (arith, sizes _ c.requires, c.loop-i-test.true)
 
 pub overflow_add-place : goal.overflow_add-place
 unfolding count capacity
@@ -59,12 +54,7 @@ offset_bounds-tree-places c = omega (arith, sizes _ c.requires, c.loop-i-test.tr
 
 pub bounds-tree-places : goal.bounds-tree-places
 unfolding count capacity
-bounds-tree-places c =
-    omega (
-      arith,
-      sizes _ c.requires,
-      c.loop-i-test.true,
-    )
+bounds-tree-places c = omega (arith, sizes _ c.requires, c.loop-i-test.true)
 
 pub slice_bounds-step_mark-end : goal.slice_bounds-step_mark-end
 slice_bounds-step_mark-end c = sym c.loop-i.invariant.long_kinds
@@ -74,7 +64,8 @@ slice_bounds-step_mark-end-in-loop-i c = sym c.loop-i.invariant.long_states
 
 pub step_mark-requires : goal.step_mark-requires
 step_mark-requires c =
-    let st = c.loop-i.invariant in record {
+    let st = c.loop-i.invariant in
+    record {
       right = c.models-table.ensures;
       room = record { long_kinds = omega arith; long_states = omega arith };
       reached = st.reached;
@@ -89,18 +80,11 @@ enum_told-1 c = search rules
 pub returns-in_default : goal.returns-in_default
 unfolding count capacity outcome
 returns-in_default c =
-    stands-refused _ _ (sizes _ c.requires) _ _ _ _ c.loop-i.invariant
-    c.loop-i-test.true
+    stands-refused _ _ (sizes _ c.requires) _ _ _ _ c.loop-i.invariant c.loop-i-test.true
     (rw c.in_default.is at c.step_mark.ensures)
 
 pub overflow_add-i : goal.overflow_add-i
-overflow_add-i c =
-    omega (
-      arith,
-      c.loop-i-test.true,
-      c.shared_slice_known-3-1.given
-          0,
-    )
+overflow_add-i c = omega (arith, c.loop-i-test.true, c.shared_slice_known-3-1.given 0)
 
 pub loop-i-smaller : goal.loop-i-smaller
 unfolding count capacity
@@ -110,27 +94,20 @@ pub loop-i-preserved : goal.loop-i-preserved
 unfolding count capacity outcome
 loop-i-preserved c =
     let mark = c.step_mark in
-    stands_on _ _ (sizes _ c.requires) _ _ _ _ c.loop-i.invariant _ _ _
-    c.loop-i-test.true
+    stands_on _ _ (sizes _ c.requires) _ _ _ _ c.loop-i.invariant _ _ _ c.loop-i-test.true
     (rw c.in-On.is at mark.ensures) mark.auto.kinds mark.auto.states
 
 pub may_be_last-requires : goal.may_be_last-requires
-may_be_last-requires c =
-    record {
-      right = c.models-table.ensures;
-      known = stands-known c.loop-i.invariant;
-    }
+may_be_last-requires c = record { right = c.models-table.ensures; known = stands-known c.loop-i.invariant }
 
 pub returns-then-may_be_last : goal.returns-then-may_be_last
 unfolding count capacity
 returns-then-may_be_last c =
-    stands-whole _ _ (sizes _ c.requires) _ _ _ _ c.loop-i.invariant
-    c.loop-i-test.false
+    stands-whole _ _ (sizes _ c.requires) _ _ _ _ c.loop-i.invariant c.loop-i-test.false
     (sym c.if-may_be_last.true ∙ c.may_be_last.ensures _ _)
 
 pub returns-else-may_be_last : goal.returns-else-may_be_last
 unfolding count capacity
 returns-else-may_be_last c =
-    stands-early _ _ (sizes _ c.requires) _ _ _ _ c.loop-i.invariant
-    c.loop-i-test.false
+    stands-early _ _ (sizes _ c.requires) _ _ _ _ c.loop-i.invariant c.loop-i-test.false
     (sym c.if-may_be_last.false ∙ c.may_be_last.ensures _ _)

@@ -13,7 +13,8 @@ use Rattle.tree.proofs.check.enter.Goals.{Else-left-needs}
 
 room : (c : Else-left-needs) → c.args.o.depth < most_frames max_open
 room c =
-    enter-room _ _ _ _ _ c.requires.fits c.requires.child_value c.requires.child_value_2 (rw c.needs.ensures at c.if-left-needs.false)
+    enter-room _ _ _ _ _ c.requires.fits c.requires.child_value c.requires.child_value_2
+    (rw c.needs.ensures at c.if-left-needs.false)
 
 pub needs-requires : goal.needs-requires
 needs-requires c = search rules

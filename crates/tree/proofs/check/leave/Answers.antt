@@ -16,11 +16,13 @@ overflow_add-closed c = search rules
 
 pub returns-then-kind-closed : goal.returns-then-kind-closed
 unfolding outcome state_of
-returns-then-kind-closed c = λ b. sym (strange b _ _ _ _ _ _ (no-child _ _ _ c.requires.named_argument_lt_kind) c.if-kind-closed.true)
+returns-then-kind-closed c =
+    λ b. sym (strange b _ _ _ _ _ _ (no-child _ _ _ c.requires.named_argument_lt_kind) c.if-kind-closed.true)
 
 pub returns-then-place-ne0 : goal.returns-then-place-ne0
 unfolding outcome state_of
-returns-then-place-ne0 c = λ b. sym (misplaced b _ _ _ _ _ _ (not-text _ c.requires.named_argument_lt_kind) c.if-place-ne0.true)
+returns-then-place-ne0 c =
+    λ b. sym (misplaced b _ _ _ _ _ _ (not-text _ c.requires.named_argument_lt_kind) c.if-place-ne0.true)
 
 pub may_end-requires : goal.may_end-requires
 may_end-requires c = search rules
@@ -50,23 +52,11 @@ pub opens-requires : goal.opens-requires
 opens-requires c = search rules
 
 pub overflow_add-result : goal.overflow_add-result
-overflow_add-result c =
-    omega (
-      arith,
-      opens_small
-          c.args.o.kind,
-      c.opens.ensures,
-      c.requires.fits.inner,
-    )
+overflow_add-result c = omega (arith, opens_small c.args.o.kind, c.opens.ensures, c.requires.fits.inner)
 
 pub returns : goal.returns
 unfolding outcome state_of
 returns c =
-    λ b. rw (
-      c.if-kind-closed.false,
-      c.if-place-ne0.false,
-    )
+    λ b. rw (c.if-kind-closed.false, c.if-place-ne0.false)
     (leave-goes _ _ _ b
-    (sym c.may_end.ensures
-    ∙ not-false _ c.if-not-may_end.false-raw) _
-    c.if-depth-eq0.false c.opens.ensures)
+    (sym c.may_end.ensures ∙ not-false _ c.if-not-may_end.false-raw) _ c.if-depth-eq0.false c.opens.ensures)

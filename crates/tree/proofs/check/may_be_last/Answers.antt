@@ -10,12 +10,8 @@ enum_known-s c = search rules
 
 pub may_end-requires : goal.may_end-requires
 may_end-requires c =
-    let k =
-    rw c.in-Between.is at c.requires.known in record {
-      right = c.requires.right;
-      kind_le_named_argument = k.kind;
-      state_bound = k.state;
-    }
+    let k = rw c.in-Between.is at c.requires.known in
+    record { right = c.requires.right; kind_le_named_argument = k.kind; state_bound = k.state }
 
 pub enum_told-1 : goal.enum_told-1
 enum_told-1 c = search rules

@@ -24,7 +24,8 @@ overflow_cast-capacity c = omega (arith, c.shared_slice_known-2-1.given 1)
 
 pub returns-then-capacity-gt-MAX_CAPACITY : goal.returns-then-capacity-gt-MAX_CAPACITY
 unfolding sizes_fit count capacity
-returns-then-capacity-gt-MAX_CAPACITY c = rw (sizes_fit, le-leb _ _ c.if-tree-lt-SIZES.false, lt-leb _ _ c.if-capacity-gt-MAX_CAPACITY.true)
+returns-then-capacity-gt-MAX_CAPACITY c =
+    rw (sizes_fit, le-leb _ _ c.if-tree-lt-SIZES.false, lt-leb _ _ c.if-capacity-gt-MAX_CAPACITY.true)
 
 pub returns-then-capacity-count : goal.returns-then-capacity-count
 unfolding sizes_fit count capacity

@@ -18,6 +18,4 @@ returns-then-is_boundary c =
 pub returns-else-is_boundary : goal.returns-else-is_boundary
 unfolding outcome state_of
 returns-else-is_boundary c =
-    λ ks qs. sym
-    (not-started _ _ _ _ _ _ _ c.requires.child_value
-    (sym c.is_boundary.ensures ∙ c.if-is_boundary.false))
+    λ ks qs. sym (not-started _ _ _ _ _ _ _ c.requires.child_value (sym c.is_boundary.ensures ∙ c.if-is_boundary.false))

@@ -49,9 +49,7 @@ returns-in-Text c = c.start.ensures _ _
 pub returns-then-place-ne0 : goal.returns-then-place-ne0
 unfolding outcome state_of
 returns-then-place-ne0 c =
-    let t =
-    next-node _ _ _ (sym c.in-Node.is ∙ c.step.ensures) in
-    sym (misplaced _ _ _ _ _ _ _ t.0 c.if-place-ne0.true)
+    let t = next-node _ _ _ (sym c.in-Node.is ∙ c.step.ensures) in sym (misplaced _ _ _ _ _ _ _ t.0 c.if-place-ne0.true)
 
 pub shape_of-kinds : goal.shape_of-kinds
 shape_of-kinds c = search rules
@@ -62,19 +60,10 @@ shape_of-states c = search rules
 pub returns-else-place-ne0 : goal.returns-else-place-ne0
 unfolding outcome state_of
 returns-else-place-ne0 c =
-    let t =
-    next-node _ _ _
-    (sym c.in-Node.is
-    ∙ c.step.ensures) in
-    c.enter.ensures
-    ∙ rw c.if-place-ne0.false
-    (sym
-    (opened _ _ _ _ _ _
-    c.if-kind-gt-NAMED_ARGUMENT.false
-    t.0))
+    let t = next-node _ _ _ (sym c.in-Node.is ∙ c.step.ensures) in
+    c.enter.ensures ∙ rw c.if-place-ne0.false (sym (opened _ _ _ _ _ _ c.if-kind-gt-NAMED_ARGUMENT.false t.0))
 
 pub returns-in-Nothing : goal.returns-in-Nothing
 unfolding outcome state_of
 returns-in-Nothing c =
-    let t = next-nothing _ _ (sym c.in-Nothing.is ∙ c.step.ensures) in
-    sym (strange _ _ _ _ _ _ _ t (λ e. omega arith))
+    let t = next-nothing _ _ (sym c.in-Nothing.is ∙ c.step.ensures) in sym (strange _ _ _ _ _ _ _ t (λ e. omega arith))

@@ -7,11 +7,7 @@ enum_known-s c = search rules
 
 pub step_between-requires : goal.step_between-requires
 step_between-requires c =
-    record {
-      right = c.requires.right;
-      room = c.requires.room;
-      fits = rw c.in-Between.is at c.requires.reached;
-    }
+    record { right = c.requires.right; room = c.requires.room; fits = rw c.in-Between.is at c.requires.reached }
 
 pub enum_known-s-in-Within-1 : goal.enum_known-s-in-Within-1
 enum_known-s-in-Within-1 c = search rules
@@ -26,9 +22,7 @@ pub shape_of-states : goal.shape_of-states
 shape_of-states c = search rules
 
 pub returns-in-Between : goal.returns-in-Between
-returns-in-Between c =
-    rw c.in-Between.is
-    c.step_between.ensures
+returns-in-Between c = rw c.in-Between.is c.step_between.ensures
 
 pub returns-in-Within : goal.returns-in-Within
 returns-in-Within c = rw c.in-Within.is (c.stop.ensures _ _)

@@ -24,9 +24,9 @@ unfolding outcome state_of
 returns-then-is_boundary c =
     λ ks qs. rw c.if-kind-text.false
     (sym
-    (stopped _ _ _ _ _ _ _ _ c.requires
-    (sym c.is_boundary.ensures ∙ c.if-is_boundary.true) c.if-end-start.false))
+    (stopped _ _ _ _ _ _ _ _ c.requires (sym c.is_boundary.ensures ∙ c.if-is_boundary.true) c.if-end-start.false))
 
 pub returns-else-is_boundary : goal.returns-else-is_boundary
 unfolding outcome state_of
-returns-else-is_boundary c = λ ks qs. sym (stopped-inside _ _ _ _ _ _ _ _ _ (sym c.is_boundary.ensures ∙ c.if-is_boundary.false))
+returns-else-is_boundary c =
+    λ ks qs. sym (stopped-inside _ _ _ _ _ _ _ _ _ (sym c.is_boundary.ensures ∙ c.if-is_boundary.false))

@@ -37,6 +37,4 @@ slice_bounds-result-count c = search rules
 pub returns : goal.returns
 unfolding text_in
 returns c =
-    between-held _ _ _ _ _
-    (rw c.place_at.ensures at c.least-end.ensures)
-    (rw c.place_at-2.ensures at c.least-start.ensures)
+    between-held _ _ _ _ _ (rw c.place_at.ensures at c.least-end.ensures) (rw c.place_at-2.ensures at c.least-start.ensures)

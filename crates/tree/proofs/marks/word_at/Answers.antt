@@ -12,9 +12,7 @@ pub overflow_sub-tree : goal.overflow_sub-tree
 overflow_sub-tree c = search rules
 
 pub returns-then-tree-from-2 : goal.returns-then-tree-from-2
-returns-then-tree-from-2 c =
-    let a = c.args in
-    no_word a.tree.now (a.from + a.mark) (omega arith)
+returns-then-tree-from-2 c = let a = c.args in no_word a.tree.now (a.from + a.mark) (omega arith)
 
 pub overflow_add-result : goal.overflow_add-result
 overflow_add-result c = search rules

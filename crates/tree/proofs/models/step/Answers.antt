@@ -13,13 +13,21 @@ pub offset_bounds-models-kind : goal.offset_bounds-models-kind
 offset_bounds-models-kind c = search rules
 
 pub returns-then-next-eq45 : goal.returns-then-next-eq45
-returns-then-next-eq45 c = step-nothing _ c.requires.right _ _ _ c.requires.kind_le_named_argument c.requires.state_bound c.requires.child_le_named_argument c.if-next-eq45.true
+returns-then-next-eq45 c =
+    step-nothing _ c.requires.right _ _ _ c.requires.kind_le_named_argument c.requires.state_bound
+    c.requires.child_le_named_argument c.if-next-eq45.true
 
 pub returns-then-next-lt97 : goal.returns-then-next-lt97
-returns-then-next-lt97 c = (step-text _ c.requires.right _ _ _ c.requires.kind_le_named_argument c.requires.state_bound c.requires.child_le_named_argument c.if-next-eq45.false c.if-next-lt97.true).1
+returns-then-next-lt97 c =
+    (step-text _ c.requires.right _ _ _ c.requires.kind_le_named_argument c.requires.state_bound
+    c.requires.child_le_named_argument c.if-next-eq45.false c.if-next-lt97.true).1
 
 pub overflow_sub-result : goal.overflow_sub-result
-overflow_sub-result c = (step-text _ c.requires.right _ _ _ c.requires.kind_le_named_argument c.requires.state_bound c.requires.child_le_named_argument c.if-next-eq45.false c.if-next-lt97.true).0
+overflow_sub-result c =
+    (step-text _ c.requires.right _ _ _ c.requires.kind_le_named_argument c.requires.state_bound
+    c.requires.child_le_named_argument c.if-next-eq45.false c.if-next-lt97.true).0
 
 pub returns-else-next-lt97 : goal.returns-else-next-lt97
-returns-else-next-lt97 c = step-node _ c.requires.right _ _ _ c.requires.kind_le_named_argument c.requires.state_bound c.requires.child_le_named_argument c.if-next-lt97.false
+returns-else-next-lt97 c =
+    step-node _ c.requires.right _ _ _ c.requires.kind_le_named_argument c.requires.state_bound
+    c.requires.child_le_named_argument c.if-next-lt97.false

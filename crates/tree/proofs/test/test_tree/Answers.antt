@@ -17,8 +17,7 @@ enum_known-at c = search rules
 
 pub returns-in-IllFormed : goal.returns-in-IllFormed
 returns-in-IllFormed c =
-    refused (not-utf8 _ _ c.if-length-gt-MAX_LENGTH.false _
-    (ill-formed _ _ (sym c.in-IllFormed.is ∙ c.check.ensures)))
+    refused (not-utf8 _ _ c.if-length-gt-MAX_LENGTH.false _ (ill-formed _ _ (sym c.in-IllFormed.is ∙ c.check.ensures)))
 
 pub enum_told-1 : goal.enum_told-1
 enum_told-1 c = search rules
@@ -28,8 +27,8 @@ sizes_fit-requires c = search rules
 
 pub returns-then-not-sizes_fit : goal.returns-then-not-sizes_fit
 returns-then-not-sizes_fit c =
-    refused (sizes-off _ _ c.if-length-gt-MAX_LENGTH.false
-    (well-formed _ (sym c.in_default.is ∙ c.check.ensures))
+    refused
+    (sizes-off _ _ c.if-length-gt-MAX_LENGTH.false (well-formed _ (sym c.in_default.is ∙ c.check.ensures))
     (sym c.sizes_fit.ensures ∙ not-true _ c.if-not-sizes_fit.true-raw))
 
 pub check_shape-requires : goal.check_shape-requires
@@ -40,17 +39,17 @@ enum_known-mark c = search rules
 
 pub returns-in-IllFormed-check_shape : goal.returns-in-IllFormed-check_shape
 returns-in-IllFormed-check_shape c =
-    refused (shape-off _ _ c.if-length-gt-MAX_LENGTH.false
-    (well-formed _ (sym c.in_default.is ∙ c.check.ensures))
-    (sym c.sizes_fit.ensures ∙ not-false _ c.if-not-sizes_fit.false-raw)
-    _ (ill-shaped _ _ (sym c.in-IllFormed-check_shape.is ∙ c.check_shape.ensures)))
+    refused
+    (shape-off _ _ c.if-length-gt-MAX_LENGTH.false (well-formed _ (sym c.in_default.is ∙ c.check.ensures))
+    (sym c.sizes_fit.ensures ∙ not-false _ c.if-not-sizes_fit.false-raw) _
+    (ill-shaped _ _ (sym c.in-IllFormed-check_shape.is ∙ c.check_shape.ensures)))
 
 pub enum_told-in_default-check_shape : goal.enum_told-in_default-check_shape
 enum_told-in_default-check_shape c = search rules
 
 pub returns : goal.returns
 returns c =
-    passed (all-well _ _ c.if-length-gt-MAX_LENGTH.false
-    (well-formed _ (sym c.in_default.is ∙ c.check.ensures))
+    passed
+    (all-well _ _ c.if-length-gt-MAX_LENGTH.false (well-formed _ (sym c.in_default.is ∙ c.check.ensures))
     (sym c.sizes_fit.ensures ∙ not-false _ c.if-not-sizes_fit.false-raw)
     (well-shaped _ (sym c.in_default-check_shape.is ∙ c.check_shape.ensures)))

@@ -16,9 +16,7 @@ pub returns : goal.returns
 returns c =
     let start = c.args in
     let l = length-shorts _ _ c.requires.0 in
-    tells-same
-    (array-yes _ _ start.n l c.requires.1
-    (c.are_stored.ensures.yes c.if-not-are_stored.false))
+    tells-same (array-yes _ _ start.n l c.requires.1 (c.are_stored.ensures.yes c.if-not-are_stored.false))
     (array-rest _ _ start.n l)
-    (subst (λ z. Tells c.are_all.result (z ≡ replicate (length z) 0)) (end-part start.words.now start.n)
-    c.are_all.ensures)
+    (subst (λ z. Tells c.are_all.result (z ≡ replicate (length z) 0))
+    (end-part start.words.now start.n) c.are_all.ensures)

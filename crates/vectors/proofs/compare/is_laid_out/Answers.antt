@@ -25,7 +25,8 @@ pub returns : goal.returns
 returns c =
     let laid = laid-is _ _ _ _ c.requires in
     tells-same
-    (λ q. laid (record {
+    (λ q. laid
+    (record {
       long = c.if-slice-end.false;
       count = c.if-slice-a.false;
       capacity = c.if-slice-a-2.false;
@@ -33,5 +34,4 @@ returns c =
       second = c.is_array-2.ensures.yes c.if-not-is_array-2.false;
       rest = q;
     }))
-    (λ e. (is-laid _ _ _ _ c.requires e).rest)
-    c.are_all.ensures
+    (λ e. (is-laid _ _ _ _ c.requires e).rest) c.are_all.ensures

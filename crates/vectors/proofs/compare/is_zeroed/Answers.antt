@@ -5,4 +5,5 @@ use Rattle.vectors.proofs.compare.is_zeroed.Goals as goal
 
 pub returns : goal.returns
 returns c =
-    tells-same (zeroed-is _ _ c.if-slice-n.false (c.are_all.ensures.yes c.if-not-are_all.false)) (zeroed_rest _ c.args.n) c.are_all-2.ensures
+    tells-same (zeroed-is _ _ c.if-slice-n.false (c.are_all.ensures.yes c.if-not-are_all.false))
+    (zeroed_rest _ c.args.n) c.are_all-2.ensures

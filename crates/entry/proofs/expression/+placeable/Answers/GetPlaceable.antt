@@ -18,11 +18,7 @@ pub get_placeable-overflow_add-at : goal.get_placeable-overflow_add-at
 get_placeable-overflow_add-at t c = omega (arith, c.decreases, c.requires)
 
 pub get_placeable-skip_blank-start-requires : goal.get_placeable-skip_blank-start-requires
-get_placeable-skip_blank-start-requires t c =
-    record {
-      inside = c.requires.room.inside;
-      short = c.requires.room.short;
-    }
+get_placeable-skip_blank-start-requires t c = record { inside = c.requires.room.inside; short = c.requires.room.short }
 
 pub get_placeable-overflow_sub-left : goal.get_placeable-overflow_sub-left
 get_placeable-overflow_sub-left t c = omega (arith, c.if-left-eq0.false)
@@ -32,20 +28,17 @@ get_placeable-get_expression-exp-requires t c =
     omega (
       arith,
       c.skip_blank-start.ensures,
-      with-here Byte.open_brace c.args.source.now
-          c.args.at c.requires.source_value,
+      with-here Byte.open_brace c.args.source.now c.args.at c.requires.source_value,
       c.decreases,
       c.requires,
     )
 
 pub get_placeable-end_placeable-requires : goal.get_placeable-end_placeable-requires
 get_placeable-end_placeable-requires t c =
-    endable c.args.source.now _
-    c.requires.room.short
+    endable c.args.source.now _ c.requires.room.short
     (kept c.args.source.now _
-    ((expression-bounds
-    (level-bounds (c.args.left - 1))).on _)
-    c.skip_blank-start.ensures.within (plain-did _ c.get_expression-exp.ensures))
+    ((expression-bounds (level-bounds (c.args.left - 1))).on _) c.skip_blank-start.ensures.within
+    (plain-did _ c.get_expression-exp.ensures))
 
 pub get_placeable-shape_of-tree : goal.get_placeable-shape_of-tree
 get_placeable-shape_of-tree t c = c.get_expression-exp.ensures.wrote.long
@@ -54,14 +47,7 @@ pub get_placeable-returns : goal.get_placeable-returns
 unfolding braced placeable_end
 get_placeable-returns t c =
     braces-open _ _ c.if-left-eq0.false
-    (did_then c.args.source.now _ _
-    (found-byte
-    c.args.source.now Byte.open_brace
-    c.requires.source_value)
-    (did_then c.args.source.now _ _
-    (went c.skip_blank-start.ensures)
+    (did_then c.args.source.now _ _ (found-byte c.args.source.now Byte.open_brace c.requires.source_value)
+    (did_then c.args.source.now _ _ (went c.skip_blank-start.ensures)
     (did-placeable _ _ c.args.source.now
-    (get_expression
-    (level
-    (c.args.left - 1)))
-    c.get_expression-exp.ensures c.end_placeable.ensures)))
+    (get_expression (level (c.args.left - 1))) c.get_expression-exp.ensures c.end_placeable.ensures)))

@@ -22,12 +22,7 @@ reference-overflow_add-at t c = omega (arith, c.decreases, c.requires)
 
 pub reference-get_identifier_unchecked-end-requires : goal.reference-get_identifier_unchecked-end-requires
 reference-get_identifier_unchecked-end-requires t c =
-    omega (
-      arith,
-      letter-here c.args.source.now c.args.at c.requires.source_value,
-      c.decreases,
-      c.requires,
-    )
+    omega (arith, letter-here c.args.source.now c.args.at c.requires.source_value, c.decreases, c.requires)
 
 pub reference-skip_blank-open-requires : goal.reference-skip_blank-open-requires
 reference-skip_blank-open-requires t c = omega (arith, c.get_identifier_unchecked-end.ensures, c.decreases, c.requires)
@@ -46,25 +41,14 @@ reference-message_reference-requires t c =
     }
 
 pub reference-shape_of-tree-then-not-is_current_byte : goal.reference-shape_of-tree-then-not-is_current_byte
-reference-shape_of-tree-then-not-is_current_byte t c =
-    (c.message_reference.ensures
-    (level c.args.left)).wrote.long
+reference-shape_of-tree-then-not-is_current_byte t c = (c.message_reference.ensures (level c.args.left)).wrote.long
 
 pub reference-returns-then-not-is_current_byte : goal.reference-returns-then-not-is_current_byte
-reference-returns-then-not-is_current_byte t c =
-    c.message_reference.ensures
-    (level c.args.left)
+reference-returns-then-not-is_current_byte t c = c.message_reference.ensures (level c.args.left)
 
 pub reference-put-m-requires : goal.reference-put-m-requires
 reference-put-m-requires t c =
-    omega (
-      arith,
-      letter-here c.args.source.now
-          c.args.at
-          c.requires.source_value,
-      c.decreases,
-      c.requires,
-    )
+    omega (arith, letter-here c.args.source.now c.args.at c.requires.source_value, c.decreases, c.requires)
 
 pub reference-put_text-m-requires : goal.reference-put_text-m-requires
 reference-put_text-m-requires t c =
@@ -72,10 +56,7 @@ reference-put_text-m-requires t c =
       arith,
       c.put-m.ensures.0,
       c.put-m.ensures.1.long,
-      letter-here
-          c.args.source.now
-          c.args.at
-          c.requires.source_value,
+      letter-here c.args.source.now c.args.at c.requires.source_value,
       c.get_identifier_unchecked-end.ensures,
       c.decreases,
       c.requires,
@@ -89,10 +70,7 @@ reference-get_call_arguments-r-requires t c =
       c.put-m.ensures.1.long,
       c.put_text-m.ensures.0,
       c.put_text-m.ensures.1.long,
-      letter-here
-          c.args.source.now
-          c.args.at
-          c.requires.source_value,
+      letter-here c.args.source.now c.args.at c.requires.source_value,
       c.get_identifier_unchecked-end.ensures,
       c.decreases,
       c.requires,
@@ -101,26 +79,12 @@ reference-get_call_arguments-r-requires t c =
 pub reference-check_callee-r-requires : goal.reference-check_callee-r-requires
 reference-check_callee-r-requires t c =
     record {
-      start_le_end = (
-        omega (
-          arith,
-          c.get_identifier_unchecked-end.ensures,
-        ),
-        c.get_identifier_unchecked-end.ensures.within,
-      );
-      endable = endable
-          c.args.source.now
-          _
-          c.requires.room.short
-          (kept
-          c.args.source.now
-          _
+      start_le_end = (omega (arith, c.get_identifier_unchecked-end.ensures), c.get_identifier_unchecked-end.ensures.within);
+      endable =
+          endable c.args.source.now _ c.requires.room.short
+          (kept c.args.source.now _
           ((call-bounds
-          (level-bounds
-          c.args.left)
-          ).on
-          _)
-          c.get_identifier_unchecked-end.ensures.within
+          (level-bounds c.args.left)).on _) c.get_identifier_unchecked-end.ensures.within
           c.get_call_arguments-r.ensures);
     }
 
@@ -128,9 +92,8 @@ pub reference-close-requires : goal.reference-close-requires
 reference-close-requires t c =
     record {
       kind_bound = search rules;
-      closable = closable
-          c.args.source.now
-          _ _
+      closable =
+          closable c.args.source.now _ _
           (omega (
             arith,
             c.put-m.ensures.0,
@@ -138,8 +101,7 @@ reference-close-requires t c =
             c.get_identifier_unchecked-end.ensures,
             c.decreases,
             c.requires,
-          ))
-          c.requires.room.holds
+          )) c.requires.room.holds
           (omega (
             arith,
             c.get_call_arguments-r.ensures.wrote.long,
@@ -148,18 +110,11 @@ reference-close-requires t c =
             c.decreases,
             c.requires,
           ))
-          (ended-kept
-          c.args.source.now
-          (function_reference _) (callee-bounds _) (callee-quiet _) _ c.check_callee-r.ensures
-          (kept
-          c.args.source.now
-          _
+          (ended-kept c.args.source.now (function_reference _) (callee-bounds _)
+          (callee-quiet _) _ c.check_callee-r.ensures
+          (kept c.args.source.now _
           ((call-bounds
-          (level-bounds
-          c.args.left)
-          ).on
-          _)
-          c.get_identifier_unchecked-end.ensures.within
+          (level-bounds c.args.left)).on _) c.get_identifier_unchecked-end.ensures.within
           c.get_call_arguments-r.ensures));
     }
 
@@ -168,51 +123,19 @@ reference-expressed-requires t c = tt
 
 pub reference-shape_of-tree : goal.reference-shape_of-tree
 reference-shape_of-tree t c =
-    closed-long _ _ c.close.ensures
-    ∙ c.get_call_arguments-r.ensures.wrote.long
-    ∙ c.put_text-m.ensures.1.long
+    closed-long _ _ c.close.ensures ∙ c.get_call_arguments-r.ensures.wrote.long ∙ c.put_text-m.ensures.1.long
     ∙ c.put-m.ensures.1.long
 
 pub reference-returns : goal.reference-returns
 unfolding reference found_name found-text
 reference-returns t c =
     rw c.expressed.ensures
-    (did-inline _ FunctionReference _ _ _
-    c.put-m.ensures.1
-    c.put-m.ensures.0
-    (did-bind
-    c.args.source.now
-    (get_identifier 9) _
-    (found_name
-    c.args.source.now
-    c.requires.source_value
-    c.get_identifier_unchecked-end.ensures
-    c.put_text-m.ensures.0
-    c.put_text-m.ensures.1)
-    (did-function _
-    (run is_name_part
-    (drop
-    c.args.at
-    c.args.source.now))
-    _
-    (level
-    c.args.left)
-    c.args.source.now
-    (drop
-    c.args.at
-    c.args.source.now)
-    _
-    c.get_call_arguments-r.ensures
-    c.skip_blank-open.ensures
-    (by
-    c.is_current_byte.ensures.is
-    (not-false _
-    c.if-not-is_current_byte.false-raw))
-    c.check_callee-r.ensures
-    (name-take
-    c.args.source.now
-    c.args.at
-    _
-    c.requires.source_value
-    c.get_identifier_unchecked-end.ensures)))
+    (did-inline _ FunctionReference _ _ _ c.put-m.ensures.1 c.put-m.ensures.0
+    (did-bind c.args.source.now (get_identifier 9) _
+    (found_name c.args.source.now c.requires.source_value c.get_identifier_unchecked-end.ensures
+    c.put_text-m.ensures.0 c.put_text-m.ensures.1)
+    (did-function _ (run is_name_part (drop c.args.at c.args.source.now)) _ (level c.args.left) c.args.source.now
+    (drop c.args.at c.args.source.now) _ c.get_call_arguments-r.ensures c.skip_blank-open.ensures
+    (by c.is_current_byte.ensures.is (not-false _ c.if-not-is_current_byte.false-raw)) c.check_callee-r.ensures
+    (name-take c.args.source.now c.args.at _ c.requires.source_value c.get_identifier_unchecked-end.ensures)))
     c.close.ensures)

@@ -9,11 +9,7 @@ use Rattle.serializer.proofs.serializer.Serializer.begin_argument.Goals as goal
 pub serialize_argument_name-requires : goal.serialize_argument_name-requires
 unfolding if
 serialize_argument_name-requires c =
-    record {
-      fit = c.requires.fit;
-      at = c.requires.at c.if-named.true;
-      room = rw c.if-named.true at c.requires.room;
-    }
+    record { fit = c.requires.fit; at = c.requires.at c.if-named.true; room = rw c.if-named.true at c.requires.room }
 
 pub shape_of-output-then-named : goal.shape_of-output-then-named
 shape_of-output-then-named c = search rules
@@ -24,6 +20,4 @@ returns-then-named c = rw c.if-named.true c.serialize_argument_name.ensures
 
 pub returns : goal.returns
 unfolding if
-returns c =
-    rw c.if-named.false
-    (record { wrote = wrote_nothing; next = sym (add-zero c.args.self.mark) })
+returns c = rw c.if-named.false (record { wrote = wrote_nothing; next = sym (add-zero c.args.self.mark) })

@@ -22,11 +22,7 @@ pub returns-then-start_on_newline : goal.returns-then-start_on_newline
 unfolding pattern_start
 returns-then-start_on_newline c =
     rw c.if-start_on_newline.true
-    (record {
-      line = c.newline.result;
-      wrote = c.newline.ensures;
-      next = rw c.indent.ensures refl;
-    })
+    (record { line = c.newline.result; wrote = c.newline.ensures; next = rw c.indent.ensures refl })
 
 pub write_literal-requires : goal.write_literal-requires
 unfolding pattern_start

@@ -18,17 +18,11 @@ shape_of-output-then-kind-eq-PLACEABLE c = search rules
 
 pub returns-then-kind-eq-PLACEABLE : goal.returns-then-kind-eq-PLACEABLE
 unfolding opening_braces braces_of
-returns-then-kind-eq-PLACEABLE c =
-    rw c.if-kind-eq-PLACEABLE.true
-    (record { wrote = c.write_literal.ensures; next = refl })
+returns-then-kind-eq-PLACEABLE c = rw c.if-kind-eq-PLACEABLE.true (record { wrote = c.write_literal.ensures; next = refl })
 
 pub write_literal-requires-2 : goal.write_literal-requires-2
 unfolding opening_braces
-write_literal-requires-2 c =
-    rw (
-      ne_eqb _ Kind.placeable c.if-kind-eq-PLACEABLE.false,
-      opening_braces,
-    ) at c.requires.room
+write_literal-requires-2 c = rw (ne_eqb _ Kind.placeable c.if-kind-eq-PLACEABLE.false, opening_braces) at c.requires.room
 
 pub shape_of-output : goal.shape_of-output
 shape_of-output c = search rules

@@ -15,9 +15,7 @@ shape_of-output-then-kind-eq-PLACEABLE c = search rules
 
 pub returns-then-kind-eq-PLACEABLE : goal.returns-then-kind-eq-PLACEABLE
 unfolding closing_braces braces_of
-returns-then-kind-eq-PLACEABLE c =
-    rw c.if-kind-eq-PLACEABLE.true
-    (record { wrote = c.write_literal.ensures; next = refl })
+returns-then-kind-eq-PLACEABLE c = rw c.if-kind-eq-PLACEABLE.true (record { wrote = c.write_literal.ensures; next = refl })
 
 pub write_literal-requires-then-kind-eq-SELECT : goal.write_literal-requires-then-kind-eq-SELECT
 unfolding closing_braces
@@ -29,8 +27,7 @@ shape_of-output-then-kind-eq-SELECT c = search rules
 pub returns-then-kind-eq-SELECT : goal.returns-then-kind-eq-SELECT
 unfolding closing_braces braces_of
 returns-then-kind-eq-SELECT c =
-    rw c.if-kind-eq-SELECT.true
-    (record { wrote = c.write_literal-then-kind-eq-SELECT.ensures; next = refl })
+    rw c.if-kind-eq-SELECT.true (record { wrote = c.write_literal-then-kind-eq-SELECT.ensures; next = refl })
 
 pub write_literal-requires-2 : goal.write_literal-requires-2
 unfolding closing_braces

@@ -26,21 +26,12 @@ shape_of-output-then-with_junk c = search rules
 pub returns-then-with_junk : goal.returns-then-with_junk
 unfolding junk_in if
 returns-then-with_junk c =
-    record {
-      wrote =
-          rw c.if-with_junk.true c.serialize_text.ensures.wrote;
-      next = c.serialize_text.ensures.next;
-    }
+    record { wrote = rw c.if-with_junk.true c.serialize_text.ensures.wrote; next = c.serialize_text.ensures.next }
 
 pub overflow_add-result : goal.overflow_add-result
 overflow_add-result c =
     let tree = c.args.tree.now in
-    omega (
-      arith,
-      sizes tree c.requires.fit,
-      at_count tree (sizes tree c.requires.fit)
-          c.requires.node.at,
-    )
+    omega (arith, sizes tree c.requires.fit, at_count tree (sizes tree c.requires.fit) c.requires.node.at)
 
 pub returns : goal.returns
 unfolding junk_in if Kind.is_text

@@ -12,14 +12,11 @@ use Rattle.serializer.proofs.serializer.Serializer.serialize_message.Goals as go
 
 pub serialize_name-named-requires : goal.serialize_name-named-requires
 serialize_name-named-requires c =
-    let h = head c.requires.node in record {
+    let h = head c.requires.node in
+    record {
       fit = c.requires.fit;
       text_at = h.key;
-      room = room-first
-          (going c.args.output.now
-          c.args.self.writer
-          (message-row c.args.source.now h)
-          c.requires.room);
+      room = room-first (going c.args.output.now c.args.self.writer (message-row c.args.source.now h) c.requires.room);
     }
 
 pub serialize_value-valued-requires : goal.serialize_value-valued-requires
@@ -29,22 +26,14 @@ serialize_value-valued-requires c =
     let n = c.serialize_name-named.ensures.next in
     let g =
     going_on
-    (going c.args.output.now
-    c.args.self.writer (message-row source h)
-    c.requires.room)
-    c.serialize_name-named.ensures.wrote in
+    (going c.args.output.now c.args.self.writer
+    (message-row source h) c.requires.room) c.serialize_name-named.ensures.wrote in
     record {
       fit = c.requires.fit;
       kind = h.kind;
       one = h.one;
       here = rw n h.here;
-      shallow =
-          omega (
-            arith,
-            c.requires.shallow,
-            c.serialize_name-named.ensures.wrote.level,
-            n,
-          );
+      shallow = omega (arith, c.requires.shallow, c.serialize_name-named.ensures.wrote.level, n);
       room = rw n (room-first g);
     }
 
@@ -55,12 +44,8 @@ serialize_attributes-written-requires c =
     let n = c.serialize_name-named.ensures.next in
     let g =
     going_on
-    (going
-    c.args.output.now
-    c.args.self.writer
-    (message-row source h)
-    c.requires.room)
-    c.serialize_name-named.ensures.wrote in
+    (going c.args.output.now c.args.self.writer
+    (message-row source h) c.requires.room) c.serialize_name-named.ensures.wrote in
     let v = c.serialize_value-valued.ensures.valued in
     let l = rw n at v.left in
     let g₂ = rw l at (going_on g (rw n at c.serialize_value-valued.ensures.wrote)) in
@@ -83,20 +68,13 @@ serialize_attributes-written-requires c =
 
 pub newline-requires : goal.newline-requires
 newline-requires c =
-    let source =
-    c.args.source.now in
-    let h =
-    head
-    c.requires.node in
+    let source = c.args.source.now in
+    let h = head c.requires.node in
     let n = c.serialize_name-named.ensures.next in
     let g =
     going_on
-    (going
-    c.args.output.now
-    c.args.self.writer
-    (message-row source h)
-    c.requires.room)
-    c.serialize_name-named.ensures.wrote in
+    (going c.args.output.now c.args.self.writer
+    (message-row source h) c.requires.room) c.serialize_name-named.ensures.wrote in
     let v = c.serialize_value-valued.ensures.valued in
     let l = rw n at v.left in
     let g₂ = rw l at (going_on g (rw n at c.serialize_value-valued.ensures.wrote)) in
@@ -107,34 +85,19 @@ shape_of-output c = search rules
 
 pub returns : goal.returns
 returns c =
-    let source =
-    c.args.source.now in
-    let tree =
-    c.args.tree.now in
-    let h =
-    head
-    c.requires.node in
-    let n =
-    c.serialize_name-named.ensures.next in
+    let source = c.args.source.now in
+    let tree = c.args.tree.now in
+    let h = head c.requires.node in
+    let n = c.serialize_name-named.ensures.next in
     let g =
     going_on
-    (going
-    c.args.output.now
-    c.args.self.writer
-    (message-row source h)
-    c.requires.room)
-    c.serialize_name-named.ensures.wrote in
+    (going c.args.output.now c.args.self.writer
+    (message-row source h) c.requires.room) c.serialize_name-named.ensures.wrote in
     let v = c.serialize_value-valued.ensures.valued in
     let l = rw n at v.left in
-    let g₂ =
-    rw l at (going_on g
-    (rw n at c.serialize_value-valued.ensures.wrote)) in
+    let g₂ = rw l at (going_on g (rw n at c.serialize_value-valued.ensures.wrote)) in
     record {
-      wrote =
-          gone
-          (going_on
-          (going_on g₂ c.serialize_attributes-written.ensures.wrote)
-          c.newline.ensures);
+      wrote = gone (going_on (going_on g₂ c.serialize_attributes-written.ensures.wrote) c.newline.ensures);
       next =
           omega (
             arith,

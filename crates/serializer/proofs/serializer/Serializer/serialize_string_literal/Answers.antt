@@ -12,12 +12,8 @@ use Rattle.serializer.proofs.serializer.Serializer.serialize_string_literal.Goal
 pub write_literal-requires : goal.write_literal-requires
 write_literal-requires c =
     room-first
-    (going c.args.output.now
-    c.args.self.writer
-    (quoted-row c.args.source.now
-    (node_at (marks_in c.args.tree.now)
-    c.args.self.mark))
-    c.requires.room)
+    (going c.args.output.now c.args.self.writer
+    (quoted-row c.args.source.now (node_at (marks_in c.args.tree.now) c.args.self.mark)) c.requires.room)
 
 pub serialize_text-written-requires : goal.serialize_text-written-requires
 unfolding Kind.is_text
@@ -25,15 +21,12 @@ serialize_text-written-requires c =
     record {
       fit = c.requires.fit;
       text_at = text-one c.requires.node refl;
-      room = room-first
+      room =
+          room-first
           (going_on
-          (going c.args.output.now
-          c.args.self.writer
+          (going c.args.output.now c.args.self.writer
           (quoted-row c.args.source.now
-          (node_at (marks_in c.args.tree.now)
-          c.args.self.mark))
-          c.requires.room)
-          c.write_literal.ensures);
+          (node_at (marks_in c.args.tree.now) c.args.self.mark)) c.requires.room) c.write_literal.ensures);
     }
 
 pub write_literal-requires-2 : goal.write_literal-requires-2
@@ -41,17 +34,10 @@ write_literal-requires-2 c =
     room-first
     (going_on
     (going_on
-    (going
-    c.args.output.now
-    c.args.self.writer
-    (quoted-row
-    c.args.source.now
+    (going c.args.output.now c.args.self.writer
+    (quoted-row c.args.source.now
     (node_at
-    (marks_in
-    c.args.tree.now)
-    c.args.self.mark))
-    c.requires.room)
-    c.write_literal.ensures)
+    (marks_in c.args.tree.now) c.args.self.mark)) c.requires.room) c.write_literal.ensures)
     c.serialize_text-written.ensures.wrote)
 
 pub shape_of-output : goal.shape_of-output
@@ -65,17 +51,10 @@ returns c =
           (going_on
           (going_on
           (going_on
-          (going
-          c.args.output.now
-          c.args.self.writer
-          (quoted-row
-          c.args.source.now
+          (going c.args.output.now c.args.self.writer
+          (quoted-row c.args.source.now
           (node_at
-          (marks_in
-          c.args.tree.now)
-          c.args.self.mark))
-          c.requires.room)
-          c.write_literal.ensures)
+          (marks_in c.args.tree.now) c.args.self.mark)) c.requires.room) c.write_literal.ensures)
           c.serialize_text-written.ensures.wrote)
           c.write_literal-2.ensures);
       next = c.serialize_text-written.ensures.next;

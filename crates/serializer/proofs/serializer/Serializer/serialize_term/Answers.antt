@@ -10,33 +10,20 @@ use Rattle.serializer.proofs.serializer.Serializer.serialize_term.Goals as goal
 pub write_literal-requires : goal.write_literal-requires
 write_literal-requires c =
     room-first
-    (going c.args.output.now
-    c.args.self.writer
-    (term-row c.args.source.now
-    (node_at (marks_in c.args.tree.now)
-    c.args.self.mark))
-    c.requires.room)
+    (going c.args.output.now c.args.self.writer
+    (term-row c.args.source.now (node_at (marks_in c.args.tree.now) c.args.self.mark)) c.requires.room)
 
 pub serialize_message-requires : goal.serialize_message-requires
 serialize_message-requires c =
     let g =
     going_on
-    (going c.args.output.now
-    c.args.self.writer
+    (going c.args.output.now c.args.self.writer
     (term-row c.args.source.now
-    (node_at (marks_in c.args.tree.now)
-    c.args.self.mark))
-    c.requires.room)
-    c.write_literal.ensures in
+    (node_at (marks_in c.args.tree.now) c.args.self.mark)) c.requires.room) c.write_literal.ensures in
     record {
       fit = c.requires.fit;
       node = term-named c.requires.node;
-      shallow =
-          omega (
-            arith,
-            c.requires.shallow,
-            c.write_literal.ensures.level,
-          );
+      shallow = omega (arith, c.requires.shallow, c.write_literal.ensures.level);
       room = room-first g;
     }
 
@@ -47,18 +34,7 @@ pub returns : goal.returns
 returns c =
     let g =
     going_on
-    (going
-    c.args.output.now
-    c.args.self.writer
-    (term-row
-    c.args.source.now
-    (node_at
-    (marks_in
-    c.args.tree.now)
-    c.args.self.mark))
-    c.requires.room)
-    c.write_literal.ensures in
-    record {
-      wrote = gone (going_on g c.serialize_message.ensures.wrote);
-      next = c.serialize_message.ensures.next;
-    }
+    (going c.args.output.now c.args.self.writer
+    (term-row c.args.source.now
+    (node_at (marks_in c.args.tree.now) c.args.self.mark)) c.requires.room) c.write_literal.ensures in
+    record { wrote = gone (going_on g c.serialize_message.ensures.wrote); next = c.serialize_message.ensures.next }

@@ -8,11 +8,7 @@ use Rattle.tree.proofs.Walk.{at_count, text-after}
 use Rattle.serializer.proofs.serializer.Serializer.serialize_text.Goals as goal
 
 pub text_at-text-requires : goal.text_at-text-requires
-text_at-text-requires c =
-    record {
-      fit = c.requires.fit;
-      text_at = c.requires.text_at;
-    }
+text_at-text-requires c = record { fit = c.requires.fit; text_at = c.requires.text_at }
 
 pub write_text-requires : goal.write_text-requires
 unfolding name
@@ -33,10 +29,6 @@ pub returns : goal.returns
 unfolding name
 returns c =
     record {
-      wrote =
-          rw c.text_at-text.ensures at c.write_text.ensures;
-      next =
-          sym
-          (text-after c.requires.text_at.at
-          c.requires.text_at.is_text);
+      wrote = rw c.text_at-text.ensures at c.write_text.ensures;
+      next = sym (text-after c.requires.text_at.at c.requires.text_at.is_text);
     }

@@ -14,5 +14,4 @@ last_of-requires c = search rules
 pub returns : goal.returns
 returns c =
     let w = c.args.self in
-    ap (λ b. record { at = w.at + length c.args.item.now; last = b; indent = w.indent })
-    c.last_of.ensures
+    ap (λ b. record { at = w.at + length c.args.item.now; last = b; indent = w.indent }) c.last_of.ensures

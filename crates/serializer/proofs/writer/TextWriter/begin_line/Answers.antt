@@ -31,8 +31,8 @@ returns-then-self-eq-LINE_FEED c =
     wrote_as (literal [])
     (sym
     (literal-indented w [] c.if-self-eq-LINE_FEED.true
-    ∙ append-nil (replicate (indent_width * w.indent) Byte.space)))
-    c.write_indent.ensures
+    ∙ append-nil (replicate (indent_width * w.indent) Byte.space))) c.write_indent.ensures
 
 pub returns-else-self-eq-LINE_FEED : goal.returns-else-self-eq-LINE_FEED
-returns-else-self-eq-LINE_FEED c = wrote_as (literal []) (sym (literal-plain c.args.self [] c.if-self-eq-LINE_FEED.false)) wrote_none
+returns-else-self-eq-LINE_FEED c =
+    wrote_as (literal []) (sym (literal-plain c.args.self [] c.if-self-eq-LINE_FEED.false)) wrote_none

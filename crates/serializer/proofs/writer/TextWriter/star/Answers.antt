@@ -26,20 +26,13 @@ put-requires c =
     omega (
       arith,
       c.requires.le_indent,
-      room-star c.args.self
-          c.requires.le_indent
-          c.requires.room,
+      room-star c.args.self c.requires.le_indent c.requires.room,
       c.write_indent-w.ensures.end,
-      length-replicate
-          (indent_width * c.args.self.indent) Byte.space,
+      length-replicate (indent_width * c.args.self.indent) Byte.space,
     )
 
 pub shape_of-output : goal.shape_of-output
 shape_of-output c = search rules
 
 pub returns : goal.returns
-returns c =
-    wrote-star c.args.self
-    c.requires.le_indent
-    c.write_indent-w.ensures refl refl
-    c.put.ensures
+returns c = wrote-star c.args.self c.requires.le_indent c.write_indent-w.ensures refl refl c.put.ensures

@@ -13,6 +13,4 @@ pub shape_of-output : goal.shape_of-output
 shape_of-output c = search rules
 
 pub returns : goal.returns
-returns c =
-    wrote-put c.args.item.now
-    c.put_bytes.ensures c.after.ensures
+returns c = wrote-put c.args.item.now c.put_bytes.ensures c.after.ensures

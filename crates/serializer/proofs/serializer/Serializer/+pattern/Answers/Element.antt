@@ -13,15 +13,13 @@ pub serialize_element-kind_at-requires : goal.serialize_element-kind_at-requires
 serialize_element-kind_at-requires t c =
     let tree = c.args.tree.now in
     let fit = sizes tree c.requires.fit in
-    let here = at_count tree fit c.requires.node.at in record {
-      fit = c.requires.fit;
-      mark_bound = here;
-    }
+    let here = at_count tree fit c.requires.node.at in record { fit = c.requires.fit; mark_bound = here }
 
 pub serialize_element-serialize_text-requires : goal.serialize_element-serialize_text-requires
 serialize_element-serialize_text-requires t c =
     let source = c.args.source.now in
-    let is = sym c.kind_at.ensures ∙ c.if-kind_at-eq-TEXT.true in record {
+    let is = sym c.kind_at.ensures ∙ c.if-kind_at-eq-TEXT.true in
+    record {
       fit = c.requires.fit;
       text_at = element-text c.requires.node is;
       room = rw (element-name source c.requires.node is) at c.requires.room;
@@ -39,19 +37,18 @@ serialize_element-returns-then-kind_at-eq-TEXT t c =
 pub serialize_element-overflow_add-self : goal.serialize_element-overflow_add-self
 serialize_element-overflow_add-self t c =
     let tree = c.args.tree.now in
-    let fit = sizes tree c.requires.fit in
-    let here = at_count tree fit c.requires.node.at in
-    omega (arith, fit, here)
+    let fit = sizes tree c.requires.fit in let here = at_count tree fit c.requires.node.at in omega (arith, fit, here)
 
 pub serialize_element-kind_at-kind-requires : goal.serialize_element-kind_at-kind-requires
 serialize_element-kind_at-kind-requires t c =
     let source = c.args.source.now in
     let tree = c.args.tree.now in
-    let fit = sizes tree c.requires.fit in record {
+    let fit = sizes tree c.requires.fit in
+    record {
       fit = c.requires.fit;
-      mark_bound = at_count tree fit
-          (placeable-inside source c.requires.node
-          (λ e. c.if-kind_at-eq-TEXT.false (c.kind_at.ensures ∙ e))).at;
+      mark_bound =
+          at_count tree fit
+          (placeable-inside source c.requires.node (λ e. c.if-kind_at-eq-TEXT.false (c.kind_at.ensures ∙ e))).at;
     }
 
 pub serialize_element-begin_placeable-begun-requires : goal.serialize_element-begin_placeable-begun-requires
@@ -61,13 +58,8 @@ serialize_element-begin_placeable-begun-requires t c =
     let fit = sizes tree c.requires.fit in
     let here = at_count tree fit c.requires.node.at in
     let k = c.kind_at-kind.ensures in
-    let b =
-    braced source c.requires.node
-    (λ e. c.if-kind_at-eq-TEXT.false (c.kind_at.ensures ∙ e)) in
-    let g0 =
-    going c.args.output.now
-    c.args.self.writer b.parts
-    c.requires.room in
+    let b = braced source c.requires.node (λ e. c.if-kind_at-eq-TEXT.false (c.kind_at.ensures ∙ e)) in
+    let g0 = going c.args.output.now c.args.self.writer b.parts c.requires.room in
     rw k (record { room = room-first g0; mark_bound = omega (arith, fit, here) })
 
 pub serialize_element-serialize_expression-written-requires : goal.serialize_element-serialize_expression-written-requires
@@ -77,24 +69,11 @@ serialize_element-serialize_expression-written-requires t c =
     let fit = sizes tree c.requires.fit in
     let here = at_count tree fit c.requires.node.at in
     let k = c.kind_at-kind.ensures in
-    let b =
-    braced source c.requires.node
-    (λ e. c.if-kind_at-eq-TEXT.false
-    (c.kind_at.ensures ∙ e)) in
-    let g0 =
-    going
-    c.args.output.now
-    c.args.self.writer
-    b.parts c.requires.room in
+    let b = braced source c.requires.node (λ e. c.if-kind_at-eq-TEXT.false (c.kind_at.ensures ∙ e)) in
+    let g0 = going c.args.output.now c.args.self.writer b.parts c.requires.room in
     let g1 = going_on g0 (rw k at c.begin_placeable-begun.ensures.wrote) in
     let m = rw k at c.begin_placeable-begun.ensures.next in (
-      omega (
-        arith,
-        c.decreases,
-        here,
-        m,
-        b.some,
-      ),
+      omega (arith, c.decreases, here, m, b.some),
       record {
         fit = c.requires.fit;
         node = rw m b.child;
@@ -105,23 +84,13 @@ serialize_element-serialize_expression-written-requires t c =
 
 pub serialize_element-end_placeable-requires : goal.serialize_element-end_placeable-requires
 serialize_element-end_placeable-requires t c =
-    let source =
-    c.args.source.now in
-    let tree =
-    c.args.tree.now in
+    let source = c.args.source.now in
+    let tree = c.args.tree.now in
     let fit = sizes tree c.requires.fit in
     let k = c.kind_at-kind.ensures in
-    let b =
-    braced source c.requires.node
-    (λ e. c.if-kind_at-eq-TEXT.false
-    (c.kind_at.ensures
-    ∙ e)) in
+    let b = braced source c.requires.node (λ e. c.if-kind_at-eq-TEXT.false (c.kind_at.ensures ∙ e)) in
     let end = after-count tree fit c.requires.node.at in
-    let g0 =
-    going
-    c.args.output.now
-    c.args.self.writer
-    b.parts c.requires.room in
+    let g0 = going c.args.output.now c.args.self.writer b.parts c.requires.room in
     let g1 = going_on g0 (rw k at c.begin_placeable-begun.ensures.wrote) in
     let m = rw k at c.begin_placeable-begun.ensures.next in
     let g2 = going_on g1 (rw m at c.serialize_expression-written.ensures.wrote) in
@@ -133,22 +102,11 @@ serialize_element-shape_of-output t c = search rules
 
 pub serialize_element-returns : goal.serialize_element-returns
 serialize_element-returns t c =
-    let source =
-    c.args.source.now in
+    let source = c.args.source.now in
     let k = c.kind_at-kind.ensures in
-    let b =
-    braced source c.requires.node
-    (λ e. c.if-kind_at-eq-TEXT.false
-    (c.kind_at.ensures
-    ∙ e)) in
-    let g0 =
-    going
-    c.args.output.now
-    c.args.self.writer
-    b.parts c.requires.room in
-    let g1 =
-    going_on g0
-    (rw k at c.begin_placeable-begun.ensures.wrote) in
+    let b = braced source c.requires.node (λ e. c.if-kind_at-eq-TEXT.false (c.kind_at.ensures ∙ e)) in
+    let g0 = going c.args.output.now c.args.self.writer b.parts c.requires.room in
+    let g1 = going_on g0 (rw k at c.begin_placeable-begun.ensures.wrote) in
     let m = rw k at c.begin_placeable-begun.ensures.next in
     let g2 = going_on g1 (rw m at c.serialize_expression-written.ensures.wrote) in
     let n = rw m at c.serialize_expression-written.ensures.next in

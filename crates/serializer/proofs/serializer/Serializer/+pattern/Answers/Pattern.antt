@@ -17,10 +17,7 @@ use Rattle.serializer.proofs.serializer.Serializer.+pattern.Goals as goal
 
 pub serialize_pattern-starts_on_new_line-start_on_newline-requires : goal.serialize_pattern-starts_on_new_line-start_on_newline-requires
 serialize_pattern-starts_on_new_line-start_on_newline-requires t c =
-    let source = c.args.source.now in record {
-      fit = c.requires.fit;
-      at = pattern-at source c.requires.node;
-    }
+    let source = c.args.source.now in record { fit = c.requires.fit; at = pattern-at source c.requires.node }
 
 pub serialize_pattern-begin_pattern-s-requires : goal.serialize_pattern-begin_pattern-s-requires
 serialize_pattern-begin_pattern-s-requires t c =
@@ -29,9 +26,9 @@ serialize_pattern-begin_pattern-s-requires t c =
     let fit = sizes tree c.requires.fit in
     let here = at_count tree fit c.requires.node.at in
     let g0 =
-    going c.args.output.now
-    c.args.self.writer
-    (pattern-parts source c.requires.node _ c.starts_on_new_line-start_on_newline.ensures) c.requires.room in record {
+    going c.args.output.now c.args.self.writer
+    (pattern-parts source c.requires.node _ c.starts_on_new_line-start_on_newline.ensures) c.requires.room in
+    record {
       room = room-first g0;
       indent_bound = omega (arith, fit, here, c.requires.shallow);
       mark_bound = omega (arith, fit, here);
@@ -44,16 +41,10 @@ serialize_pattern-loop-output-init t c =
     let entered = pattern-entered source c.requires.node in
     let start = c.starts_on_new_line-start_on_newline.result in
     let begun = c.begin_pattern-s.ensures in
-    let p =
-    each (element_of source)
-    (nodes
-    (inner_at (marks_in tree)
-    (c.args.self.mark + 1))) in
+    let p = each (element_of source) (nodes (inner_at (marks_in tree) (c.args.self.mark + 1))) in
     let g0 =
-    going c.args.output.now
-    c.args.self.writer
-    (pattern-parts source c.requires.node start c.starts_on_new_line-start_on_newline.ensures)
-    c.requires.room in
+    going c.args.output.now c.args.self.writer
+    (pattern-parts source c.requires.node start c.starts_on_new_line-start_on_newline.ensures) c.requires.room in
     let g1 = going_on g0 begun.wrote in
     rw begun.next
     (rows-first _ _
@@ -66,10 +57,7 @@ serialize_pattern-loop-output-init t c =
 
 pub serialize_pattern-kind_at-requires : goal.serialize_pattern-kind_at-requires
 serialize_pattern-kind_at-requires t c =
-    let rows = c.loop-output.invariant in record {
-      fit = c.requires.fit;
-      mark_bound = rows-count rows;
-    }
+    let rows = c.loop-output.invariant in record { fit = c.requires.fit; mark_bound = rows-count rows }
 
 pub serialize_pattern-serialize_element-s-requires : goal.serialize_pattern-serialize_element-s-requires
 unfolding models among each
@@ -82,36 +70,22 @@ serialize_pattern-serialize_element-s-requires t c =
     let rows = c.loop-output.invariant in
     let turn =
     rows-turn rows elements refl (element_of source) (each (element_of source)) (λ n ns. refl)
-    (omega (arith, c.kind_at.ensures, c.loop-output-test.true)) in (
-      omega (
-        arith,
-        c.decreases,
-        here,
-        rows.later,
-        ap (λ s. s.mark) begun.next,
-      ),
-      turn.ready,
-    )
+    (omega (arith, c.kind_at.ensures, c.loop-output-test.true)) in
+    (omega (arith, c.decreases, here, rows.later, ap (λ s. s.mark) begun.next), turn.ready)
 
 pub serialize_pattern-loop-output-smaller : goal.serialize_pattern-loop-output-smaller
 unfolding after
 serialize_pattern-loop-output-smaller t c =
-    let rows = c.loop-output.invariant in
-    omega (arith, rows-count rows, c.serialize_element-s.ensures.next)
+    let rows = c.loop-output.invariant in omega (arith, rows-count rows, c.serialize_element-s.ensures.next)
 
 pub serialize_pattern-loop-output-preserved : goal.serialize_pattern-loop-output-preserved
 unfolding models among each
 serialize_pattern-loop-output-preserved t c =
-    let source =
-    c.args.source.now in
+    let source = c.args.source.now in
     let rows = c.loop-output.invariant in
     let turn =
     rows-turn rows elements refl (element_of source) (each (element_of source)) (λ n ns. refl)
-    (omega (
-      arith,
-      c.kind_at.ensures,
-      c.loop-output-test.true,
-    )) in
+    (omega (arith, c.kind_at.ensures, c.loop-output-test.true)) in
     turn.on _ _ c.serialize_element-s.ensures
 
 pub serialize_pattern-end_pattern-requires : goal.serialize_pattern-end_pattern-requires
@@ -119,7 +93,8 @@ serialize_pattern-end_pattern-requires t c =
     let tree = c.args.tree.now in
     let fit = sizes tree c.requires.fit in
     let begun = c.begin_pattern-s.ensures in
-    let rows = c.loop-output.invariant in record {
+    let rows = c.loop-output.invariant in
+    record {
       start_on_newline_bound = omega (arith, rows.level, ap (λ s. s.writer.indent) begun.next);
       mark_bound = omega (arith, fit, rows-count rows);
     }
@@ -140,18 +115,10 @@ serialize_pattern-returns t c =
     let entered = pattern-entered source c.requires.node in
     let start = c.starts_on_new_line-start_on_newline.result in
     let begun = c.begin_pattern-s.ensures in
-    let p =
-    each (element_of source)
-    (nodes
-    (inner_at (marks_in tree)
-    (c.args.self.mark + 1))) in
+    let p = each (element_of source) (nodes (inner_at (marks_in tree) (c.args.self.mark + 1))) in
     let g0 =
-    going
-    c.args.output.now
-    c.args.self.writer
-    (pattern-parts source c.requires.node start
-    c.starts_on_new_line-start_on_newline.ensures)
-    c.requires.room in
+    going c.args.output.now c.args.self.writer
+    (pattern-parts source c.requires.node start c.starts_on_new_line-start_on_newline.ensures) c.requires.room in
     let g1 = going_on g0 begun.wrote in
     let rows = c.loop-output.invariant in
     let done = rw begun.next at (rows-done rows refl (omega (arith, c.kind_at.ensures, c.loop-output-test.false))) in

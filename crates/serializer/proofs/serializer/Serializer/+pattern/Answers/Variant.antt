@@ -12,8 +12,8 @@ pub serialize_variant-serialize_variant_key-keyed-requires : goal.serialize_vari
 serialize_variant-serialize_variant_key-keyed-requires t c =
     let source = c.args.source.now in
     let g0 =
-    going c.args.output.now
-    c.args.self.writer (variant_parts source c.requires.ready.node) c.requires.ready.room in record {
+    going c.args.output.now c.args.self.writer (variant_parts source c.requires.ready.node) c.requires.ready.room in
+    record {
       fit = c.requires.ready.fit;
       one_at = c.requires.ready.node;
       le_indent = c.requires.le_indent;
@@ -28,17 +28,14 @@ serialize_variant-serialize_pattern-written-requires t c =
     let here = at_count tree fit c.requires.ready.node.at in
     let pair = variant-pair c.requires.ready.node in
     let g0 =
-    going c.args.output.now
-    c.args.self.writer
-    (variant_parts source c.requires.ready.node) c.requires.ready.room in
+    going c.args.output.now c.args.self.writer (variant_parts source c.requires.ready.node) c.requires.ready.room in
     let g1 = going_on g0 c.serialize_variant_key-keyed.ensures.wrote in
     let m = c.serialize_variant_key-keyed.ensures.next in (
       omega (arith, c.decreases, here, m),
       record {
         fit = c.requires.ready.fit;
         node = rw m pair.value;
-        shallow =
-            omega (arith, m, c.serialize_variant_key-keyed.ensures.wrote.level, c.requires.ready.shallow);
+        shallow = omega (arith, m, c.serialize_variant_key-keyed.ensures.wrote.level, c.requires.ready.shallow);
         room = rw m (room-first g1);
       },
     )
@@ -51,8 +48,7 @@ serialize_variant-next-requires t c =
     let m = c.serialize_variant_key-keyed.ensures.next in
     let till = pair.till in
     let end = after-count tree fit c.requires.ready.node.at in
-    let next = rw m at c.serialize_pattern-written.ensures.next in
-    omega (arith, fit, till, end, next)
+    let next = rw m at c.serialize_pattern-written.ensures.next in omega (arith, fit, till, end, next)
 
 pub serialize_variant-shape_of-output : goal.serialize_variant-shape_of-output
 serialize_variant-shape_of-output t c = search rules
@@ -62,10 +58,7 @@ serialize_variant-returns t c =
     let source = c.args.source.now in
     let pair = variant-pair c.requires.ready.node in
     let g0 =
-    going
-    c.args.output.now
-    c.args.self.writer
-    (variant_parts source c.requires.ready.node) c.requires.ready.room in
+    going c.args.output.now c.args.self.writer (variant_parts source c.requires.ready.node) c.requires.ready.room in
     let g1 = going_on g0 c.serialize_variant_key-keyed.ensures.wrote in
     let m = c.serialize_variant_key-keyed.ensures.next in
     let till = pair.till in
