@@ -1,2 +1,2 @@
-// Demand 3 over the two calls. There is no code: specs/Claim says it, specs/Theorem proves it.
+// Demand 3 over the two calls. There is no code: specs/Calls says it, specs/Theorem proves it.
 #![tactic(auto)]

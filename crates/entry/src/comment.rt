@@ -62,7 +62,7 @@ fn is_over(level: usize, line_level: usize) -> bool
 // Past a line's end, whose line feed is left where neither a comment nor the end of the source follows.
 fn skip_line_end(source: &[u8], at: usize) -> usize
     requires inside { Inside source.now at }
-    requires source_value { is_eol (drop at source.now) ≡ true }
+    requires begins { is_eol (drop at source.now) ≡ true }
     ensures { Passed source.now at (line_end_used (drop at source.now)) result }
 {
     let next = skip_eol(source, at);

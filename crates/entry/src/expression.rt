@@ -187,7 +187,7 @@ fn check_selector(exp: Expression, at: usize) -> Place
 // From "->" up to the first variant.
 fn get_select(source: &[u8], at: usize, exp: Expression) -> AfterInline
     requires in_source { InSource source.now at }
-    requires source_value { is_arrow (drop at source.now) ≡ true }
+    requires begins { is_arrow (drop at source.now) ≡ true }
     ensures { Followed select_from source.now at exp result }
 {
     if let Place::Bad(e, k) = check_selector(exp, at) {
@@ -342,7 +342,7 @@ pub fn get_variable_reference(
     cap: usize,
     n: usize,
 ) -> ReadExpression
-    requires source_value { starts_with Byte.dollar (drop at source.now) ≡ true }
+    requires begins { starts_with Byte.dollar (drop at source.now) ≡ true }
     requires room { Room source.now tree.old cap at n 0 }
     ensures { Did (expressing at) cap at n tree.old tree.new result
         (as_inline (variable_reference (drop at source.now))) }
@@ -363,8 +363,8 @@ pub fn term(
     cap: usize,
     n: usize,
 ) -> ReadExpression
-    requires source_value { starts_with Byte.minus (drop at source.now) ≡ true }
-    requires source_value_2 { starts is_letter (drop (at + 1) source.now) ≡ true }
+    requires begins { starts_with Byte.minus (drop at source.now) ≡ true }
+    requires name_begins { starts is_letter (drop (at + 1) source.now) ≡ true }
     requires room { Room source.now tree.old cap at n 0 }
     ensures { Did (expressing at) cap at n tree.old tree.new result
         (as_inline (term_reference (level left) (drop at source.now))) }
@@ -393,7 +393,7 @@ pub fn reference(
     cap: usize,
     n: usize,
 ) -> ReadExpression
-    requires source_value { starts is_letter (drop at source.now) ≡ true }
+    requires begins { starts is_letter (drop at source.now) ≡ true }
     requires room { Room source.now tree.old cap at n 0 }
     ensures { Did (expressing at) cap at n tree.old tree.new result
         (as_inline (reference (level left) (drop at source.now))) }
@@ -420,10 +420,10 @@ pub fn message_reference(
     cap: usize,
     n: usize,
 ) -> ReadExpression
-    requires source_value { starts is_letter (drop start source.now) ≡ true }
+    requires begins { starts is_letter (drop start source.now) ≡ true }
     requires passed { Passed source.now (start + 1) (run is_name_part (drop (start + 1) source.now)) end }
     requires went { Went source.now end (skip_blank (drop end source.now)) tt at }
-    requires source_value_2 { starts_with Byte.open_parenthesis (drop at source.now) ≡ false }
+    requires no_call { starts_with Byte.open_parenthesis (drop at source.now) ≡ false }
     requires room { Room source.now tree.old cap start n 0 }
     ensures { (sub : Inside)
         → Did (expressing start) cap start n tree.old tree.new result
@@ -759,7 +759,7 @@ pub fn get_placeable(
     cap: usize,
     n: usize,
 ) -> Read
-    requires source_value { starts_with Byte.open_brace (drop at source.now) ≡ true }
+    requires begins { starts_with Byte.open_brace (drop at source.now) ≡ true }
     requires room { Room source.now tree.old cap (at + 1) n 0 }
     ensures { Did reading cap at n tree.old tree.new result ((level left).braced (drop at source.now)) }
 {
@@ -814,7 +814,7 @@ fn variant(
     cap: usize,
     n: usize,
 ) -> Read
-    requires source_value { starts_with Byte.open_bracket (drop at source.now) ≡ true }
+    requires begins { starts_with Byte.open_bracket (drop at source.now) ≡ true }
     requires room { Room source.now tree.old cap at n 0 }
     ensures { (has : Bool)
         → Did reading cap at n tree.old tree.new result

@@ -101,8 +101,8 @@ fn put_errors(errors: &[u32], output: &mut [u8], at: usize) -> usize
 
 // Acceptance with both counts, then the marks and the errors.
 pub fn put_reading(tree: &[u32], errors: &[u32], output: &mut [u8]) -> usize
-    requires held { Held 1 tree.now }
-    requires held_2 { Held group_size errors.now }
+    requires marks_held { Held 1 tree.now }
+    requires errors_held { Held group_size errors.now }
     ensures { Put output.old output.new 0 result
         (lines (read_rows tree.now errors.now)) }
 {

@@ -77,8 +77,8 @@ pub fn sizes_fit(tree: &[u32]) -> bool
 fn enter(kinds: &mut [u8], states: &mut [u8], o: Open, child: u8, next: u8) -> Step
     requires room { Room kinds.old states.old }
     requires fits { Fits kinds.old states.old o }
-    requires child_value { is_text child ≡ false }
-    requires child_value_2 { step o.kind o.state child ≡ some next }
+    requires child_kind { is_text child ≡ false }
+    requires child_step { step o.kind o.state child ≡ some next }
     ensures { outcome kinds.new states.new result
         ≡ enter o.left o.kind o.state (frames_in kinds.old states.old o.depth) child }
 {
@@ -132,8 +132,8 @@ fn leave(models: &Models, kinds: &[u8], states: &[u8], o: Open, kind: u32, place
 
 // Starts a T child, which leads the node that is open to the state `next`.
 fn start(source: &[u8], o: Open, child: u8, next: u8, place: u32) -> Step
-    requires child_value { is_text child ≡ true }
-    requires child_value_2 { step o.kind o.state child ≡ some next }
+    requires child_kind { is_text child ≡ true }
+    requires child_step { step o.kind o.state child ≡ some next }
     ensures { (kinds states : List ℕ)
         → outcome kinds states result
         ≡ step_mark (is_boundary source.now) (state_of kinds states (State.Between o)) (mark_of child place) }

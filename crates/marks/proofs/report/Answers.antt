@@ -15,7 +15,7 @@ put_reading-requires c =
     let lent = c.requires in
     let accepted = c.in-Accepted.is in
     let ready = acceptance lent read.ensures accepted read.auto.tree read.auto.errors in
-    record { held = ready.marks; held_2 = ready.errors }
+    record { marks_held = ready.marks; errors_held = ready.errors }
 
 pub returns-in-Accepted : goal.returns-in-Accepted
 returns-in-Accepted c =

@@ -28,7 +28,7 @@ pub skip_line_end-requires : goal.skip_line_end-requires
 skip_line_end-requires c =
     record {
       inside = record { inside = c.get_comment_level-line_level.ensures.within; short = c.requires.short };
-      source_value = by c.is_eol.ensures c.if-is_eol.true;
+      begins = by c.is_eol.ensures c.if-is_eol.true;
     }
 
 pub returns-then-is_eol : goal.returns-then-is_eol
@@ -52,7 +52,7 @@ pub skip_line_end-requires-then-is_current_byte : goal.skip_line_end-requires-th
 skip_line_end-requires-then-is_current_byte c =
     record {
       inside = record { inside = c.get_comment_line-end.ensures.within; short = c.requires.short };
-      source_value = passed-line c.get_comment_line-end.ensures;
+      begins = passed-line c.get_comment_line-end.ensures;
     }
 
 pub returns-then-is_current_byte : goal.returns-then-is_current_byte

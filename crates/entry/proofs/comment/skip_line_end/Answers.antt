@@ -15,7 +15,7 @@ is_current_byte-requires c = search rules
 
 pub overflow_sub-result : goal.overflow_sub-result
 overflow_sub-result c =
-    let l = feed-some c.skip_eol-next.ensures c.requires.source_value c.requires.inside.inside c.if-next-source.false in
+    let l = feed-some c.skip_eol-next.ensures c.requires.begins c.requires.inside.inside c.if-next-source.false in
     omega arith
 
 pub returns-then-is_current_byte : goal.returns-then-is_current_byte
@@ -23,5 +23,5 @@ returns-then-is_current_byte c = used-comment c.skip_eol-next.ensures c.is_curre
 
 pub returns-else-is_current_byte : goal.returns-else-is_current_byte
 returns-else-is_current_byte c =
-    used-feed c.skip_eol-next.ensures c.is_current_byte.ensures c.requires.source_value c.requires.inside.inside
+    used-feed c.skip_eol-next.ensures c.is_current_byte.ensures c.requires.begins c.requires.inside.inside
     c.if-next-source.false c.if-is_current_byte.false

@@ -14,7 +14,7 @@ pub get_select-requires : goal.get_select-requires
 get_select-requires c =
     record {
       in_source = record { inside = c.skip_blank-end.ensures.within; short = c.requires.short };
-      source_value = by c.is_arrow.ensures c.if-is_arrow.true;
+      begins = by c.is_arrow.ensures c.if-is_arrow.true;
     }
 
 pub alone-requires : goal.alone-requires

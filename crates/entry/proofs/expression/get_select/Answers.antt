@@ -30,7 +30,7 @@ pub overflow_add-at : goal.overflow_add-at
 overflow_add-at c = search rules
 
 pub skip_blank_inline-end-requires : goal.skip_blank_inline-end-requires
-skip_blank_inline-end-requires c = arrow-inside _ _ c.requires.source_value
+skip_blank_inline-end-requires c = arrow-inside _ _ c.requires.begins
 
 pub skip_eol-start-requires : goal.skip_eol-start-requires
 skip_eol-start-requires c = search rules
@@ -41,7 +41,7 @@ error-requires c = search rules
 pub returns-then-start-end : goal.returns-then-start-end
 returns-then-start-end c = (
   c.skip_blank_inline-end.ensures.within,
-  λ sub b i q. select-unended _ _ i c.requires.source_value
+  λ sub b i q. select-unended _ _ i c.requires.begins
       (selector-ok _ b i _ (rw q at (sym c.check_selector.ensures ∙ c.in_default.is))) c.skip_blank_inline-end.ensures
       (omega (arith, c.skip_eol-start.ensures.end, c.if-start-end.true)) c.error.ensures sub,
 )
@@ -53,7 +53,7 @@ pub returns : goal.returns
 returns c = (
   omega (arith, c.skip_blank_inline-end.ensures.end, c.skip_eol-start.ensures.end, c.skip_blank.ensures.onward),
   c.skip_blank.ensures.within,
-  λ sub b i q. select-ended _ _ i c.requires.source_value
+  λ sub b i q. select-ended _ _ i c.requires.begins
       (selector-ok _ b i _
       (rw q at (sym c.check_selector.ensures
       ∙ c.in_default.is))) c.skip_blank_inline-end.ensures c.skip_eol-start.ensures c.if-start-end.false

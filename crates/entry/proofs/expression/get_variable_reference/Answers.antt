@@ -15,14 +15,14 @@ use borrow.Author.Rules.{rules}
 use Rattle.entry.proofs.expression.get_variable_reference.Goals as goal
 
 pub put-m-requires : goal.put-m-requires
-put-m-requires c = omega (arith, with-here Byte.dollar c.args.source.now c.args.at c.requires.source_value, c.requires.room)
+put-m-requires c = omega (arith, with-here Byte.dollar c.args.source.now c.args.at c.requires.begins, c.requires.room)
 
 pub overflow_add-at : goal.overflow_add-at
 overflow_add-at c = search rules
 
 pub get_identifier-end-requires : goal.get_identifier-end-requires
 get_identifier-end-requires c =
-    omega (arith, with-here Byte.dollar c.args.source.now c.args.at c.requires.source_value, c.requires.room)
+    omega (arith, with-here Byte.dollar c.args.source.now c.args.at c.requires.begins, c.requires.room)
 
 pub overflow_add-at-2 : goal.overflow_add-at-2
 overflow_add-at-2 c = search rules
@@ -35,7 +35,7 @@ put_found-r-requires c =
           identifier-textable _
           (omega (
             arith,
-            with-here Byte.dollar c.args.source.now c.args.at c.requires.source_value,
+            with-here Byte.dollar c.args.source.now c.args.at c.requires.begins,
             c.put-m.ensures.0,
             c.put-m.ensures.1.long,
             c.requires.room,
@@ -51,7 +51,7 @@ close-requires c =
           closable c.args.source.now _ _ (omega (arith, c.put-m.ensures.0, c.requires.room)) c.requires.room.holds
           (omega (arith, texted-long _ c.put_found-r.ensures, c.put-m.ensures.1.long, c.requires.room))
           (kept {at = c.args.at + 1} c.args.source.now _ ((name-bounds {n = 0}).on _)
-          (omega (arith, with-here Byte.dollar c.args.source.now c.args.at c.requires.source_value))
+          (omega (arith, with-here Byte.dollar c.args.source.now c.args.at c.requires.begins))
           (did-identifier c.args.source.now _ (c.get_identifier-end.ensures 9) c.put_found-r.ensures));
     }
 
@@ -66,6 +66,6 @@ unfolding variable_reference
 returns c =
     rw c.expressed.ensures
     (did-inline _ shapes.VariableReference _ _ _ c.put-m.ensures.1 c.put-m.ensures.0
-    (did_then c.args.source.now _ _ (found-byte c.args.source.now Byte.dollar c.requires.source_value)
+    (did_then c.args.source.now _ _ (found-byte c.args.source.now Byte.dollar c.requires.begins)
     (did-shape _ variable (get_identifier 9) _
     (did-identifier c.args.source.now _ (c.get_identifier-end.ensures 9) c.put_found-r.ensures))) c.close.ensures)

@@ -17,7 +17,7 @@ use borrow.Author.Rules.{rules}
 use Rattle.entry.proofs.expression.message_reference.Goals as goal
 
 pub put-m-requires : goal.put-m-requires
-put-m-requires c = omega (arith, letter-here c.args.source.now c.args.start c.requires.source_value, c.requires.room)
+put-m-requires c = omega (arith, letter-here c.args.source.now c.args.start c.requires.begins, c.requires.room)
 
 pub put_text-m-requires : goal.put_text-m-requires
 put_text-m-requires c =
@@ -25,7 +25,7 @@ put_text-m-requires c =
       arith,
       c.put-m.ensures.0,
       c.put-m.ensures.1.long,
-      letter-here c.args.source.now c.args.start c.requires.source_value,
+      letter-here c.args.source.now c.args.start c.requires.begins,
       c.requires.passed,
       c.requires.room,
     )
@@ -59,9 +59,9 @@ returns-in_default c =
     λ sub. rw c.expressed.ensures
     (inline-stop _ _ _ _ c.put-m.ensures.1 c.put-m.ensures.0
     (did-bind c.args.source.now (get_identifier 9) _
-    (found_name c.args.source.now c.requires.source_value c.requires.passed c.put_text-m.ensures.0
+    (found_name c.args.source.now c.requires.begins c.requires.passed c.put_text-m.ensures.0
     c.put_text-m.ensures.1)
-    (stop-message _ sub c.args.source.now _ c.requires.went c.requires.source_value_2
+    (stop-message _ sub c.args.source.now _ c.requires.went c.requires.no_call
     c.get_attribute_accessor-r.ensures
     (not-ok _ (opened c.in_default.in_default-own.keys2))))
     (not-ok _ (opened c.in_default.in_default-own.keys2)))
@@ -103,7 +103,7 @@ returns c =
     rw (c.expressed-2.ensures, accessor-told c.args.source.now f)
     (did-inline _ (shapes.MessageReference c.args.end f.value) _ _ _ c.put-m.ensures.1 c.put-m.ensures.0
     (did-bind c.args.source.now (get_identifier 9) _
-    (found_name c.args.source.now c.requires.source_value c.requires.passed c.put_text-m.ensures.0
+    (found_name c.args.source.now c.requires.begins c.requires.passed c.put_text-m.ensures.0
     c.put_text-m.ensures.1)
-    (did-message _ _ sub c.args.source.now _ c.requires.went c.requires.source_value_2 f
-    (name-end c.args.source.now c.args.start _ c.requires.source_value c.requires.passed))) c.close.ensures)
+    (did-message _ _ sub c.args.source.now _ c.requires.went c.requires.no_call f
+    (name-end c.args.source.now c.args.start _ c.requires.begins c.requires.passed))) c.close.ensures)

@@ -13,7 +13,7 @@ use Rattle.tree.proofs.check.enter.Goals.{Else-left-needs}
 
 room : (c : Else-left-needs) → c.args.o.depth < most_frames max_open
 room c =
-    enter-room _ _ _ _ _ c.requires.fits c.requires.child_value c.requires.child_value_2
+    enter-room _ _ _ _ _ c.requires.fits c.requires.child_kind c.requires.child_step
     (rw c.needs.ensures at c.if-left-needs.false)
 
 pub needs-requires : goal.needs-requires
@@ -41,7 +41,7 @@ shape_of-states c = search rules
 pub returns : goal.returns
 unfolding outcome state_of
 returns c =
-    enter-goes _ _ _ _ _ _ c.requires.room c.requires.fits c.requires.child_value c.requires.child_value_2
+    enter-goes _ _ _ _ _ _ c.requires.room c.requires.fits c.requires.child_kind c.requires.child_step
     (rw c.needs.ensures at c.if-left-needs.false) c.opens.ensures
 
 pub overflow_sub-result : goal.overflow_sub-result

@@ -12,10 +12,10 @@ pub returns-then-is_boundary : goal.returns-then-is_boundary
 unfolding outcome state_of
 returns-then-is_boundary c =
     λ ks qs. sym
-    (started _ _ _ _ _ _ _ _ c.requires.child_value c.requires.child_value_2
+    (started _ _ _ _ _ _ _ _ c.requires.child_kind c.requires.child_step
     (sym c.is_boundary.ensures ∙ c.if-is_boundary.true))
 
 pub returns-else-is_boundary : goal.returns-else-is_boundary
 unfolding outcome state_of
 returns-else-is_boundary c =
-    λ ks qs. sym (not-started _ _ _ _ _ _ _ c.requires.child_value (sym c.is_boundary.ensures ∙ c.if-is_boundary.false))
+    λ ks qs. sym (not-started _ _ _ _ _ _ _ c.requires.child_kind (sym c.is_boundary.ensures ∙ c.if-is_boundary.false))

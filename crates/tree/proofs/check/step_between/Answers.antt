@@ -30,7 +30,7 @@ enum_known-next c = search rules
 
 pub start-requires : goal.start-requires
 start-requires c =
-    let e = next-text _ _ _ (sym c.in-Text.is ∙ c.step.ensures) in record { child_value = e.0; child_value_2 = e.1 }
+    let e = next-text _ _ _ (sym c.in-Text.is ∙ c.step.ensures) in record { child_kind = e.0; child_step = e.1 }
 
 pub enum_known-next-in-Node-1 : goal.enum_known-next-in-Node-1
 enum_known-next-in-Node-1 c = search rules
@@ -38,7 +38,7 @@ enum_known-next-in-Node-1 c = search rules
 pub enter-requires : goal.enter-requires
 enter-requires c =
     let e = next-node _ _ _ (sym c.in-Node.is ∙ c.step.ensures) in
-    record { room = c.requires.room; fits = c.requires.fits; child_value = e.0; child_value_2 = e.1 }
+    record { room = c.requires.room; fits = c.requires.fits; child_kind = e.0; child_step = e.1 }
 
 pub enum_told-1 : goal.enum_told-1
 enum_told-1 c = search rules

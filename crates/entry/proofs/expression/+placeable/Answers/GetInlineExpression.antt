@@ -50,7 +50,7 @@ get_inline_expression-enum_told-in-Variable t c = search rules
 
 pub get_inline_expression-get_variable_reference-requires : goal.get_inline_expression-get_variable_reference-requires
 get_inline_expression-get_variable_reference-requires t c =
-    record { source_value = opens_as Variable _ _ c.inline_start.ensures c.in-Variable.is; room = c.requires }
+    record { begins = opens_as Variable _ _ c.inline_start.ensures c.in-Variable.is; room = c.requires }
 
 pub get_inline_expression-enum_told-in-Placeable : goal.get_inline_expression-enum_told-in-Placeable
 get_inline_expression-enum_told-in-Placeable t c = search rules

@@ -28,7 +28,7 @@ get_placeable-get_expression-exp-requires t c =
     omega (
       arith,
       c.skip_blank-start.ensures,
-      with-here Byte.open_brace c.args.source.now c.args.at c.requires.source_value,
+      with-here Byte.open_brace c.args.source.now c.args.at c.requires.begins,
       c.decreases,
       c.requires,
     )
@@ -47,7 +47,7 @@ pub get_placeable-returns : goal.get_placeable-returns
 unfolding braced placeable_end
 get_placeable-returns t c =
     braces-open _ _ c.if-left-eq0.false
-    (did_then c.args.source.now _ _ (found-byte c.args.source.now Byte.open_brace c.requires.source_value)
+    (did_then c.args.source.now _ _ (found-byte c.args.source.now Byte.open_brace c.requires.begins)
     (did_then c.args.source.now _ _ (went c.skip_blank-start.ensures)
     (did-placeable _ _ c.args.source.now
     (get_expression (level (c.args.left - 1))) c.get_expression-exp.ensures c.end_placeable.ensures)))

@@ -22,7 +22,7 @@ reference-overflow_add-at t c = omega (arith, c.decreases, c.requires)
 
 pub reference-get_identifier_unchecked-end-requires : goal.reference-get_identifier_unchecked-end-requires
 reference-get_identifier_unchecked-end-requires t c =
-    omega (arith, letter-here c.args.source.now c.args.at c.requires.source_value, c.decreases, c.requires)
+    omega (arith, letter-here c.args.source.now c.args.at c.requires.begins, c.decreases, c.requires)
 
 pub reference-skip_blank-open-requires : goal.reference-skip_blank-open-requires
 reference-skip_blank-open-requires t c = omega (arith, c.get_identifier_unchecked-end.ensures, c.decreases, c.requires)
@@ -33,10 +33,10 @@ reference-is_current_byte-requires t c = tt
 pub reference-message_reference-requires : goal.reference-message_reference-requires
 reference-message_reference-requires t c =
     record {
-      source_value = c.requires.source_value;
+      begins = c.requires.begins;
       passed = c.get_identifier_unchecked-end.ensures;
       went = c.skip_blank-open.ensures;
-      source_value_2 = by c.is_current_byte.ensures.is (not-true _ c.if-not-is_current_byte.true-raw);
+      no_call = by c.is_current_byte.ensures.is (not-true _ c.if-not-is_current_byte.true-raw);
       room = c.requires.room;
     }
 
@@ -48,7 +48,7 @@ reference-returns-then-not-is_current_byte t c = c.message_reference.ensures (le
 
 pub reference-put-m-requires : goal.reference-put-m-requires
 reference-put-m-requires t c =
-    omega (arith, letter-here c.args.source.now c.args.at c.requires.source_value, c.decreases, c.requires)
+    omega (arith, letter-here c.args.source.now c.args.at c.requires.begins, c.decreases, c.requires)
 
 pub reference-put_text-m-requires : goal.reference-put_text-m-requires
 reference-put_text-m-requires t c =
@@ -56,7 +56,7 @@ reference-put_text-m-requires t c =
       arith,
       c.put-m.ensures.0,
       c.put-m.ensures.1.long,
-      letter-here c.args.source.now c.args.at c.requires.source_value,
+      letter-here c.args.source.now c.args.at c.requires.begins,
       c.get_identifier_unchecked-end.ensures,
       c.decreases,
       c.requires,
@@ -70,7 +70,7 @@ reference-get_call_arguments-r-requires t c =
       c.put-m.ensures.1.long,
       c.put_text-m.ensures.0,
       c.put_text-m.ensures.1.long,
-      letter-here c.args.source.now c.args.at c.requires.source_value,
+      letter-here c.args.source.now c.args.at c.requires.begins,
       c.get_identifier_unchecked-end.ensures,
       c.decreases,
       c.requires,
@@ -132,10 +132,10 @@ reference-returns t c =
     rw c.expressed.ensures
     (did-inline _ FunctionReference _ _ _ c.put-m.ensures.1 c.put-m.ensures.0
     (did-bind c.args.source.now (get_identifier 9) _
-    (found_name c.args.source.now c.requires.source_value c.get_identifier_unchecked-end.ensures
+    (found_name c.args.source.now c.requires.begins c.get_identifier_unchecked-end.ensures
     c.put_text-m.ensures.0 c.put_text-m.ensures.1)
     (did-function _ (run is_name_part (drop c.args.at c.args.source.now)) _ (level c.args.left) c.args.source.now
     (drop c.args.at c.args.source.now) _ c.get_call_arguments-r.ensures c.skip_blank-open.ensures
     (by c.is_current_byte.ensures.is (not-false _ c.if-not-is_current_byte.false-raw)) c.check_callee-r.ensures
-    (name-take c.args.source.now c.args.at _ c.requires.source_value c.get_identifier_unchecked-end.ensures)))
+    (name-take c.args.source.now c.args.at _ c.requires.begins c.get_identifier_unchecked-end.ensures)))
     c.close.ensures)

@@ -21,11 +21,11 @@ term-overflow_add-at t c = omega (arith, c.decreases, c.requires)
 
 pub term-get_identifier_unchecked-end-requires : goal.term-get_identifier_unchecked-end-requires
 term-get_identifier_unchecked-end-requires t c =
-    omega (arith, letter-here c.args.source.now (c.args.at + 1) c.requires.source_value_2, c.decreases, c.requires)
+    omega (arith, letter-here c.args.source.now (c.args.at + 1) c.requires.name_begins, c.decreases, c.requires)
 
 pub term-put-m-requires : goal.term-put-m-requires
 term-put-m-requires t c =
-    omega (arith, with-here Byte.minus c.args.source.now c.args.at c.requires.source_value, c.decreases, c.requires)
+    omega (arith, with-here Byte.minus c.args.source.now c.args.at c.requires.begins, c.decreases, c.requires)
 
 pub term-overflow_add-at-2 : goal.term-overflow_add-at-2
 term-overflow_add-at-2 t c = omega (arith, c.decreases, c.requires)
@@ -36,7 +36,7 @@ term-put_text-m-requires t c =
       arith,
       c.put-m.ensures.0,
       c.put-m.ensures.1.long,
-      letter-here c.args.source.now (c.args.at + 1) c.requires.source_value_2,
+      letter-here c.args.source.now (c.args.at + 1) c.requires.name_begins,
       c.get_identifier_unchecked-end.ensures,
       c.decreases,
       c.requires,
@@ -70,9 +70,9 @@ unfolding term_reference
 term-returns-in_default t c =
     rw c.expressed.ensures
     (inline-stop _ (TermReference _) _ _ c.put-m.ensures.1 c.put-m.ensures.0
-    (did_then c.args.source.now _ _ (found-byte c.args.source.now Byte.minus c.requires.source_value)
+    (did_then c.args.source.now _ _ (found-byte c.args.source.now Byte.minus c.requires.begins)
     (did_then c.args.source.now _ _
-    (found_name c.args.source.now c.requires.source_value_2
+    (found_name c.args.source.now c.requires.name_begins
     (passed-two c.args.at is_name_part c.get_identifier_unchecked-end.ensures) c.put_text-m.ensures.0
     c.put_text-m.ensures.1)
     (stop-bind _ get_attribute_accessor _ c.get_attribute_accessor-r.ensures
@@ -144,9 +144,9 @@ term-returns t c =
     let f = found _ c.get_attribute_accessor-r.ensures c.in-Ok.is in
     rw (c.expressed-2.ensures, accessor-told c.args.source.now f)
     (did-inline _ (TermReference f.value) _ _ _ c.put-m.ensures.1 c.put-m.ensures.0
-    (did_then c.args.source.now _ _ (found-byte c.args.source.now Byte.minus c.requires.source_value)
+    (did_then c.args.source.now _ _ (found-byte c.args.source.now Byte.minus c.requires.begins)
     (did_then c.args.source.now _ _
-    (found_name c.args.source.now c.requires.source_value_2
+    (found_name c.args.source.now c.requires.name_begins
     (passed-two c.args.at is_name_part c.get_identifier_unchecked-end.ensures) c.put_text-m.ensures.0
     c.put_text-m.ensures.1)
     (did-bind c.args.source.now get_attribute_accessor _ f

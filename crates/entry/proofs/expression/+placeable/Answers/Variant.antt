@@ -24,7 +24,7 @@ variant-variant_kind-kind-requires t c = tt
 
 pub variant-put-m-requires : goal.variant-put-m-requires
 variant-put-m-requires t c =
-    omega (arith, with-here Byte.open_bracket c.args.source.now c.args.at c.requires.source_value, c.decreases, c.requires)
+    omega (arith, with-here Byte.open_bracket c.args.source.now c.args.at c.requires.begins, c.decreases, c.requires)
 
 pub variant-overflow_add-at : goal.variant-overflow_add-at
 variant-overflow_add-at t c = omega (arith, c.decreases, c.requires)
@@ -33,7 +33,7 @@ pub variant-get_variant_key-key-requires : goal.variant-get_variant_key-key-requ
 variant-get_variant_key-key-requires t c =
     omega (
       arith,
-      with-here Byte.open_bracket c.args.source.now c.args.at c.requires.source_value,
+      with-here Byte.open_bracket c.args.source.now c.args.at c.requires.begins,
       c.put-m.ensures.0,
       c.put-m.ensures.1.long,
       c.decreases,
@@ -51,7 +51,7 @@ unfolding variant_with variant in_node
 variant-returns-in_default t c =
     λ has. stop-then _ _ _
     (wrap-stop _ (rw c.variant_kind-kind.ensures at c.put-m.ensures.1) c.put-m.ensures.0
-    (did_then c.args.source.now _ _ (found-byte c.args.source.now Byte.open_bracket c.requires.source_value)
+    (did_then c.args.source.now _ _ (found-byte c.args.source.now Byte.open_bracket c.requires.begins)
     (stop-then _ get_variant_key _ c.get_variant_key-key.ensures
     (not-ok _ (opened c.in_default.in_default-own.keys2))))
     (not-ok _ (opened c.in_default.in_default-own.keys2)))
@@ -63,7 +63,7 @@ variant-get_pattern-r-requires t c =
     kept_at {at = c.args.at + 1} c.args.source.now ((key-bounds {n = 0}).on _)
     (omega (
       arith,
-      with-here Byte.open_bracket c.args.source.now c.args.at c.requires.source_value,
+      with-here Byte.open_bracket c.args.source.now c.args.at c.requires.begins,
     ))
     c.get_variant_key-key.ensures c.in-Ok.is in
     omega (
@@ -82,7 +82,7 @@ variant-needs_value-r-requires t c =
     kept_at {at = c.args.at + 1} c.args.source.now ((key-bounds {n = 0}).on _)
     (omega (
       arith,
-      with-here Byte.open_bracket c.args.source.now c.args.at c.requires.source_value,
+      with-here Byte.open_bracket c.args.source.now c.args.at c.requires.begins,
     ))
     c.get_variant_key-key.ensures c.in-Ok.is in
     kept-reaches c.args.source.now _ c.requires.room.short
@@ -96,7 +96,7 @@ variant-close-r-requires t c =
     kept_at {at = c.args.at + 1} c.args.source.now ((key-bounds {n = 0}).on _)
     (omega (
       arith,
-      with-here Byte.open_bracket c.args.source.now c.args.at c.requires.source_value,
+      with-here Byte.open_bracket c.args.source.now c.args.at c.requires.begins,
     ))
     c.get_variant_key-key.ensures c.in-Ok.is in
     record {
@@ -122,7 +122,7 @@ variant-skip_after-requires t c =
     kept_at {at = c.args.at + 1} c.args.source.now ((key-bounds {n = 0}).on _)
     (omega (
       arith,
-      with-here Byte.open_bracket c.args.source.now c.args.at c.requires.source_value,
+      with-here Byte.open_bracket c.args.source.now c.args.at c.requires.begins,
     ))
     c.get_variant_key-key.ensures c.in-Ok.is in
     endable-closed c.args.source.now _
@@ -144,7 +144,7 @@ variant-returns t c =
     (skip_blank >> pure (c.args.default || has)) (pure_quiet skip_blank (c.args.default || has) blank-quiet)
     (did-closed (variant_kind c.args.default) _
     (rw c.variant_kind-kind.ensures at c.put-m.ensures.1) c.put-m.ensures.0
-    (did_then c.args.source.now _ _ (found-byte c.args.source.now Byte.open_bracket c.requires.source_value)
+    (did_then c.args.source.now _ _ (found-byte c.args.source.now Byte.open_bracket c.requires.begins)
     (did_then c.args.source.now get_variant_key _ (found _ c.get_variant_key-key.ensures c.in-Ok.is)
     (did-value _ (level c.args.left) c.args.source.now c.get_pattern-r.ensures c.needs_value-r.ensures)))
     (rw c.variant_kind-kind.ensures at c.close-r.ensures))
