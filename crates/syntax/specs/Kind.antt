@@ -1,5 +1,34 @@
--- The kinds of nodes, document 01's numbers for what ast/mod.rs declares. A T kind has a text.
+-- The kinds of nodes, with the numbers of their opening marks, for what ast/mod.rs declares. A T kind has a text.
 use Rattle.std.specs.Prelude.{ℕ, ◌+◌, Bool, ◌||◌, eqb}
+pub use Rattle.syntax.specs.declared.kind.Kind.{Kind}
+use Rattle.syntax.specs.declared.kind.Kind.TheVariants.{
+  Message,
+  Term,
+  Comment,
+  GroupComment,
+  ResourceComment,
+  AttachedComment,
+  Junk,
+  CommentLine,
+  Identifier,
+  Attribute,
+  Pattern,
+  Text,
+  Placeable,
+  Select,
+  Variant,
+  DefaultVariant,
+  NumberKey,
+  IdentifierKey,
+  StringLiteral,
+  NumberLiteral,
+  VariableReference,
+  FunctionReference,
+  MessageReference,
+  TermReference,
+  Arguments,
+  NamedArgument,
+}
 
 abbrev pub message : ℕ
 message = 1
@@ -88,6 +117,35 @@ arguments = 25
 
 abbrev pub named_argument : ℕ
 named_argument = 26
+
+-- the number of the mark that opens a node of a kind
+abbrev pub number_of : Kind → ℕ
+number_of Message = message
+number_of Term = term
+number_of Comment = comment
+number_of GroupComment = group_comment
+number_of ResourceComment = resource_comment
+number_of AttachedComment = attached_comment
+number_of Junk = junk
+number_of CommentLine = comment_line
+number_of Identifier = identifier
+number_of Attribute = attribute
+number_of Pattern = pattern
+number_of Text = text
+number_of Placeable = placeable
+number_of Select = select
+number_of Variant = variant
+number_of DefaultVariant = default_variant
+number_of NumberKey = number_key
+number_of IdentifierKey = identifier_key
+number_of StringLiteral = string
+number_of NumberLiteral = number
+number_of VariableReference = variable
+number_of FunctionReference = function
+number_of MessageReference = message_reference
+number_of TermReference = term_reference
+number_of Arguments = arguments
+number_of NamedArgument = named_argument
 
 -- the kind of the mark that closes a node of the kind k
 abbrev pub closing : ℕ → ℕ

@@ -1,4 +1,55 @@
-// The kinds of nodes: document 01's numbers for what ast/mod.rs declares, as Kind in specs/ has them. A T kind has a text.
+// The kinds of nodes, what ast/mod.rs declares, and their numbers, as Kind in specs/ has them. A T kind has a text.
+ghost use Rattle.std.specs.Prelude.{◌≡◌};
+ghost use Rattle.syntax.specs.Kind.{number_of};
+
+#[derive(Clone, Copy, PartialEq, Eq, Debug)]
+pub enum Kind {
+    Message = 1,
+    Term = 2,
+    Comment = 3,
+    GroupComment = 4,
+    ResourceComment = 5,
+    // A regular comment that is attached to the message or term right after it.
+    AttachedComment = 6,
+    // T.
+    Junk = 7,
+    // T.
+    CommentLine = 8,
+    // T.
+    Identifier = 9,
+    Attribute = 10,
+    Pattern = 11,
+    // T.
+    Text = 12,
+    Placeable = 13,
+    Select = 14,
+    Variant = 15,
+    DefaultVariant = 16,
+    // T.
+    NumberKey = 17,
+    // T.
+    IdentifierKey = 18,
+    // T, without the quotes.
+    StringLiteral = 19,
+    // T.
+    NumberLiteral = 20,
+    VariableReference = 21,
+    FunctionReference = 22,
+    MessageReference = 23,
+    TermReference = 24,
+    Arguments = 25,
+    NamedArgument = 26,
+}
+
+impl Kind {
+    // The number of a node's opening mark.
+    pub fn number(self) -> u32
+        ensures { result ≡ number_of self }
+    {
+        self as u32
+    }
+}
+
 pub const MESSAGE: u32 = 1;
 
 pub const TERM: u32 = 2;
