@@ -1,3 +1,2 @@
 -- What the proofs of the functions share.
-pub mod Steps
-pub mod Ascii
+pub mod Text

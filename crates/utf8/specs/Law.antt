@@ -8,12 +8,12 @@ use Rattle.utf8.specs.Sequence.{cases, clash, within-true, first_below, read-wit
 
 -- a scan from the start of a sequence, and past it
 
-scan-read : (b : ℕ) (s : List ℕ) (w : ℕ) → width (b ∷ s) ≡ suc w → scan 0 (b ∷ s) ≡ map suc (scan w s)
+pub scan-read : (b : ℕ) (s : List ℕ) (w : ℕ) → width (b ∷ s) ≡ suc w → scan 0 (b ∷ s) ≡ map suc (scan w s)
 unfolding scan
 scan-read b s w e = rw (e, scan)
 
 -- where no fault is found, a sequence was read and none is found past it
-scan-none : (b : ℕ) (s : List ℕ) → scan 0 (b ∷ s) ≡ none → (w : ℕ) × (width (b ∷ s) ≡ suc w) × (scan w s ≡ none)
+pub scan-none : (b : ℕ) (s : List ℕ) → scan 0 (b ∷ s) ≡ none → (w : ℕ) × (width (b ∷ s) ≡ suc w) × (scan w s ≡ none)
 unfolding scan
 scan-none b s e = go (width (b ∷ s)) refl
   where
@@ -21,15 +21,15 @@ scan-none b s e = go (width (b ∷ s)) refl
     go zero p = let z : ◌≡◌ {A = Option ℕ} (some 0) none = rw (p, scan) at e in let y : ◌≡◌ {A = ℕ} 0 1 = cc in absurd (omega arith)
     go (suc w) p = (w, p, (map-eq-none_iff suc (scan w s)).0 (sym (scan-read b s w p) ∙ e))
 
-scan-skip : (b : ℕ) (s : List ℕ) (k : ℕ) → scan (suc k) (b ∷ s) ≡ none → scan k s ≡ none
+pub scan-skip : (b : ℕ) (s : List ℕ) (k : ℕ) → scan (suc k) (b ∷ s) ≡ none → scan k s ≡ none
 unfolding scan
 scan-skip b s k e = (map-eq-none_iff suc (scan k s)).0 e
 
-scan-more : (b : ℕ) (s : List ℕ) (k : ℕ) → scan k s ≡ none → scan (suc k) (b ∷ s) ≡ none
+pub scan-more : (b : ℕ) (s : List ℕ) (k : ℕ) → scan k s ≡ none → scan (suc k) (b ∷ s) ≡ none
 unfolding scan
 scan-more b s k e = rw e
 
-scan-start : (b : ℕ) (s : List ℕ) (w : ℕ) → width (b ∷ s) ≡ suc w → scan w s ≡ none → scan 0 (b ∷ s) ≡ none
+pub scan-start : (b : ℕ) (s : List ℕ) (w : ℕ) → width (b ∷ s) ≡ suc w → scan w s ≡ none → scan 0 (b ∷ s) ≡ none
 scan-start b s w p e = scan-read b s w p ∙ ap (map suc) e
 
 pub moved-zero : (o : Option ℕ) → o ≡ moved 0 o

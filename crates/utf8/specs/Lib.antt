@@ -3,3 +3,4 @@ pub mod Utf8
 pub mod Table
 pub mod Sequence
 pub mod Law
+pub mod Text

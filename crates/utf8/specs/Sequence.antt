@@ -26,7 +26,7 @@ pub within-above : (r : Range) (b : ℕ) → r.high < b → within r b ≡ false
 unfolding within
 within-above r b p = cases (leb r.low b) (λ t. rw (t, within) (lt-leb _ _ p)) (λ t. rw (t, within))
 
-within-bounds : (r : Range) (b : ℕ) → within r b ≡ true → (r.low ≤ b) × (b ≤ r.high)
+pub within-bounds : (r : Range) (b : ℕ) → within r b ≡ true → (r.low ≤ b) × (b ≤ r.high)
 unfolding within
 within-bounds r b e =
     cases (leb r.low b) (λ t. (leb-true _ _ t, leb-true _ _ (rw (t, within) at e))) (λ t. clash (sym (rw (t, within) at e)))
@@ -34,11 +34,11 @@ within-bounds r b e =
 -- ranges that are met
 
 module _ (r : Range) (rs : List Range) (b : ℕ) (s : List ℕ) where
-  fits-cons : within r b ≡ true → fits rs s ≡ true → fits (r ∷ rs) (b ∷ s) ≡ true
+  pub fits-cons : within r b ≡ true → fits rs s ≡ true → fits (r ∷ rs) (b ∷ s) ≡ true
   unfolding fits
   fits-cons p q = rw (p, fits) q
 
-  fits-parts : fits (r ∷ rs) (b ∷ s) ≡ true → (within r b ≡ true) × (fits rs s ≡ true)
+  pub fits-parts : fits (r ∷ rs) (b ∷ s) ≡ true → (within r b ≡ true) × (fits rs s ≡ true)
   unfolding fits
   fits-parts e = cases (within r b) (λ t. (t, rw (t, fits) at e)) (λ t. clash (sym (rw (t, fits) at e)))
 
@@ -105,7 +105,7 @@ record Read (b : ℕ) (s : List ℕ) (w : ℕ) : Type 0 where
   fit : fits row.rest s ≡ true
   wide : length row.rest ≡ w
 
-whole_parts : (rs : List Range) (s : List ℕ) (w : ℕ) → whole rs s ≡ suc w → (fits rs s ≡ true) × (length rs ≡ w)
+pub whole_parts : (rs : List Range) (s : List ℕ) (w : ℕ) → whole rs s ≡ suc w → (fits rs s ≡ true) × (length rs ≡ w)
 unfolding whole
 whole_parts rs s w e =
     cases (fits rs s)
