@@ -1,6 +1,7 @@
 -- The table's well-formed bytes are std's text: what a row of the table lets through is a character, and a row lets each character
 -- through.
-use Rattle.std.specs.Prelude.{ℕ, zero, suc, ◌+◌, ◌*◌, ◌/◌, ◌≤◌, ◌<◌, ◌⊎◌, ◌≡◌, refl, Bool, true, ◌&&◌, List, [], ◌∷◌, ◌++◌, ltb, length, get_or, take, drop}
+use Rattle.std.specs.Prelude.{ℕ, zero, suc, ◌+◌, ◌*◌, ◌/◌, ◌≤◌, ◌<◌, ◌⊎◌, ◌≡◌, refl, Bool, true, ◌&&◌, List, [], ◌∷◌}
+use Rattle.std.specs.Prelude.{◌++◌, ltb, length, get_or, take, drop}
 use Rattle.std.proofs.Common.{arith, inl, inr, sym, ap, ◌∙◌, subst, take-append-drop, le_of_suc-le-suc, not-suc-le-zero, ltb-true}
 use Rattle.std.proofs.Math.Option.{Option, none, some, map}
 use Rattle.std.proofs.Math.Utf8.{scalar, scalars, encode, encodes, next, scalar_cases}
@@ -11,7 +12,8 @@ use Rattle.std.proofs.str.Laws.{Scalar, one, two, three, four}
 use Rattle.std.proofs.str.Valid.{of_one, of_two, of_three, of_four}
 use Rattle.std.specs.Str.{IsUtf8, IsValidUpTo, StartsWithNoChar}
 use Rattle.utf8.specs.Utf8.{Range, Row, ◌‥◌, ◌then◌, within, table, fits, width_by, width, scan, first_ill_formed, WellFormed}
-use Rattle.utf8.specs.Sequence.{cases, clash, within-true, within-above, within-bounds, fits-cons, fits-parts, whole_parts, whole_of, read-within, read-append, read_take}
+use Rattle.utf8.specs.Sequence.{cases, clash, within-true, within-above, within-bounds, fits-cons, fits-parts}
+use Rattle.utf8.specs.Sequence.{whole_parts, whole_of, read-within, read-append, read_take}
 use Rattle.utf8.specs.Law.{scan-read, scan-none, scan-skip, scan-more, scan-start, append-formed}
 use Rattle.utf8.specs.Text.{IsTextByTable}
 
