@@ -4,11 +4,10 @@
 ghost use Rattle.std.specs.Prelude.{◌≡◌, [], ◌∷◌, ◌+◌, ◌≤◌, ◌<◌, length, drop, replicate};
 ghost use Rattle.utf8.specs.Utf8.{◌‥◌, fits, whole, width, first_ill_formed, FoundFrom, is_boundary, checked_of};
 
-#[derive(Drop)]
-pub enum Checked {
-    WellFormed,
-    // The offset of the first byte from which no well-formed sequence can be read.
-    IllFormed(usize),
+// Where a source stops being UTF-8: the offset of the first byte from which no well-formed sequence can be read.
+#[derive(Clone, Copy, Debug, PartialEq, Eq)]
+pub struct Utf8Error {
+    pub valid_up_to: usize,
 }
 
 // Whether there is a byte at `at`, from `low` to `high`.
@@ -139,7 +138,7 @@ fn skip_ascii(source: &[u8], at: usize) -> usize
 }
 
 // Whether the source is well formed, in one pass. ASCII takes the short way.
-pub fn check(source: &[u8]) -> Checked
+pub fn check(source: &[u8]) -> Result<(), Utf8Error>
     ensures { result ≡ checked_of (first_ill_formed source.now) }
 {
     let mut at = skip_ascii(source, 0);
@@ -149,12 +148,12 @@ pub fn check(source: &[u8]) -> Checked
         } else {
             let n = sequence_width(source, at);
             if n == 0 {
-                return Checked::IllFormed(at);
+                return Err(Utf8Error { valid_up_to: at });
             }
             at = skip_ascii(source, at + n);
         }
     }
-    Checked::WellFormed
+    Ok(())
 }
 
 // Rust's `is_char_boundary`.
