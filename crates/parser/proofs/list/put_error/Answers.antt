@@ -7,8 +7,8 @@ use Rattle.parser.proofs.ErrorRows.{error-written}
 use borrow.Author.Rules.{rules}
 use Rattle.parser.proofs.list.put_error.Goals as goal
 
-pub kind_words-words-requires : goal.kind_words-words-requires
-kind_words-words-requires c = search rules
+pub words-words-requires : goal.words-words-requires
+words-words-requires c = search rules
 
 pub overflow_add-at : goal.overflow_add-at
 overflow_add-at c = search rules
@@ -60,6 +60,6 @@ returns c =
     let start = c.args in
     let e = with_junk start.e start.junk_start start.junk_end in (
       refl,
-      error-written start.cap start.n start.list.now c.requires.spare e _ _ _ _ c.kind_words-words.ensures
+      error-written start.cap start.n start.list.now c.requires.spare e _ _ _ _ c.words-words.ensures
           c.put_pair.ensures.0 c.put_pair-2.ensures.0 c.put_pair-3.ensures.0,
     )
