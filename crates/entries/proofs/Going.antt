@@ -7,7 +7,8 @@ use lib.ListN.{length, drop, set, length-append}
 use lib.Seq.{sets, length-sets}
 use Rattle.syntax.specs.declared.next.Next.{Next}
 use Rattle.syntax.specs.declared.next.Next.TheVariants.{Entry}
-use Rattle.syntax.specs.Next.{Extent, entries_of, first_place, next_answer}
+use Rattle.syntax.specs.declared.next.Extent.{Extent}
+use Rattle.syntax.specs.Next.{entries_of, first_place, next_answer}
 use Rattle.laws.specs.Sets.{sets-append, sets_first}
 use Rattle.reader.proofs.Calls.{entries_after, after_first, first-within, Answered, ends, finds, answered}
 use Rattle.entries.specs.Listed.{Lent, words_of, Listed}
