@@ -1,4 +1,4 @@
--- Demand 3 holds over the calls: by their contracts the words and texts are those of the definitions.
+-- The claim on a file cut in two holds over the calls: by their contracts the words and texts are those of the definitions.
 use Rattle.std.specs.Prelude.{ℕ, ◌≡◌, Bool, List, ◌++◌, take, Ok}
 use Rattle.std.proofs.Common.{sym, ◌∙◌, le-ltb}
 use Rattle.std.proofs.Math.Path.{ap}

@@ -196,7 +196,10 @@ fn get_select(source: &[u8], at: usize, exp: Expression) -> AfterInline
     let end = skip_blank_inline(source, at + 2);
     let start = skip_eol(source, end);
     if start == end {
-        return AfterInline::Bad(error(ErrorKind::ExpectedCharRange(CharRange::LineEnd), end), end);
+        return AfterInline::Bad(
+            error(ErrorKind::ExpectedCharRange(CharRange::LineEnd), end),
+            end,
+        );
     }
     AfterInline::Select(skip_blank(source, start))
 }

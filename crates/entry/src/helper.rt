@@ -223,7 +223,10 @@ pub fn skip_digits(source: &[u8], at: usize) -> Place
         end += 1;
     }
     if end == at {
-        return Place::Bad(error(ErrorKind::ExpectedCharRange(CharRange::Digits), at), at);
+        return Place::Bad(
+            error(ErrorKind::ExpectedCharRange(CharRange::Digits), at),
+            at,
+        );
     }
     Place::At(end)
 }
@@ -275,7 +278,10 @@ pub fn get_identifier(source: &[u8], at: usize) -> Place
     ensures { (kind : ℕ) → Found source.now at (get_identifier kind (drop at source.now)) result }
 {
     if !is_identifier_start(source, at) {
-        return Place::Bad(error(ErrorKind::ExpectedCharRange(CharRange::Letters), at), at);
+        return Place::Bad(
+            error(ErrorKind::ExpectedCharRange(CharRange::Letters), at),
+            at,
+        );
     }
     Place::At(get_identifier_unchecked(source, at + 1))
 }

@@ -32,7 +32,13 @@ fn read_into(source: &[u8], tree: &mut [u32], errors: &mut [u32]) -> Answer
     let length = source.len();
     match parse(source, tree, errors) {
         Ok(Counts { marks, errors: n }) => {
-            finish(tree, MARKS_A_BYTE * length, marks, MARKS_A_BYTE * length, marks);
+            finish(
+                tree,
+                MARKS_A_BYTE * length,
+                marks,
+                MARKS_A_BYTE * length,
+                marks,
+            );
             finish(errors, length, n, GROUP_SIZE * length, GROUP_SIZE * n);
             Ok(0)
         }

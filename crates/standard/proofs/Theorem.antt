@@ -1,4 +1,4 @@
--- Demand 2: for every source that is accepted, the tree is that of Project Fluent Syntax 1.0 with all departures on.
+-- For every source that is accepted, the tree is that of Project Fluent Syntax 1.0 with all departures on.
 use Rattle.std.specs.Prelude.{ℕ, ◌≡◌, List, ◌∷◌, length, drop, leb, Ok}
 use Rattle.std.proofs.Common.{sym, ap, ◌∙◌, arith, leb-true, leb-false}
 use Rattle.syntax.specs.Limits.{max_open}

@@ -56,8 +56,7 @@ loop-extent-smaller c =
 
 pub loop-extent-preserved : goal.loop-extent-preserved
 loop-extent-preserved c =
-    let (k, going) = c.loop-extent.invariant in
-    (
+    let (k, going) = c.loop-extent.invariant in (
       c.entry_after.auto.tree ∙ k,
       going_next c.requires going _ k c.entry_after.ensures.0.same (c.in-Ok-Some.is ∙ ap (λ o. Ok o) c.in-Ok-Some.field-0-is),
     )
