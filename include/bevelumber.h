@@ -1,6 +1,6 @@
 /* Bevelumber: Fluent text, read and written with proof. The functions of libexports.a (rt lib in crates/exports).
  *
- * Each function is proved to answer, and to leave in the memory it is lent, what document 01 of the project says, for every input.
+ * Each function is proved to answer, and to leave in the memory it is lent, what docs/CALLS.md says, for every input.
  * It keeps nothing between calls, allocates nothing, and takes a bounded stack; calls on different memory may run in parallel.
  *
  * What a caller owes, as in any C interface: a pointer is not null, also where its length is 0; it is aligned for its type and has

@@ -22,7 +22,7 @@
 //! assert_eq!(Writer::new().write(reading.tree(), false), "hello = Hello, { $name }!\n");
 //! ```
 //!
-//! Words of the project's document 01: an offset is in bytes from 0, L is the source's length, a mark opens or closes a node.
+//! Words of the project's docs/CALLS.md: an offset is in bytes from 0, L is the source's length, a mark opens or closes a node.
 #![warn(missing_docs)]
 
 mod entries;

@@ -47,7 +47,7 @@ impl Refusal {
         })
     }
 
-    /// Document 01's number, from 1 on.
+    /// Its number, from 1 on, as docs/CALLS.md has it.
     pub fn number(self) -> u32 {
         match self {
             Refusal::TooLong(_) => 1,

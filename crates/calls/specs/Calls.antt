@@ -1,9 +1,8 @@
 -- Reading by the calls: slices of any length and content that are lent to `read`, and what `write` makes of the tree
 -- that it leaves. What the calls leave
 -- is given by their contracts alone.
-use Rattle.std.specs.Prelude.{ℕ, ◌≤◌, ◌≡◌, Bool, List, length, take}
-use Rattle.syntax.specs.declared.answer.Answer.{Answer}
-use Rattle.syntax.specs.declared.answer.Answer.TheVariants.{Accepted}
+use Rattle.std.specs.Prelude.{ℕ, ◌≤◌, ◌≡◌, Bool, List, length, take, Ok}
+use Rattle.syntax.specs.Answer.{Answer}
 use Rattle.syntax.specs.Limits.{max_open}
 use Rattle.syntax.specs.Core as Core
 use Rattle.syntax.specs.Core.{parse}
@@ -32,7 +31,7 @@ pub record Writing (s tree : List ℕ) (junk : Bool) (text : List ℕ) : Type 0 
   pub lent : List ℕ
   pub output : List ℕ
   pub size : ℕ
-  pub did : DidWrite s tree lent output junk (Accepted size)
+  pub did : DidWrite s tree lent output junk (Ok size)
   pub wrote : text ≡ take size output
 
 -- a view by a reading call and `write`. What is read of a source, and whether a reading is accepted, goes by the
@@ -41,7 +40,7 @@ abbrev pub called : (parse : List ℕ → Core.Reading) (answer : List ℕ → �
 called parse answer Did = record {
   kinds = λ s. kinds_of (parse s);
   Reading = Reading Did;
-  Accepted = λ s r. answer s (length r.lent_tree) (length r.lent_errors) ≡ Accepted 0;
+  Accepted = λ s r. answer s (length r.lent_tree) (length r.lent_errors) ≡ Ok 0;
   tree = λ s r. tree_in r.tree;
   errors = λ s r. errors_in r.errors;
   Text = λ s r. Writing s r.tree;
@@ -56,7 +55,7 @@ calls = called (parse max_open) read_answer DidRead
 -- the output is shorter. So a view by the calls has the texts that its claim speaks of.
 pub record Written (s tree : List ℕ) (junk : Bool) : Type 0 where
   pub size : ℕ
-  pub did : (o o' : List ℕ) (answer : Answer) → DidWrite s tree o o' junk answer → size ≤ length o → answer ≡ Accepted size
+  pub did : (o o' : List ℕ) (answer : Answer) → DidWrite s tree o o' junk answer → size ≤ length o → answer ≡ Ok size
 
 abbrev pub Writable : Type 0
 Writable = (s : List ℕ) (r : Reading DidRead s) → calls.Accepted s r → (junk : Bool) → Written s r.tree junk

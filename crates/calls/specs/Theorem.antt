@@ -1,11 +1,10 @@
--- Demand 3 holds over the calls: by their contracts the words and texts are those of the definitions.
-use Rattle.std.specs.Prelude.{ℕ, ◌≡◌, Bool, List, ◌++◌, take}
+-- The claim on a file cut in two holds over the calls: by their contracts the words and texts are those of the definitions.
+use Rattle.std.specs.Prelude.{ℕ, ◌≡◌, Bool, List, ◌++◌, take, Ok}
 use Rattle.std.proofs.Common.{sym, ◌∙◌, le-ltb}
 use Rattle.std.proofs.Math.Path.{ap}
 use Rattle.std.proofs.Math.ListN.{length, drop}
 use Rattle.std.proofs.Math.Seq.{take-append_seam}
 use Rattle.utf8.specs.Utf8 as Utf8
-use Rattle.syntax.specs.declared.answer.Answer.TheVariants.{Accepted}
 use Rattle.syntax.specs.Limits.{max_open}
 use Rattle.syntax.specs.Layout.{marks_in}
 use Rattle.syntax.specs.Reading.{read_answer, tree_after}
@@ -21,7 +20,7 @@ use Rattle.serializer.specs.Call.{DidWrite}
 use Rattle.calls.specs.Calls.{Reading, Writing, calls, Writable}
 
 -- ---- a text
-module _ (s t e : List ℕ) (h : read_answer s (length t) (length e) ≡ Accepted 0) (junk : Bool) where
+module _ (s t e : List ℕ) (h : read_answer s (length t) (length e) ≡ Ok 0) (junk : Bool) where
   text : List ℕ
   text = serialize s junk (marks_in (tree_after s t e))
 
@@ -30,7 +29,7 @@ module _ (s t e : List ℕ) (h : read_answer s (length t) (length e) ≡ Accepte
   answer-is o = writes s t e h o junk ∙ ap (λ ms. text_answer o (length (serialize s junk ms))) (sym (marks-left s t e h))
 
   -- the output starts with the text
-  left : (o o' : List ℕ) (size : ℕ) → Accepted size ≡ write_answer s (tree_after s t e) (length o) junk
+  left : (o o' : List ℕ) (size : ℕ) → Ok size ≡ write_answer s (tree_after s t e) (length o) junk
       → o' ≡ output_after s (tree_after s t e) o junk → take size o' ≡ text
   unfolding text
   left o o' size a w =
@@ -79,6 +78,6 @@ writable s r h junk = record {
 }
 
 -- what an accepted call of `write` wrote is UTF-8
-pub output-is-utf8 : (s tree o o' : List ℕ) (junk : Bool) (size : ℕ) → DidWrite s tree o o' junk (Accepted size)
+pub output-is-utf8 : (s tree o o' : List ℕ) (junk : Bool) (size : ℕ) → DidWrite s tree o o' junk (Ok size)
     → Utf8.WellFormed (take size o')
 output-is-utf8 s tree o o' junk size d = rw d.output (output-utf8 s tree o junk (sym d.answers.same))

@@ -1,6 +1,5 @@
--- Demand 3 holds: the claim on a file cut in two, for every view whose accepted readings leave what `parse` reads, and
--- so for the reading call as it is
--- defined, for every source, cut and slices.
+-- The claim on a file cut in two holds for every view whose accepted readings leave what `parse` reads, and so for the
+-- reading call as it is defined, for every source, cut and slices.
 use Rattle.std.specs.Prelude.{ℕ, ◌≡◌, Bool, List, [], ◌∷◌, ◌++◌, map, length, take, drop}
 use Rattle.std.proofs.Common.{arith, sym, ap₂, ◌∙◌, subst, length-take, take-append-drop}
 use Rattle.std.proofs.Math.Path.{ap}

@@ -1,4 +1,4 @@
--- Demand 3, said once (document 01, "A file cut in two"): a single claim about a source and a cut, tree, errors and
+-- A file cut in two, said once: a single claim about a source and a cut, tree, errors and
 -- texts together. It is said of any
 -- view of reading; the definitions are one (Definition, proved in Theorem), the calls another (crate calls).
 use Rattle.std.specs.Prelude.{ℕ, ◌+◌, ◌≤◌, ◌≡◌, Bool, true, false, ◌||◌, List, [], ◌∷◌, ◌++◌, map, length, take, drop, eqb}
@@ -10,7 +10,7 @@ use Rattle.syntax.specs.Bytes.{starts_with, run, line_run, Whole, Fresh}
 use Rattle.syntax.specs.Errors.{words_of}
 use Rattle.syntax.specs.Layout.{has_place, group_size}
 
--- Trees and error lists, as document 01 compares them.
+-- Trees and error lists, as they are compared: by counts, kinds and places or groups; capacities do not matter.
 
 -- two trees are equal if their counts, kinds and places agree
 pub record Tree : Type 0 where

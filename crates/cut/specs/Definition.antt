@@ -1,7 +1,6 @@
 -- Reading as the definitions give it, for lent slices of any length and content.
-use Rattle.std.specs.Prelude.{ℕ, ◌≡◌, List, map, length}
-use Rattle.syntax.specs.declared.answer.Answer.{Answer}
-use Rattle.syntax.specs.declared.answer.Answer.TheVariants.{Accepted}
+use Rattle.std.specs.Prelude.{ℕ, ◌≡◌, List, map, length, Ok}
+use Rattle.syntax.specs.Answer.{Answer}
 use Rattle.syntax.specs.Limits.{max_open}
 use Rattle.syntax.specs.Marks.{kind_of}
 use Rattle.syntax.specs.Core as Core
@@ -37,7 +36,7 @@ abbrev pub defined : (parse : List ℕ → Core.Reading) (answer : List ℕ → 
 defined parse answer tree_after errors_after = record {
   kinds = λ s. kinds_of (parse s);
   Reading = λ s. Slices;
-  Accepted = λ s l. answer s (length l.tree) (length l.errors) ≡ Accepted 0;
+  Accepted = λ s l. answer s (length l.tree) (length l.errors) ≡ Ok 0;
   tree = λ s l. tree_in (tree_after s l.tree l.errors);
   errors = λ s l. errors_in (errors_after s l.tree l.errors);
   Text = λ s l junk t. t ≡ serialize s junk (marks_in (tree_after s l.tree l.errors));

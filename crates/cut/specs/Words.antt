@@ -1,4 +1,4 @@
--- Trees and error lists as document 01 compares them, from marks and errors: reading them back, moving up and joining.
+-- Trees and error lists as the claim compares them, from marks and errors: reading them back, moving up and joining.
 use Rattle.std.specs.Prelude.{ℕ, ◌+◌, ◌≤◌, ◌≡◌, refl, List, [], ◌∷◌, ◌++◌, map, length}
 use Rattle.std.proofs.Common.{sym, ap, ap₂, ◌∙◌, length-append, take_at, drop_at}
 use Rattle.std.proofs.lemmas.List.{length-map}

@@ -1,13 +1,13 @@
 -- Entries listed part way: those so far stand in the list, and the others come after the place.
 use Prim.Native.Nat.{ℕ, suc, ◌+◌, ◌*◌, ◌≤◌, ◌<◌}
 use native.Mathlib.Omega.{arith}
-use mathlib.Core.Path.{◌≡◌, refl, sym, ap, ap₂, ◌∙◌}
+use mathlib.Core.Path.{subst, ◌≡◌, refl, sym, ap, ap₂, ◌∙◌}
 use mathlib.Core.List.{List, [], ◌∷◌, ◌++◌, append_assoc, append-nil}
 use lib.ListN.{length, drop, set, length-append}
 use lib.Seq.{sets, length-sets}
-use Rattle.syntax.specs.declared.next.Next.{Next}
-use Rattle.syntax.specs.declared.next.Next.TheVariants.{Entry}
-use Rattle.syntax.specs.Next.{Extent, entries_of, first_place, next_answer}
+use Rattle.std.proofs.Common.{Ok, Some}
+use Rattle.syntax.specs.declared.next.Extent.{Extent}
+use Rattle.syntax.specs.Next.{Next, entries_of, first_place, next_answer}
 use Rattle.laws.specs.Sets.{sets-append, sets_first}
 use Rattle.reader.proofs.Calls.{entries_after, after_first, first-within, Answered, ends, finds, answered}
 use Rattle.entries.specs.Listed.{Lent, words_of, Listed}
@@ -57,27 +57,20 @@ module _ {s t ws ws' : List ℕ} {at n : ℕ} {r : Next} (l : Lent s t ws) (g : 
   told : Answered s at m
   told = answered s at m (omega (arith, l.source, l.tree))
 
-  module _ {a e : ℕ} (q : r ≡ Entry a e) where
-    pub found : Found s at a e
+  module _ {y : Extent} (q : r ≡ Ok (Some y)) where
+    pub found : Found s at y.start y.stop
     found = go told
       where
-        go : Answered s at m → Found s at a e
+        go : Answered s at m → Found s at y.start y.stop
         go (ends p x) = let z : ◌≡◌ {A = ℕ} 0 1 = cc in absurd (omega arith)
         go (finds {a = b} {e = f} p x i j w) =
-            let y : b ≡ a = cc in
-            let z : f ≡ e = cc in
-            record {
-              before = omega arith;
-              some = omega arith;
-              within = omega arith;
-              first = x ∙ λ k. record { start = y k; stop = z k } ∷ entries_after s (z k);
-            }
+            let same : (record { start = b; stop = f }) ≡ y = cc in
+            subst (λ (z : Extent). Found s at z.start z.stop) same (record { before = i; some = j; within = w; first = x })
 
     -- it is listed
-    pub going_next : Going s ws (set (set ws' (2 * n) a) (2 * n + 1) e) e (n + 1)
+    pub going_next : Going s ws (set (set ws' (2 * n) y.start) (2 * n + 1) y.stop) y.stop (n + 1)
     unfolding words_of
     going_next =
-        let x : Extent = record { start = a; stop = e } in
         let d = g.done in
         let w = words_of d in
         let i : 2 * n ≡ 0 + length w = omega (arith, words-length d, g.count) in
@@ -85,16 +78,16 @@ module _ {s t ws ws' : List ℕ} {at n : ℕ} {r : Next} (l : Lent s t ws) (g : 
         record {
           inside = found.within;
           few = omega (arith, g.few, found.before, found.some);
-          done = d ++ (x ∷ []);
-          count = omega (arith, g.count, length-append d (x ∷ []));
-          all = append_assoc d (x ∷ []) (entries_after s e) ∙ ap (λ xs. d ++ xs) (sym found.first) ∙ g.all;
-          words = ap (λ z. set (set z (2 * n) a) (2 * n + 1) e) g.words
-              ∙ ap₂ (λ u v. set (set (sets ws 0 w) u a) v e) i j ∙ sets-append ws 0 w (a ∷ e ∷ [])
-              ∙ ap (sets ws 0) (sym (words_append d (x ∷ [])));
+          done = d ++ (y ∷ []);
+          count = omega (arith, g.count, length-append d (y ∷ []));
+          all = append_assoc d (y ∷ []) (entries_after s y.stop) ∙ ap (λ xs. d ++ xs) (sym found.first) ∙ g.all;
+          words = ap (λ z. set (set z (2 * n) y.start) (2 * n + 1) y.stop) g.words
+              ∙ ap₂ (λ u v. set (set (sets ws 0 w) u y.start) v y.stop) i j ∙ sets-append ws 0 w (y.start ∷ y.stop ∷ [])
+              ∙ ap (sets ws 0) (sym (words_append d (y ∷ [])));
         }
 
   -- no entry: all are listed
-  pub going_end : ((a e : ℕ) → r ≡ Entry a e → ⊥) → Listed s ws ws' n
+  pub going_end : ((x : Extent) → r ≡ Ok (Some x) → ⊥) → Listed s ws ws' n
   going_end o = go told
     where
       go : Answered s at m → Listed s ws ws' n
@@ -108,4 +101,4 @@ module _ {s t ws ws' : List ℕ} {at n : ℕ} {r : Next} (l : Lent s t ws) (g : 
             words = g.words ∙ sets_first ws (words_of d) (omega arith) ∙ ap₂ (λ u v. words_of u ++ drop v ws) all i;
             within = omega (arith, going-long g);
           }
-      go (finds {a = b} {e = f} p x i j w) = absurd (o b f (h ∙ p))
+      go (finds {a = b} {e = f} p x i j w) = absurd (o (record { start = b; stop = f }) (h ∙ p))

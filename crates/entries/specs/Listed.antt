@@ -1,7 +1,8 @@
 -- The entries of a source in words.
 use Rattle.std.specs.Prelude.{ℕ, ◌*◌, ◌≤◌, ◌≡◌, List, [], ◌∷◌, ◌++◌, length, drop}
 use Rattle.syntax.specs.Layout.{tree_layout}
-use Rattle.syntax.specs.Next.{Extent, entries_of}
+use Rattle.syntax.specs.declared.next.Extent.{Extent}
+use Rattle.syntax.specs.Next.{entries_of}
 
 -- the longest source
 abbrev pub max_source : ℕ

@@ -9,7 +9,6 @@ use reader::entry_after;
 use std::io;
 use std::io::{Cursor, Read};
 use syntax::layout::{SIZES, TREE_WORDS_A_BYTE};
-use syntax::next::Next;
 
 // The most bytes of a source.
 const MAX_SOURCE: usize = 4_000;
@@ -25,15 +24,18 @@ fn list_entries(source: &[u8], tree: &mut [u32], list: &mut [u32]) -> usize
     let mut at = first_place(source);
     let mut n = 0;
     loop {
-        let Next::Entry(start, stop) = entry_after(source, at, tree) else {
-            return n;
-        };
-        let i = ENTRY_WORDS * n;
-        list[i] = start as u32;
-        let i = i + 1;
-        list[i] = stop as u32;
-        at = stop;
-        n += 1;
+        match entry_after(source, at, tree) {
+            Ok(Some(extent)) => {
+                let i = ENTRY_WORDS * n;
+                list[i] = extent.start as u32;
+                let i = i + 1;
+                list[i] = extent.stop as u32;
+                at = extent.stop;
+                n += 1;
+            }
+            Ok(None) => return n,
+            Err(_) => return n,
+        }
     }
 }
 

@@ -7,8 +7,9 @@ use lib.Seq.{drop-drop}
 use borrow.Author.Tests.{eq-eqb, ne_eqb}
 use Rattle.syntax.specs.declared.errors.ErrorKind.{ErrorKind}
 use Rattle.syntax.specs.declared.errors.ParserError.{ParserError}
+use Rattle.syntax.specs.declared.errors.CharRange.TheVariants.{Letters, Digits}
 use Rattle.syntax.specs.declared.errors.ErrorKind.TheVariants.{ExpectedToken, ExpectedCharRange}
-use Rattle.syntax.specs.Errors.{letter_range, digit_range, up_kind, up_fault, fault_at}
+use Rattle.syntax.specs.Errors.{up_kind, up_fault, fault_at}
 use Rattle.syntax.specs.Marks.{Mark, text_node}
 use Rattle.syntax.specs.Bytes.{starts_with, starts, run, is_digit, is_letter, is_name_part}
 use Rattle.syntax.specs.Reader.{Out, ok, bad, deep, Reader, after, next, fail}
@@ -62,7 +63,7 @@ pub digits-some : (x : List ℕ) → (run is_digit x ≡ 0 → ⊥) → skip_dig
 unfolding skip_digits
 digits-some x h = rw (ne_eqb (run is_digit x) 0 h, skip_digits)
 
-pub digits-none : (x : List ℕ) → run is_digit x ≡ 0 → skip_digits x ≡ fail (ExpectedCharRange digit_range) x
+pub digits-none : (x : List ℕ) → run is_digit x ≡ 0 → skip_digits x ≡ fail (ExpectedCharRange Digits) x
 unfolding skip_digits
 digits-none x h = rw (eq-eqb (run is_digit x) 0 h, skip_digits)
 
@@ -71,7 +72,7 @@ pub identifier-some : (kind : ℕ) (x : List ℕ) → starts is_letter x ≡ tru
 unfolding get_identifier
 identifier-some kind x h = rw (h, get_identifier)
 
-pub identifier-none : (kind : ℕ) (x : List ℕ) → starts is_letter x ≡ false → get_identifier kind x ≡ fail (ExpectedCharRange letter_range) x
+pub identifier-none : (kind : ℕ) (x : List ℕ) → starts is_letter x ≡ false → get_identifier kind x ≡ fail (ExpectedCharRange Letters) x
 unfolding get_identifier
 identifier-none kind x h = rw (h, get_identifier)
 

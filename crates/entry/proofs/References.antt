@@ -7,9 +7,10 @@ use lib.Seq.{drop-drop}
 use borrow.Author.Tests.{lt-ltb, le-ltb}
 use Rattle.syntax.specs.Byte as Byte
 use Rattle.syntax.specs.Bytes.{starts_with, starts, run, all, is_letter, is_name_part, is_callee_part}
+use Rattle.syntax.specs.declared.errors.CharRange.TheVariants.{Letters}
 use Rattle.syntax.specs.declared.errors.ErrorKind.TheVariants.{ForbiddenCallee, ExpectedCharRange}
 use Rattle.syntax.specs.declared.errors.ParserError.{ParserError}
-use Rattle.syntax.specs.Errors.{up_fault, fault_at, letter_range}
+use Rattle.syntax.specs.Errors.{up_fault, fault_at}
 use Rattle.syntax.specs.Marks.{Mark, move_up, text_node}
 use Rattle.syntax.specs.Reader.{Out, ok, bad, deep, after, next, ◌>>=◌, ◌>>◌, pure, fail}
 use Rattle.syntax.specs.Helper.{skip_blank, expect_byte, get_identifier}
@@ -72,7 +73,7 @@ accessor-marks x v ms k e n = by_case (starts_with Byte.dot x) yes no
 
         none : starts is_letter (drop 1 x) ≡ false → ltb n (n + length ms) ≡ v
         none l =
-            let z : get_attribute_accessor x ≡ bad (up_fault 1 (fault_at (ExpectedCharRange letter_range) 0)) (1 + 0) =
+            let z : get_attribute_accessor x ≡ bad (up_fault 1 (fault_at (ExpectedCharRange Letters) 0)) (1 + 0) =
             opened
             ∙ (unfold next after pure fail in (rw (expect-yes Byte.dot x q, identifier-none 9 (drop 1 x) l))) in
             let y : ◌≡◌ {A = ℕ} 0 1 = cc in

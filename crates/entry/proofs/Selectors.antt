@@ -9,8 +9,11 @@ use borrow.Author.Tests.{lt-ltb}
 use Rattle.syntax.specs.Byte as Byte
 use Rattle.syntax.specs.Bytes.{starts_with, spaces, eol}
 use Rattle.syntax.specs.declared.errors.ErrorKind.{ErrorKind}
+use Rattle.syntax.specs.declared.errors.CharRange.TheVariants.{LineEnd}
 use Rattle.syntax.specs.declared.errors.ErrorKind.TheVariants.{ExpectedCharRange, MessageAttributeAsSelector}
+use Rattle.syntax.specs.declared.errors.CharRange.TheVariants.{LineEnd}
 use Rattle.syntax.specs.declared.errors.ErrorKind.TheVariants.{MessageReferenceAsSelector, TermReferenceAsSelector}
+use Rattle.syntax.specs.declared.errors.CharRange.TheVariants.{LineEnd}
 use Rattle.syntax.specs.declared.errors.ErrorKind.TheVariants.{ExpectedSimpleExpressionAsSelector}
 use Rattle.syntax.specs.declared.errors.ParserError.{ParserError}
 use Rattle.syntax.specs.Errors.{up_fault, fault_at}
@@ -174,7 +177,7 @@ module _ (s : List ℕ) (at : ℕ) {e : ℕ} (i : Inline) (h : is_arrow (drop at
       (chosen ∙ used tt at at (sym (add-zero at))) (omega arith) (omega (arith, l)) minus
 
   -- no line end follows
-  pub select-unended : {f : ParserError} → eol (drop e s) ≡ 0 → f ≡ fault_at (ExpectedCharRange 2) e → (sub : Inside)
+  pub select-unended : {f : ParserError} → eol (drop e s) ≡ 0 → f ≡ fault_at (ExpectedCharRange LineEnd) e → (sub : Inside)
       → answer reading at 0 (select_from sub i (drop at s)) ≡ reads.Bad f e
   unfolding line_end skip_eol ◌>>=◌ next
   select-unended {f} z q sub =
@@ -184,7 +187,7 @@ module _ (s : List ℕ) (at : ℕ) {e : ℕ} (i : Inline) (h : is_arrow (drop at
       let n : Lost e f e (line_end sub (drop e s)) =
       rw (o, after_none)
       (unfold needs_line_end in
-      (lost-then _ (fail (ExpectedCharRange 2)) (skip_blank >> (get_variants sub >> pure select))
+      (lost-then _ (fail (ExpectedCharRange LineEnd)) (skip_blank >> (get_variants sub >> pure select))
       (lost-fail _ refl q))) in
       lost-answer (lost-after (omega (arith, past-arrow)) (opened sub) n)
 

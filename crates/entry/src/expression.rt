@@ -34,7 +34,7 @@ use crate::parser_core::{
 use crate::pattern::{TextTurn, finish, start, text_turn, with_placeable};
 use crate::string::skip_string_literal;
 use syntax::bytes::{is_ascii_alphabetic, is_ascii_digit};
-use syntax::errors::{ErrorKind, LINE_END, ParserError};
+use syntax::errors::{CharRange, ErrorKind, ParserError};
 use syntax::kind::{
     ARGUMENTS, CLOSING, FUNCTION, IDENTIFIER, MESSAGE_REFERENCE, NAMED_ARGUMENT,
     NAMED_ARGUMENT_END, NUMBER, PATTERN, PLACEABLE, PLACEABLE_END, SELECT, STRING, TERM_REFERENCE,
@@ -196,7 +196,10 @@ fn get_select(source: &[u8], at: usize, exp: Expression) -> AfterInline
     let end = skip_blank_inline(source, at + 2);
     let start = skip_eol(source, end);
     if start == end {
-        return AfterInline::Bad(error(ErrorKind::ExpectedCharRange(LINE_END), end), end);
+        return AfterInline::Bad(
+            error(ErrorKind::ExpectedCharRange(CharRange::LineEnd), end),
+            end,
+        );
     }
     AfterInline::Select(skip_blank(source, start))
 }

@@ -12,7 +12,7 @@ use crate::border::BlankBlock;
 use crate::bytes::{is_callee_part, is_name_part, is_number_byte};
 use crate::errors::error;
 use syntax::bytes::{is_ascii_alphabetic, is_ascii_digit, is_ascii_hexdigit};
-use syntax::errors::{DIGITS, ErrorKind, LETTERS, ParserError};
+use syntax::errors::{CharRange, ErrorKind, ParserError};
 
 // What a reader that writes no marks answers: the place after what it read, or an error and where it stopped.
 #[derive(Drop)]
@@ -223,7 +223,10 @@ pub fn skip_digits(source: &[u8], at: usize) -> Place
         end += 1;
     }
     if end == at {
-        return Place::Bad(error(ErrorKind::ExpectedCharRange(DIGITS), at), at);
+        return Place::Bad(
+            error(ErrorKind::ExpectedCharRange(CharRange::Digits), at),
+            at,
+        );
     }
     Place::At(end)
 }
@@ -275,7 +278,10 @@ pub fn get_identifier(source: &[u8], at: usize) -> Place
     ensures { (kind : ℕ) → Found source.now at (get_identifier kind (drop at source.now)) result }
 {
     if !is_identifier_start(source, at) {
-        return Place::Bad(error(ErrorKind::ExpectedCharRange(LETTERS), at), at);
+        return Place::Bad(
+            error(ErrorKind::ExpectedCharRange(CharRange::Letters), at),
+            at,
+        );
     }
     Place::At(get_identifier_unchecked(source, at + 1))
 }

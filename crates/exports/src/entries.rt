@@ -1,9 +1,11 @@
 // The entries of a source one by one, from a place that the caller keeps.
 ghost use Rattle.std.specs.Prelude.{◌≡◌, length};
-ghost use Rattle.syntax.specs.Next.{first_place, next_answer, number_of, value_of, place_after, NextTree};
+ghost use Rattle.syntax.specs.Answer.{number_of};
+ghost use Rattle.syntax.specs.Next.{first_place, next_answer, value_of, place_after, NextTree};
 
 use parser::next::{first_place, next_entry};
-use syntax::next::{number, value};
+use syntax::answer::number;
+use syntax::next::value;
 
 // The place from which the first entry is looked for.
 #[unsafe(no_mangle)]
@@ -13,7 +15,7 @@ pub extern "C" fn bevelumber_first_place(source: &[u8]) -> u64
     first_place(source) as u64
 }
 
-// The entry after a place: answers document 01's number, and writes the value that comes with it and the place after it.
+// The entry after a place: answers the number of its answer, and writes the value that comes with it and the place after it.
 #[unsafe(no_mangle)]
 pub extern "C" fn bevelumber_next_entry(
     source: &[u8],

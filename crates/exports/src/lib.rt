@@ -10,9 +10,18 @@ mod entries;
 
 use parser::read::read;
 use serializer::write::write;
-use syntax::answer::{number, value};
+use syntax::answer::{Answer, number, value};
 
-// The reading call: answers document 01's number, and writes the value that comes with it.
+// An answer as C has it: its number, and the value that comes with it where that is to be written.
+fn told(answer: Answer, returned: &mut u64) -> u32
+    ensures number { result ≡ number_of answer }
+    ensures value { returned.new ≡ value_of answer }
+{
+    *returned = value(answer);
+    number(answer)
+}
+
+// The reading call: answers the number of its answer, and writes the value that comes with it.
 #[unsafe(no_mangle)]
 pub extern "C" fn bevelumber_read(
     source: &[u8],
@@ -26,9 +35,7 @@ pub extern "C" fn bevelumber_read(
     ensures tree_after { tree.new ≡ tree_after source.now tree.old errors.old }
     ensures errors_after { errors.new ≡ errors_after source.now tree.old errors.old }
 {
-    let reading = read(source, tree, errors);
-    *returned = value(reading);
-    number(reading)
+    told(read(source, tree, errors), returned)
 }
 
 // The writing call, likewise.
@@ -45,7 +52,5 @@ pub extern "C" fn bevelumber_write(
         ≡ value_of (write_answer source.now tree.now (length output.old) with_junk) }
     ensures output_after { output.new ≡ output_after source.now tree.now output.old with_junk }
 {
-    let writing = write(source, tree, output, with_junk);
-    *returned = value(writing);
-    number(writing)
+    told(write(source, tree, output, with_junk), returned)
 }

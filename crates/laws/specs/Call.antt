@@ -1,12 +1,11 @@
 -- Calls that are accepted. Of a reading: what was read, that it stands in the slices, and that the writing call takes
 -- it. Of a writing: its text.
-use Rattle.std.specs.Prelude.{ℕ, Bool, false, List, ◌++◌, length, take, drop, ltb}
+use Rattle.std.specs.Prelude.{ℕ, Bool, false, List, ◌++◌, length, take, drop, ltb, Ok, Err}
 use Rattle.std.proofs.Common.{arith, sym, ◌∙◌, ltb-false}
 use Rattle.std.proofs.Math.Path.{◌≡◌, refl, ap}
 use Rattle.std.proofs.Math.Option.{Option, some, none}
 use Rattle.std.proofs.Math.Seq.{take-append_seam}
 use Rattle.utf8.specs.Utf8.{first_ill_formed, is_boundary}
-use Rattle.syntax.specs.declared.answer.Answer.TheVariants.{Accepted}
 use Rattle.syntax.specs.Answer.{effect_of, written, untouched, slice_by, slice_after}
 use Rattle.syntax.specs.Limits.{max_length, max_open}
 use Rattle.syntax.specs.Marks.{Mark}
@@ -26,7 +25,7 @@ use Rattle.laws.specs.Tests.{Passes, none-refuses, by_test}
 use Rattle.laws.specs.Text.Utf8.{text-utf8}
 
 -- an accepted writing: no test refuses, the answer is the text's length, the output starts with the text, and the text is UTF-8
-module _ (s t o : List ℕ) (junk : Bool) {v : ℕ} (h : write_answer s t (length o) junk ≡ Accepted v) where
+module _ (s t o : List ℕ) (junk : Bool) {v : ℕ} (h : write_answer s t (length o) junk ≡ Ok v) where
   abbrev text : List ℕ
   text = serialize s junk (marks_in t)
 
@@ -34,13 +33,13 @@ module _ (s t o : List ℕ) (junk : Bool) {v : ℕ} (h : write_answer s t (lengt
   unfolding write_answer effect_of
   passed =
       by_test s t
-      (λ a e u. let same : a ≡ Accepted v = rw (e, write_answer) at h in let z : written ≡ untouched = ap effect_of (sym same) ∙ u in clash z)
+      (λ r e u. let same : Err r ≡ Ok v = rw (e, write_answer) at h in let z : written ≡ untouched = ap effect_of (sym same) ∙ u in clash z)
       (λ p. p)
     where
       clash : {G : Type 0} → written ≡ untouched → G
       clash z = let y : ◌≡◌ {A = ℕ} 0 1 = cc in absurd (omega arith)
 
-  answered : text_answer (length o) (length text) ≡ Accepted v
+  answered : text_answer (length o) (length text) ≡ Ok v
   unfolding write_answer
   answered = rw (none-refuses s t passed, write_answer) at h
 
@@ -71,7 +70,7 @@ pub record Read (s t e : List ℕ) : Type 0 where
   pub tree : tree_after s t e ≡ tree_words (tree_capacity (length s)) marks ++ drop (tree_layout (length s)) t
   pub list : errors_after s t e ≡ error_words (length s) errors ++ drop (error_layout (length s)) e
 
-module _ (s t e : List ℕ) (h : read_answer s (length t) (length e) ≡ Accepted 0) where
+module _ (s t e : List ℕ) (h : read_answer s (length t) (length e) ≡ Ok 0) where
   -- no test refuses
   short : ltb max_length (length s) ≡ false
   unfolding read_answer
@@ -102,7 +101,7 @@ module _ (s t e : List ℕ) (h : read_answer s (length t) (length e) ≡ Accepte
       absurd (omega arith))
       (λ q. q)
 
-  shallow : answer_of (parse max_open s) ≡ Accepted 0
+  shallow : answer_of (parse max_open s) ≡ Ok 0
   unfolding read_answer
   shallow = rw (short, read_answer, formed, trees, lists) at h
 
@@ -111,7 +110,7 @@ module _ (s t e : List ℕ) (h : read_answer s (length t) (length e) ≡ Accepte
   unfolding answer_of tree_after errors_after slice_after effect_of slice_by marks_of errors_of
   read_of = go (parse max_open s) refl shallow
     where
-      go : (r : Reading) → parse max_open s ≡ r → answer_of r ≡ Accepted 0 → Read s t e
+      go : (r : Reading) → parse max_open s ≡ r → answer_of r ≡ Ok 0 → Read s t e
       go (read ms es) q a = record {
         marks = ms;
         errors = es;

@@ -8,6 +8,8 @@ use mathlib.Core.List.{List, [], ◌∷◌, ◌++◌, map}
 use Rattle.std.proofs.Math.ListN.{drop}
 use Rattle.std.proofs.Math.Dec.{eqb}
 use borrow.Author.Tests.{eqb-true, le-ltb}
+use Rattle.syntax.specs.declared.errors.CharRange.TheVariants.{Letters}
+use Rattle.syntax.specs.declared.errors.ErrorKind.TheVariants.{ExpectedCharRange}
 use Rattle.syntax.specs.Bytes.{starts_with, starts, is_letter, spaces, eol, run}
 use Rattle.syntax.specs.Marks.{Mark, plain, placed, kind_of, move_up, node}
 use Rattle.syntax.specs.declared.errors.ParserError.{ParserError}
@@ -183,7 +185,7 @@ module _ (sub : Inside) where
     record {
       start = 0;
       end = 1;
-      kind = Rattle.syntax.specs.declared.errors.ErrorKind.TheVariants.ExpectedCharRange 1;
+      kind = ExpectedCharRange Letters;
     },
     0,
     refl,
@@ -201,7 +203,7 @@ module _ (sub : Inside) where
     record {
       start = 0;
       end = 1;
-      kind = Rattle.syntax.specs.declared.errors.ErrorKind.TheVariants.ExpectedCharRange 1;
+      kind = ExpectedCharRange Letters;
     },
     0,
     rw (p, get_entry) (rw q (rw (r, get_identifier) refl)),

@@ -1,16 +1,36 @@
 -- The tests 1, 2 and 6: which refusal each of them gives, what holds where none is given, and that a refusal of theirs changes nothing.
-use Rattle.std.specs.Prelude.{ℕ, ◌≤◌, ◌<◌, ◌≡◌, refl, true, false, List, ltb, length}
-use Rattle.std.proofs.Common.{arith, ◌∙◌, ltb-true, ltb-false, lt-ltb, le-ltb}
+use Rattle.std.specs.Prelude.{ℕ, ◌≤◌, ◌<◌, ◌≡◌, refl, true, false, List, ltb, length, Ok, Err}
+use Rattle.std.proofs.Common.{arith, sym, ap, ◌∙◌, ltb-true, ltb-false, lt-ltb, le-ltb}
 use Rattle.std.proofs.Math.Option.{Option, some, none}
 use Rattle.utf8.specs.Utf8.{first_ill_formed, is_boundary}
-use Rattle.syntax.specs.declared.answer.Answer.{Answer}
-use Rattle.syntax.specs.declared.answer.Answer.TheVariants.{TooLong, NotUtf8, IllFormed}
+use Rattle.syntax.specs.declared.answer.Refusal.{Refusal}
+use Rattle.syntax.specs.declared.answer.Refusal.TheVariants.{TooLong, NotUtf8, IllFormed}
 use Rattle.syntax.specs.Answer.{effect_of, untouched}
 use Rattle.syntax.specs.Limits.{max_length, max_open}
 use Rattle.syntax.specs.Layout.{marks_in}
 use Rattle.syntax.specs.Shape.{verdict}
-use Rattle.syntax.specs.Tests.{no_mark, sizes_fit, source_refusal, tree_refusal, refusal}
+use Rattle.syntax.specs.Tests.{no_mark, sizes_fit, source_refusal, tree_refusal, refusal, tested_of}
 use Rattle.laws.specs.Bytes.{by_case}
+
+-- the answer of a function that tests tells the refusal, and back
+module _ {o : Option Refusal} where
+  pub refused : {r : Refusal} → o ≡ some r → Err r ≡ tested_of o
+  unfolding tested_of
+  refused e = sym (ap tested_of e)
+
+  pub passed : o ≡ none → Ok tt ≡ tested_of o
+  unfolding tested_of
+  passed e = sym (ap tested_of e)
+
+pub refusal-of : (o : Option Refusal) (r : Refusal) → Err r ≡ tested_of o → o ≡ some r
+unfolding tested_of
+refusal-of none r e = let z : ◌≡◌ {A = ℕ} 0 1 = cc in absurd (omega arith)
+refusal-of (some b) r e = let same : b ≡ r = cc in ap some same
+
+pub none_of : (o : Option Refusal) → Ok tt ≡ tested_of o → o ≡ none
+unfolding tested_of
+none_of none e = refl
+none_of (some b) e = let z : ◌≡◌ {A = ℕ} 0 1 = cc in absurd (omega arith)
 
 -- what holds where none is given
 pub record Passes (s t : List ℕ) : Type 0 where
@@ -54,12 +74,30 @@ module _ (s t : List ℕ) where
   pub none-refuses : Passes s t → refusal s t ≡ none
   none-refuses p = all-well p.short p.formed p.sizes p.shape
 
+-- the tests of a source: one that refuses is the first, and what holds where none does
+module _ (s : List ℕ) where
+  pub source-first : (t : List ℕ) {r : Refusal} → source_refusal s ≡ some r → refusal s t ≡ some r
+  unfolding refusal
+  source-first t e = rw (e, refusal) refl
+
+  pub source-passes : source_refusal s ≡ none → (length s ≤ max_length) × (first_ill_formed s ≡ none)
+  unfolding source_refusal
+  source-passes e =
+      by_case (ltb max_length (length s))
+      (λ q. let g = rw (q, source_refusal) at e in let z : ◌≡◌ {A = ℕ} 0 1 = cc in absurd (omega arith))
+      (λ q. (ltb-false _ _ q, go (first_ill_formed s) refl (rw (q, source_refusal) at e)))
+    where
+      go : (o : Option ℕ) → first_ill_formed s ≡ o → elim o as (λ _. Option Refusal) [ some k ↦ some (NotUtf8 k) | none ↦ none ] ≡ none
+          → first_ill_formed s ≡ none
+      go none q g = q
+      go (some k) q g = let z : ◌≡◌ {A = ℕ} 0 1 = cc in absurd (omega arith)
+
 by_option : {G : Type 0} → (o : Option ℕ) → ((k : ℕ) → o ≡ some k → G) → (o ≡ none → G) → G
 by_option none f g = g refl
 by_option (some k) f g = f k refl
 
 -- One of the tests refuses, with a refusal that changes nothing, or a source and a tree pass.
-pub by_test : {G : Type 0} (s t : List ℕ) → ((a : Answer) → refusal s t ≡ some a → effect_of a ≡ untouched → G) → (Passes s t → G) → G
+pub by_test : {G : Type 0} (s t : List ℕ) → ((r : Refusal) → refusal s t ≡ some r → effect_of (Err r) ≡ untouched → G) → (Passes s t → G) → G
 unfolding effect_of
 by_test s t refuse pass =
     by_case (ltb max_length (length s))
@@ -76,8 +114,8 @@ some-none : {G : Type 0} {A : Type 0} {a : A} {x : Option A} → x ≡ some a �
 some-none p q = let z : ◌≡◌ {A = ℕ} 0 1 = cc in absurd (omega arith)
 
 pub passes : (s t : List ℕ) → refusal s t ≡ none → Passes s t
-passes s t e = by_test s t (λ a r u. some-none r e) (λ p. p)
+passes s t e = by_test s t (λ r q u. some-none q e) (λ p. p)
 
-pub refusal-keeps : (s t : List ℕ) (a : Answer) → refusal s t ≡ some a → effect_of a ≡ untouched
-refusal-keeps s t a e =
-    by_test s t (λ b r u. let same : a ≡ b = cc in rw (same, u)) (λ p. some-none e (none-refuses s t p))
+pub refusal-keeps : (s t : List ℕ) (r : Refusal) → refusal s t ≡ some r → effect_of (Err r) ≡ untouched
+refusal-keeps s t r e =
+    by_test s t (λ b q u. let same : r ≡ b = cc in rw (same, u)) (λ p. some-none e (none-refuses s t p))

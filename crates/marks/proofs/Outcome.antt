@@ -9,9 +9,10 @@ use lib.ListN.{length, drop}
 use lib.Dec.{ltb}
 use borrow.Author.Tests.{le-ltb}
 use Rattle.utf8.specs.Utf8.{first_ill_formed}
-use Rattle.syntax.specs.declared.answer.Answer.{Answer}
-use Rattle.syntax.specs.declared.answer.Answer.TheVariants.{Accepted, NotUtf8, TooDeep}
-use Rattle.syntax.specs.Answer.{number_of, value_of}
+use Rattle.std.proofs.Common.{Ok, Err}
+use Rattle.syntax.specs.declared.answer.Refusal.{Refusal}
+use Rattle.syntax.specs.declared.answer.Refusal.TheVariants.{NotUtf8, TooDeep}
+use Rattle.syntax.specs.Answer.{Answer, number_of, value_of, refusal_number, refusal_value}
 use Rattle.syntax.specs.Limits.{max_length, max_open}
 use Rattle.syntax.specs.Core.{Reading, read, refused, parse}
 use Rattle.syntax.specs.Layout.{tree_layout, error_layout, count, capacity}
@@ -64,42 +65,44 @@ module _ {s t e out : List ℕ} (l : Lent s t e out) where
         le-ltb (length e) (error_layout (length s)) (omega (arith, l.source, l.errors)),
       )
 
-  ill-formed : (k : ℕ) → first_ill_formed s ≡ some k → answer ≡ NotUtf8 k
+  ill-formed : (k : ℕ) → first_ill_formed s ≡ some k → answer ≡ Err (NotUtf8 k)
   unfolding read_answer
   ill-formed k q = rw (short, read_answer, q)
 
   -- a refusal is a line of its number and value
-  pub refusal : {t' e' : List ℕ} {a : Answer} → DidRead s t t' e e' a → ((v : ℕ) → a ≡ Accepted v → ⊥)
-      → line (number_of a ∷ value_of a ∷ []) ≡ printed s
-  refusal {a = a} h other = by (first_ill_formed s) refl
+  pub refusal : {t' e' : List ℕ} {r : Refusal} → DidRead s t t' e e' (Err r) → line (refusal_number r ∷ refusal_value r ∷ []) ≡ printed s
+  refusal {r = r} h = by (first_ill_formed s) refl
     where
-      deep : (o : Reading) → parse max_open s ≡ o → first_ill_formed s ≡ none → line (number_of a ∷ value_of a ∷ []) ≡ printed s
-      deep (read ms es) p f = unfold answer_of in (absurd (other 0 (h.answers.same ∙ formed f ∙ ap answer_of p)))
+      other : {v : ℕ} → Err r ≡ Ok v → ⊥
+      other e = let z : ◌≡◌ {A = ℕ} 0 1 = cc in omega arith
+
+      deep : (o : Reading) → parse max_open s ≡ o → first_ill_formed s ≡ none → line (refusal_number r ∷ refusal_value r ∷ []) ≡ printed s
+      deep (read ms es) p f = unfold answer_of in (absurd (other (h.answers.same ∙ formed f ∙ ap answer_of p)))
       deep (refused k) p f =
           unfold printed listing lines_of lines answer_of in
           (ap (λ b. line (number_of b ∷ value_of b ∷ [])) (h.answers.same ∙ formed f ∙ ap answer_of p) ∙ sym (append-nil (line (5 ∷ k ∷ [])))
           ∙ sym (rw (f, printed) (ap (λ o. lines (lines_of o)) p)))
 
-      by : (o : Option ℕ) → first_ill_formed s ≡ o → line (number_of a ∷ value_of a ∷ []) ≡ printed s
+      by : (o : Option ℕ) → first_ill_formed s ≡ o → line (refusal_number r ∷ refusal_value r ∷ []) ≡ printed s
       by none f = deep (parse max_open s) refl f
       by (some k) f = unfold printed in (ap (λ b. line (number_of b ∷ value_of b ∷ [])) (h.answers.same ∙ ill-formed k f) ∙ sym (rw (f, printed)))
 
   -- acceptance has the value 0
-  zero-value : (v : ℕ) → answer ≡ Accepted v → answer ≡ Accepted 0
+  zero-value : (v : ℕ) → answer ≡ Ok v → answer ≡ Ok 0
   zero-value v h = by (first_ill_formed s) refl
     where
-      read-value : (o : Reading) → parse max_open s ≡ o → first_ill_formed s ≡ none → answer ≡ Accepted 0
+      read-value : (o : Reading) → parse max_open s ≡ o → first_ill_formed s ≡ none → answer ≡ Ok 0
       read-value (read ms es) p f = unfold answer_of in (formed f ∙ ap answer_of p)
       read-value (refused k) p f = unfold answer_of in
-          (let g : TooDeep k ≡ Accepted v = sym (formed f ∙ ap answer_of p) ∙ h in let z : ◌≡◌ {A = ℕ} 0 1 = cc in
+          (let g : Err (TooDeep k) ≡ Ok v = sym (formed f ∙ ap answer_of p) ∙ h in let z : ◌≡◌ {A = ℕ} 0 1 = cc in
           absurd (omega arith))
 
-      by : (o : Option ℕ) → first_ill_formed s ≡ o → answer ≡ Accepted 0
+      by : (o : Option ℕ) → first_ill_formed s ≡ o → answer ≡ Ok 0
       by none f = read-value (parse max_open s) refl f
-      by (some k) f = let g : NotUtf8 k ≡ Accepted v = sym (ill-formed k f) ∙ h in let z : ◌≡◌ {A = ℕ} 0 1 = cc in absurd (omega arith)
+      by (some k) f = let g : Err (NotUtf8 k) ≡ Ok v = sym (ill-formed k f) ∙ h in let z : ◌≡◌ {A = ℕ} 0 1 = cc in absurd (omega arith)
 
   -- what an accepted reading leaves
-  pub acceptance : {t' e' : List ℕ} {a : Answer} {v : ℕ} → DidRead s t t' e e' a → a ≡ Accepted v → length t' ≡ length t
+  pub acceptance : {t' e' : List ℕ} {a : Answer} {v : ℕ} → DidRead s t t' e e' a → a ≡ Ok v → length t' ≡ length t
       → length e' ≡ length e → Ready s t' e' out
   acceptance {t'} {e'} {v = v} h z a b =
       let d = read_of s t e (zero-value v (sym h.answers.same ∙ z)) in

@@ -2,14 +2,14 @@
 use Rattle.std.specs.Prelude.{ℕ, ◌≤◌, ◌≡◌, List, [], ◌∷◌, ◌++◌, length, drop}
 use Rattle.std.proofs.Math.Option.{some, none}
 use Rattle.utf8.specs.Utf8.{first_ill_formed}
-use Rattle.syntax.specs.declared.answer.Answer.TheVariants.{NotUtf8}
-use Rattle.syntax.specs.Answer.{number_of, value_of}
+use Rattle.syntax.specs.declared.answer.Refusal.TheVariants.{NotUtf8}
+use Rattle.syntax.specs.Answer.{refusal_number, refusal_value}
 use Rattle.syntax.specs.Layout.{tree_layout, error_layout}
 use Rattle.syntax.specs.Listing.{line, listing}
 
 -- the refusal of a source that is not UTF-8, or the listing of what is read
 unfoldable pub printed : List ℕ → List ℕ
-printed s = elim (first_ill_formed s) [ some k ↦ line (number_of (NotUtf8 k) ∷ value_of (NotUtf8 k) ∷ []) | none ↦ listing s ]
+printed s = elim (first_ill_formed s) [ some k ↦ line (refusal_number (NotUtf8 k) ∷ refusal_value (NotUtf8 k) ∷ []) | none ↦ listing s ]
 
 -- the longest source
 abbrev pub max_source : ℕ

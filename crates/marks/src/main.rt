@@ -10,7 +10,6 @@ use crate::listing::{put_pair, put_reading};
 use parser::read::read;
 use std::io;
 use std::io::{Cursor, Read};
-use syntax::answer::{Answer, number, value};
 use syntax::layout::{ERROR_WORDS_A_BYTE, SIZES, TREE_WORDS_A_BYTE};
 
 // The most bytes of a source.
@@ -24,11 +23,10 @@ fn report(source: &[u8], tree: &mut [u32], errors: &mut [u32], output: &mut [u8]
     requires { Lent source.now tree.old errors.old output.old }
     ensures { Reported source.now output.old output.new result }
 {
-    let answer = read(source, tree, errors);
-    if let Answer::Accepted(_) = answer {
-        return put_reading(tree, errors, output);
+    match read(source, tree, errors) {
+        Ok(_) => put_reading(tree, errors, output),
+        Err(refusal) => put_pair(output, 0, u64::from(refusal.number()), refusal.value()),
     }
-    put_pair(output, 0, number(answer) as u64, value(answer))
 }
 
 // Prints what a source gives.

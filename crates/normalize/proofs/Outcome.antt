@@ -7,9 +7,9 @@ use mathlib.Core.List.{List}
 use lib.Dec.{eqb}
 use lib.ListN.{length, length-append, drop}
 use borrow.Author.Tests.{eqb-true, eqb-false, eq-eqb, ne_eqb}
-use Rattle.syntax.specs.declared.answer.Answer.{Answer}
-use Rattle.syntax.specs.declared.answer.Answer.TheVariants.{Accepted}
-use Rattle.syntax.specs.Answer.{number_of}
+use Rattle.std.proofs.Common.{Ok, Err}
+use Rattle.syntax.specs.declared.answer.Refusal.{Refusal}
+use Rattle.syntax.specs.Answer.{Answer, number_of}
 use Rattle.syntax.specs.Layout.{marks_in}
 use Rattle.syntax.specs.Serializer.{serialize}
 use Rattle.syntax.specs.Reading.{read_answer, tree_after}
@@ -22,7 +22,7 @@ use Rattle.serializer.specs.Call.{DidWrite}
 use Rattle.normalize.specs.Normal.{where_accepted, Normalized}
 
 -- the output has the text
-written-fits : (s t o o' : List ℕ) {v : ℕ} → write_answer s t (length o) true ≡ Accepted v → o' ≡ output_after s t o true → v ≤ length o'
+written-fits : (s t o o' : List ℕ) {v : ℕ} → write_answer s t (length o) true ≡ Ok v → o' ≡ output_after s t o true → v ≤ length o'
 written-fits s t o o' h w =
     let text = serialize s true (marks_in t) in
     omega (arith, written-size s t o true h, ap length (w ∙ written-output s t o true h), length-append text (drop (length text) o))
@@ -36,7 +36,7 @@ refuses : {A : Type 0} (a : Answer) (x y : A) → (number_of a ≡ 0 → ⊥) �
 unfolding where_accepted
 refuses a x y e = rw (ne_eqb (number_of a) 0 e, where_accepted)
 
-pub normal-fits : {s t e o o' : List ℕ} {r : Answer} {v : ℕ} → Normalized s t e o o' r → r ≡ Accepted v → v ≤ length o'
+pub normal-fits : {s t e o o' : List ℕ} {r : Answer} {v : ℕ} → Normalized s t e o o' r → r ≡ Ok v → v ≤ length o'
 normal-fits {s} {t} {e} {o} {o'} {v = v} n h = by_case (eqb (number_of a) 0) (λ q. fits (eqb-true _ _ q)) (λ q. refused (eqb-false _ _ q))
   where
     a : Answer
@@ -50,7 +50,7 @@ normal-fits {s} {t} {e} {o} {o'} {v = v} n h = by_case (eqb (number_of a) 0) (λ
     refused q = absurd (q (ap number_of (sym (refuses a _ a q) ∙ (sym n.answers ∙ h))))
 
 -- a source that is read is written
-pub normal-written : {s t t' e e' o o' : List ℕ} {a r : Answer} {v : ℕ} → DidRead s t t' e e' a → a ≡ Accepted v
+pub normal-written : {s t t' e e' o o' : List ℕ} {a r : Answer} {v : ℕ} → DidRead s t t' e e' a → a ≡ Ok v
     → DidWrite s t' o o' true r → Normalized s t e o o' r
 normal-written {s} {o = o} d h w =
     let q = ap number_of (sym d.answers.same ∙ h) in
@@ -60,9 +60,11 @@ normal-written {s} {o = o} d h w =
     }
 
 -- a source that is refused is not
-pub normal-refused : {s t t' e e' o : List ℕ} {a : Answer} → DidRead s t t' e e' a → ((v : ℕ) → a ≡ Accepted v → ⊥)
-    → Normalized s t e o o a
-normal-refused {s} {t} {e = e} {a = a} d h = record { answers = d.answers.same ∙ sym (refuses _ _ _ other); output = sym (refuses _ _ _ other) }
+pub normal-refused : {s t t' e e' o : List ℕ} {r : Refusal} → DidRead s t t' e e' (Err r) → Normalized s t e o o (Err r)
+normal-refused {s} {t} {e = e} {r = r} d = record { answers = d.answers.same ∙ sym (refuses _ _ _ other); output = sym (refuses _ _ _ other) }
   where
     other : number_of (read_answer s (length t) (length e)) ≡ 0 → ⊥
-    other q = h _ (accepted a (d.answers.number ∙ q))
+    other q = no (accepted (Err r) (d.answers.number ∙ q))
+      where
+        no : {v : ℕ} → Err r ≡ Ok v → ⊥
+        no h = let z : ◌≡◌ {A = ℕ} 0 1 = cc in omega arith

@@ -1,7 +1,6 @@
 -- The normal text of a source: it is read, and the tree that was left is written, junk with it.
 use Rattle.std.specs.Prelude.{ℕ, ◌≡◌, true, false, List, length, eqb}
-use Rattle.syntax.specs.declared.answer.Answer.{Answer}
-use Rattle.syntax.specs.Answer.{number_of}
+use Rattle.syntax.specs.Answer.{Answer, number_of}
 use Rattle.syntax.specs.Reading.{read_answer, tree_after}
 use Rattle.syntax.specs.Writing.{write_answer, output_after}
 

@@ -7,7 +7,7 @@ use parser::read::read;
 use serializer::write::write;
 use std::io;
 use std::io::{Cursor, Read};
-use syntax::answer::{Answer, number, value};
+use syntax::answer::Answer;
 use syntax::layout::{ERROR_WORDS_A_BYTE, SIZES, TREE_WORDS_A_BYTE};
 
 // The most bytes of a source.
@@ -20,17 +20,8 @@ fn normalize(source: &[u8], tree: &mut [u32], errors: &mut [u32], output: &mut [
     ensures { Normalized source.now tree.old errors.old output.old
         output.new result }
 {
-    let answer = read(source, tree, errors);
-    if let Answer::Accepted(_) = answer {
-        return write(source, tree, output, true);
-    }
-    answer
-}
-
-fn refuse(rt: &impl Eprint, answer: Answer) -> io::Result<()> {
-    let n = number(answer);
-    let v = value(answer);
-    eprintln!(rt; "normalize: refusal {n}, {v}")
+    read(source, tree, errors)?;
+    write(source, tree, output, true)
 }
 
 // Prints the text of a source.
@@ -38,12 +29,12 @@ fn print(rt: &(impl Print + Eprint), source: &[u8]) -> io::Result<()> {
     let mut tree = [0u32; SIZES + TREE_WORDS_A_BYTE * MAX_SOURCE];
     let mut errors = [0u32; SIZES + ERROR_WORDS_A_BYTE * MAX_SOURCE];
     let mut output = [0u8; OUTPUT_ROOM];
-    let answer = normalize(source, &mut tree, &mut errors, &mut output);
-    if let Answer::Accepted(size) = answer {
-        let length = size as usize;
-        rt.write_all(&output[..length])
-    } else {
-        refuse(rt, answer)
+    match normalize(source, &mut tree, &mut errors, &mut output) {
+        Ok(size) => {
+            let length = size as usize;
+            rt.write_all(&output[..length])
+        }
+        Err(refusal) => eprintln!(rt; "normalize: {refusal}"),
     }
 }
 

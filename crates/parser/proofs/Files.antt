@@ -9,6 +9,7 @@ use lib.Dec.{eqb, ltb}
 use lib.ListN.{length, get_or, drop, set, length-set, length-append, length-drop, length-map, drop_of_length-le}
 use lib.Seq.{drop-cons, drop-drop}
 use borrow.Author.Tests.{eqb-true, lt-ltb, le-ltb}
+use Rattle.std.proofs.Common.{Ok, Err}
 use Rattle.syntax.specs.Limits.{max_open}
 use Rattle.syntax.specs.Kind.{closing}
 use Rattle.syntax.specs.declared.errors.ParserError.{ParserError}
@@ -41,7 +42,6 @@ use Rattle.parser.specs.Resource.{regular, kept, Attachable, attached, Moved, ju
 use Rattle.parser.specs.declared.resource.LastComment.{LastComment}
 use Rattle.parser.specs.declared.resource.LastComment.TheVariants.{At, None}
 use Rattle.parser.specs.declared.resource.State.{State}
-use Rattle.parser.specs.declared.resource.Parsed.TheVariants.{Counts, Deep}
 use Rattle.parser.proofs.Seeks.{starts-later}
 use Rattle.entry.proofs.Steps.{step-none, step_cut, step_then}
 use Rattle.parser.proofs.Changed.{step-kind}
@@ -462,10 +462,10 @@ unfolding get_entry starts_with fields get_identifier starts fail ◌>>=◌ next
 nothing-named sub = refl
 
 module _ {s t t' e e' : List ℕ} (f : Framed s t t' e e') where
-  pub did-end : {x : State} → Held s t' e' x → length s ≤ x.at → DidParse s t t' e e' (Counts x.marks x.errors) (parse max_open s)
+  pub did-end : {x : State} → Held s t' e' x → length s ≤ x.at → DidParse s t t' e e' (Ok (record { marks = x.marks; errors = x.errors })) (parse max_open s)
   unfolding marks_of errors_of
   did-end {x} h n = record {
-    answers = rw all (ap₂ Counts h.counted h.listed);
+    answers = rw all (ap₂ (λ n k. Ok (record { marks = n; errors = k })) h.counted h.listed);
     tree = rw all (step_then f.tree refl h.tree);
     errors = rw all (rows_then f.list refl h.list);
   }
@@ -480,7 +480,7 @@ module _ {s t t' e e' : List ℕ} (f : Framed s t t' e e') where
       all : parse max_open s ≡ read (h.marks false) h.faults
       all = (rw none at h.answer) ∙ last
 
-  pub did-deep : {k : ℕ} → parse max_open s ≡ refused k → DidParse s t t' e e' (Deep k) (parse max_open s)
+  pub did-deep : {k : ℕ} → parse max_open s ≡ refused k → DidParse s t t' e e' (Err k) (parse max_open s)
   unfolding marks_of errors_of
   did-deep h = record { answers = rw h; tree = rw (h, words-none) f.tree; errors = rw h f.list }
 

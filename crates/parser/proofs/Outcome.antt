@@ -12,21 +12,22 @@ use Rattle.syntax.specs.Limits.{max_open}
 use Rattle.syntax.specs.Marks.{Mark}
 use Rattle.syntax.specs.Core.{Error, Reading, read, refused, parse}
 use Rattle.syntax.specs.Layout.{tree_layout, error_layout, array, tree_words, error_words}
-use Rattle.syntax.specs.Answer.{effect_of, slice_by, slice_after}
+use Rattle.std.proofs.Common.{Result, Ok, Err}
+use Rattle.syntax.specs.Answer.{Answer, effect_of, slice_by, slice_after}
 use Rattle.syntax.specs.Reading.{answer_of, read_answer, tree_after, errors_after, marks_of, errors_of}
-use Rattle.syntax.specs.declared.answer.Answer.{Answer}
-use Rattle.syntax.specs.declared.answer.Answer.TheVariants.{Accepted, TooLong, NotUtf8, TreeTooShort, ErrorsTooShort, TooDeep}
-use Rattle.utf8.specs.Utf8.{first_ill_formed, checked_of}
-use Rattle.utf8.specs.declared.Checked.{Checked}
-use Rattle.utf8.specs.declared.Checked.TheVariants.{WellFormed, IllFormed}
+use Rattle.syntax.specs.Tests.{source_refusal, tested_of}
+use Rattle.syntax.specs.declared.answer.Refusal.{Refusal}
+use Rattle.syntax.specs.declared.answer.Refusal.TheVariants.{TooLong, NotUtf8, TreeTooShort, ErrorsTooShort, TooDeep}
+use Rattle.utf8.specs.Utf8.{first_ill_formed}
+use Rattle.laws.specs.Bytes.{by_case}
 use Rattle.laws.specs.File.{parse-read}
+use Rattle.laws.specs.Tests.{refusal-of}
 use Rattle.entry.specs.Tree.{words_at, Step}
 use Rattle.parser.specs.ErrorList.{ErrorStep}
 use Rattle.parser.specs.Laid.{finished}
 use Rattle.laws.specs.Answered.{answered}
 use Rattle.parser.specs.Call.{Sized, parsed_of, DidParse, DidReadInto, DidRead}
-use Rattle.parser.specs.declared.resource.Parsed.{Parsed}
-use Rattle.parser.specs.declared.resource.Parsed.TheVariants.{Counts, Deep}
+use Rattle.parser.specs.declared.resource.Counts.{Counts}
 use Rattle.parser.proofs.Words.{kinds-are, places-are}
 
 tree-finished : (cap : ℕ) (t t₁ : List ℕ) (ms : List Mark) → Step cap 0 t t₁ (words_at 0 ms) → length ms ≤ cap → 2 + 2 * cap ≤ length t
@@ -54,32 +55,33 @@ errors-finished cap t t₁ es s =
 zeroed-all : (n : ℕ) (t t₁ : List ℕ) → drop n t₁ ≡ drop n t → take 0 t₁ ++ (replicate (n - 0) 0 ++ drop n t₁) ≡ replicate n 0 ++ drop n t
 zeroed-all n t t₁ e = let z : n - 0 ≡ n = omega arith in ap₂ (λ (k : ℕ) (r : List ℕ). replicate k 0 ++ r) z e
 
-module _ (s t t₁ e e₁ : List ℕ) (r : Parsed) (z : Sized s t e) (d : DidParse s t t₁ e e₁ r (parse max_open s)) where
-  pub record Counted (n k : ℕ) : Type 0 where
+module _ (s t t₁ e e₁ : List ℕ) (r : Result Counts ℕ) (z : Sized s t e) (d : DidParse s t t₁ e e₁ r (parse max_open s)) where
+  pub record Counted (c : Counts) : Type 0 where
     pub ms : List Mark
     pub es : List Error
     pub reads : parse max_open s ≡ read ms es
-    pub marks : n ≡ length ms
-    pub errors : k ≡ length es
+    pub marks : c.marks ≡ length ms
+    pub errors : c.errors ≡ length es
     pub room : length ms ≤ 8 * length s
     pub few : length es ≤ length s
 
-  pub counted : (n k : ℕ) → r ≡ Counts n k → Counted n k
-  counted n k h = go (parse max_open s) refl
+  pub counted : (c : Counts) → r ≡ Ok c → Counted c
+  counted c h = go (parse max_open s) refl
     where
-      go : (o : Reading) → parse max_open s ≡ o → Counted n k
+      go : (o : Reading) → parse max_open s ≡ o → Counted c
       go (read ms es) q =
           let u = parse-read max_open s q in
-          let a : r ≡ Counts (length ms) (length es) = d.answers ∙ ap parsed_of q in
-          record { ms = ms; es = es; reads = q; marks = cc; errors = cc; room = omega (arith, u.0.room); few = u.1 }
-      go (refused j) q = let a : r ≡ Deep j = d.answers ∙ ap parsed_of q in let y : ◌≡◌ {A = ℕ} 0 1 = cc in absurd (omega arith)
+          let a : r ≡ Ok (record { marks = length ms; errors = length es }) = d.answers ∙ ap parsed_of q in
+          let same : c ≡ (record { marks = length ms; errors = length es }) = cc in
+          record { ms = ms; es = es; reads = q; marks = ap (λ (x : Counts). x.marks) same; errors = ap (λ (x : Counts). x.errors) same; room = omega (arith, u.0.room); few = u.1 }
+      go (refused j) q = let a : r ≡ Err j = d.answers ∙ ap parsed_of q in let y : ◌≡◌ {A = ℕ} 0 1 = cc in absurd (omega arith)
 
-  pub accepted : (n k : ℕ) (t₂ e₂ : List ℕ) → r ≡ Counts n k → t₂ ≡ finished (8 * length s) n (8 * length s) n t₁
-      → e₂ ≡ finished (length s) k (6 * length s) (6 * k) e₁
-      → DidReadInto s t t₂ e e₂ (Accepted 0)
+  pub accepted : (k : Counts) (t₂ e₂ : List ℕ) → r ≡ Ok k → t₂ ≡ finished (8 * length s) k.marks (8 * length s) k.marks t₁
+      → e₂ ≡ finished (length s) k.errors (6 * length s) (6 * k.errors) e₁
+      → DidReadInto s t t₂ e e₂ (Ok 0)
   unfolding answer_of slice_after effect_of slice_by marks_of errors_of
-  accepted n k t₂ e₂ h x y =
-      let c = counted n k h in
+  accepted k t₂ e₂ h x y =
+      let c = counted k h in
       let step : Step (8 * length s) 0 t t₁ (words_at 0 c.ms) = rw c.reads at d.tree in
       let rows : ErrorStep (length s) 0 e e₁ c.es = rw c.reads at d.errors in
       record {
@@ -94,21 +96,21 @@ module _ (s t t₁ e e₁ : List ℕ) (r : Parsed) (z : Sized s t e) (d : DidPar
             ∙ errors-finished (length s) e e₁ c.es rows);
       }
 
-  pub too-deep : (j : ℕ) (t₂ e₂ : List ℕ) → r ≡ Deep j
+  pub too-deep : (j : ℕ) (t₂ e₂ : List ℕ) → r ≡ Err j
       → t₂ ≡ take 0 t₁ ++ (replicate (2 + 16 * length s - 0) 0 ++ drop (2 + 16 * length s) t₁)
-      → e₂ ≡ take 0 e₁ ++ (replicate (2 + 7 * length s - 0) 0 ++ drop (2 + 7 * length s) e₁) → DidReadInto s t t₂ e e₂ (TooDeep j)
+      → e₂ ≡ take 0 e₁ ++ (replicate (2 + 7 * length s - 0) 0 ++ drop (2 + 7 * length s) e₁) → DidReadInto s t t₂ e e₂ (Err (TooDeep j))
   unfolding answer_of slice_after effect_of slice_by
   too-deep j t₂ e₂ h x y = go (parse max_open s) refl
     where
-      go : (o : Reading) → parse max_open s ≡ o → DidReadInto s t t₂ e e₂ (TooDeep j)
-      go (read ms es) q = let a : r ≡ Counts (length ms) (length es) = d.answers ∙ ap parsed_of q in
+      go : (o : Reading) → parse max_open s ≡ o → DidReadInto s t t₂ e e₂ (Err (TooDeep j))
+      go (read ms es) q = let a : r ≡ Ok (record { marks = length ms; errors = length es }) = d.answers ∙ ap parsed_of q in
           let w : ◌≡◌ {A = ℕ} 0 1 = cc in absurd (omega arith)
       go (refused k) q =
-          let a : r ≡ Deep k = d.answers ∙ ap parsed_of q in
+          let a : r ≡ Err k = d.answers ∙ ap parsed_of q in
           let same : j ≡ k = cc in
           let n : 2 + 16 * length s ≡ 2 + 2 * (8 * length s) = omega arith in
           record {
-            answers = rw q (ap TooDeep same);
+            answers = rw q (ap (λ i. Err (TooDeep i)) same);
             tree =
                 rw q
                 (x
@@ -120,45 +122,41 @@ module _ (s t t₁ e e₁ : List ℕ) (r : Parsed) (z : Sized s t e) (d : DidPar
 
 -- the tests before the reading, in their order
 module _ (s t e : List ℕ) where
-  pub too_long : 1000000 < length s → DidRead s t t e e (TooLong (length s))
-  unfolding read_answer tree_after errors_after slice_after effect_of slice_by
-  too_long h =
-      let q = lt-ltb 1000000 (length s) h in
-      record { answers = answered (rw (q, read_answer)); tree = rw (q, read_answer); errors = rw (q, read_answer) }
-
-  pub formed : (c : Checked) → c ≡ checked_of (first_ill_formed s) → c ≡ WellFormed → first_ill_formed s ≡ none
-  unfolding checked_of
-  formed c d w = go (first_ill_formed s) refl d
+  pub source-refused : (r : Refusal) → Err r ≡ tested_of (source_refusal s) → DidRead s t t e e (Err r)
+  unfolding read_answer tree_after errors_after slice_after effect_of slice_by source_refusal
+  source-refused r h =
+      by_case (ltb 1000000 (length s))
+      (λ q.
+      let g = rw (q, source_refusal) at found in
+      let same : r ≡ TooLong (length s) = cc in
+      record { answers = answered (rw (q, read_answer) (ap (λ x. Err x) same)); tree = rw (q, read_answer); errors = rw (q, read_answer) })
+      (λ q. go q (first_ill_formed s) refl (rw (q, source_refusal) at found))
     where
-      go : (o : Option ℕ) → first_ill_formed s ≡ o → c ≡ checked_of o → first_ill_formed s ≡ none
-      go none q d = q
-      go (some j) q d = let z : ◌≡◌ {A = ℕ} 0 1 = cc in absurd (omega arith)
+      found : source_refusal s ≡ some r
+      found = refusal-of _ _ h
+
+      go : ltb 1000000 (length s) ≡ false → (o : Option ℕ) → first_ill_formed s ≡ o
+          → elim o as (λ _. Option Refusal) [ some k ↦ some (NotUtf8 k) | none ↦ none ] ≡ some r → DidRead s t t e e (Err r)
+      go q none f g = let z : ◌≡◌ {A = ℕ} 0 1 = cc in absurd (omega arith)
+      go q (some k) f g = let same : r ≡ NotUtf8 k = cc in
+          record {
+            answers = answered (rw (q, read_answer, f) (ap (λ x. Err x) same));
+            tree = rw (q, read_answer, f);
+            errors = rw (q, read_answer, f);
+          }
 
   module _ (h : length s ≤ 1000000) where
     short : ltb 1000000 (length s) ≡ false
     short = le-ltb 1000000 (length s) h
 
-    pub not-utf8 : (k : ℕ) (c : Checked) → c ≡ checked_of (first_ill_formed s) → c ≡ IllFormed k → DidRead s t t e e (NotUtf8 k)
-    unfolding read_answer tree_after errors_after slice_after effect_of slice_by checked_of
-    not-utf8 k c d i = go (first_ill_formed s) refl (sym i ∙ d)
-      where
-        go : (o : Option ℕ) → first_ill_formed s ≡ o → IllFormed k ≡ checked_of o → DidRead s t t e e (NotUtf8 k)
-        go none q d = let z : ◌≡◌ {A = ℕ} 0 1 = cc in absurd (omega arith)
-        go (some j) q d = let same : k ≡ j = cc in
-            record {
-              answers = answered (rw (short, read_answer, q) (ap NotUtf8 same));
-              tree = rw (short, read_answer, q);
-              errors = rw (short, read_answer, q);
-            }
-
     module _ (f : first_ill_formed s ≡ none) where
-      pub tree-short : length t < 2 + 16 * length s → DidRead s t t e e (TreeTooShort (2 + 16 * length s))
+      pub tree-short : length t < 2 + 16 * length s → DidRead s t t e e (Err (TreeTooShort (2 + 16 * length s)))
       unfolding read_answer tree_after errors_after slice_after effect_of slice_by
       tree-short l =
           let n : 2 + 16 * length s ≡ tree_layout (length s) = omega arith in
           let q = lt-ltb (length t) (tree_layout (length s)) (omega arith) in
           record {
-            answers = answered (rw (short, read_answer, f, q) (ap TreeTooShort n));
+            answers = answered (rw (short, read_answer, f, q) (ap (λ i. Err (TreeTooShort i)) n));
             tree = rw (short, read_answer, f, q);
             errors = rw (short, read_answer, f, q);
           }
@@ -167,7 +165,7 @@ module _ (s t e : List ℕ) where
         roomy : ltb (length t) (tree_layout (length s)) ≡ false
         roomy = le-ltb (length t) (tree_layout (length s)) (omega arith)
 
-        pub errors-short : length e < 2 + 7 * length s → DidRead s t t e e (ErrorsTooShort (2 + 7 * length s))
+        pub errors-short : length e < 2 + 7 * length s → DidRead s t t e e (Err (ErrorsTooShort (2 + 7 * length s)))
         unfolding read_answer tree_after errors_after slice_after effect_of slice_by
         errors-short g =
             let q = lt-ltb (length e) (error_layout (length s)) g in

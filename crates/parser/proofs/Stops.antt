@@ -10,12 +10,13 @@ use lib.ListN.{length, drop, length-drop}
 use lib.Seq.{drop-drop}
 use lib.Dec.{ltb}
 use borrow.Author.Tests.{lt-ltb, le-ltb}
-use Rattle.utf8.specs.Utf8.{first_ill_formed, checked_of}
-use Rattle.utf8.specs.declared.Checked.{Checked}
-use Rattle.utf8.specs.declared.Checked.TheVariants.{IllFormed}
+use Rattle.utf8.specs.Utf8.{first_ill_formed}
 use Rattle.syntax.specs.declared.errors.ParserError.{ParserError}
-use Rattle.syntax.specs.declared.next.Next.{Next}
-use Rattle.syntax.specs.declared.next.Next.TheVariants as answers
+use Rattle.std.proofs.Common.{Ok, Err, Some, None}
+use Rattle.std.proofs.Common.{Option as Maybe}
+use Rattle.syntax.specs.declared.answer.Refusal.{Refusal}
+use Rattle.syntax.specs.declared.answer.Refusal.TheVariants.{NotUtf8, TreeTooShort}
+use Rattle.syntax.specs.declared.next.Extent.{Extent}
 use Rattle.syntax.specs.Limits.{max_open}
 use Rattle.syntax.specs.Bytes.{is_fresh}
 use Rattle.syntax.specs.Reader.{Out, ok, bad, deep}
@@ -25,12 +26,14 @@ use Rattle.syntax.specs.Expression.{level}
 use Rattle.syntax.specs.Core.{Entry, comment, message, term, get_entry, to_next_entry, line_starts_at, junk_end}
 use Rattle.syntax.specs.Layout.{tree_layout}
 use Rattle.syntax.specs.Next.{stop_of, first_place, Ahead, entry_at, nothing, short, ahead_from, ahead, stopped, answer_by}
-use Rattle.syntax.specs.Next.{next_answer, Scratched, TreeBy, NextTree}
+use Rattle.syntax.specs.Next.{Next, next_answer, Scratched, TreeBy, NextTree}
+use Rattle.syntax.specs.Tests.{source_refusal, tested_of}
 use Rattle.laws.specs.Bytes.{by_case}
 use Rattle.laws.specs.Bounds.{bad-within}
 use Rattle.laws.specs.Bounds.Expression.{level-bounds}
 use Rattle.laws.specs.Bounds.Entry.{entry-bounds}
 use Rattle.laws.specs.Progress.{junk-moves}
+use Rattle.laws.specs.Tests.{refusal-of, none_of, source-passes}
 use Rattle.entry.specs.Did.{answer, Did}
 use Rattle.entry.specs.Entry.{entrying}
 use Rattle.entry.specs.Border.{Skipped}
@@ -80,7 +83,7 @@ module _ (s : List ℕ) (a : ℕ) (l : a < length s) where
   stops_as (ok message ms k) h = refl
   stops_as (ok term ms k) h = refl
   stops_as (ok (comment j) ms k) h = refl
-  stops_as (bad f k) h = ap (answers.Entry a) (ap (λ i. a + k + i) (seeks k h) ∙ add_assoc a k _)
+  stops_as (bad f k) h = ap (λ k. Some (record { start = a; stop = k })) (ap (λ i. a + k + i) (seeks k h) ∙ add_assoc a k _)
   stops_as (deep k) h = refl
 
   pub stoppable : length s ≤ 1000000 → {r : ReadEntry} → r ≡ answer entrying a 0 (get_entry (level max_open) (drop a s)) → Stoppable s r
@@ -99,7 +102,7 @@ module _ (s : List ℕ) (a : ℕ) (l : a < length s) where
       go (deep k) h = tt
 
   -- an entry was read into the tree
-  pub entry_read : {t t₁ : List ℕ} {r : ReadEntry} {x : Next}
+  pub entry_read : {t t₁ : List ℕ} {r : ReadEntry} {x : Maybe Extent}
       → Did entrying (8 * length s) a 0 t t₁ r (get_entry (level max_open) (drop a s)) → x ≡ stopped_at s a r
       → (x ≡ stopped a (stop_of (drop a s) (get_entry (level max_open) (drop a s)))) × Scratched (tree_layout (length s)) t t₁
   entry_read d e = (
@@ -120,11 +123,11 @@ module _ (s : List ℕ) (at : ℕ) (t : List ℕ) where
   unfolding next_answer
   finds x t' h e l = (e ∙ sym (ap (answer_by s) h), subst (λ y. TreeBy s y t t') (sym h) l)
 
-  nothing-there : ahead s at (length t) ≡ nothing → Answers s at t t answers.None
+  nothing-there : ahead s at (length t) ≡ nothing → Answers s at t t (Ok None)
   unfolding answer_by
   nothing-there h = finds nothing t h refl refl
 
-  pub asked-long : 1000000 < length s → Answers s at t t answers.None
+  pub asked-long : 1000000 < length s → Answers s at t t (Ok None)
   unfolding ahead
   asked-long h = let q = lt-ltb 1000000 (length s) h in nothing-there (rw (q, ahead))
 
@@ -141,46 +144,47 @@ module _ (s : List ℕ) (at : ℕ) (t : List ℕ) where
       from-there : ahead s at (length t) ≡ ahead_from s b.end (length t)
       from-there = ahead-is ∙ ap (λ i. ahead_from s i (length t)) (sym w.end)
 
-      pub asked-end : length s ≤ b.end → Answers s at t t answers.None
+      pub asked-end : length s ≤ b.end → Answers s at t t (Ok None)
       asked-end g = nothing-there (from-there ∙ end-there g)
 
       module _ (g : b.end < length s) where
         here : ltb b.end (length s) ≡ true
         here = lt-ltb b.end (length s) g
 
-        pub asked-short : length t < 2 + 16 * length s → Answers s at t t (answers.TreeTooShort (2 + 16 * length s))
+        pub asked-short : length t < 2 + 16 * length s → Answers s at t t (Err (TreeTooShort (2 + 16 * length s)))
         unfolding ahead_from answer_by
         asked-short m =
             let n : 2 + 16 * length s ≡ tree_layout (length s) = omega arith in
             let q = lt-ltb (length t) (tree_layout (length s)) (omega arith) in
-            finds short t (from-there ∙ rw (here, ahead_from, q)) (ap answers.TreeTooShort n) refl
+            finds short t (from-there ∙ rw (here, ahead_from, q)) (ap (λ i. Err (TreeTooShort i)) n) refl
 
-        pub asked_entry : 2 + 16 * length s ≤ length t → {t' : List ℕ} {r : Next}
-            → (r ≡ stopped b.end (stop_of (drop b.end s) (get_entry (level max_open) (drop b.end s))))
-            × Scratched (tree_layout (length s)) t t' → Answers s at t t' r
+        pub asked_entry : 2 + 16 * length s ≤ length t → {t' : List ℕ} {x : Maybe Extent}
+            → (x ≡ stopped b.end (stop_of (drop b.end s) (get_entry (level max_open) (drop b.end s))))
+            × Scratched (tree_layout (length s)) t t' → Answers s at t t' (Ok x)
         unfolding ahead_from answer_by
-        asked_entry m {t'} (x, y) = let q = le-ltb (length t) (tree_layout (length s)) (omega arith) in
-            finds (entry_at b.end) t' (from-there ∙ rw (here, ahead_from, q)) x y
+        asked_entry m {t'} (e, y) = let q = le-ltb (length t) (tree_layout (length s)) (omega arith) in
+            finds (entry_at b.end) t' (from-there ∙ rw (here, ahead_from, q)) (ap (λ o. Ok o) e) y
 
 -- ---- the first place
 
+-- it goes by the tests of a source
 module _ (s : List ℕ) where
-  pub first-long : 1000000 < length s → length s ≡ first_place s
+  pub first-passed : Ok tt ≡ tested_of (source_refusal s) → 0 ≡ first_place s
   unfolding first_place
-  first-long h = let q = lt-ltb 1000000 (length s) h in rw (q, first_place)
+  first-passed e =
+      let p = source-passes s (none_of _ e) in
+      let q = le-ltb 1000000 (length s) p.0 in
+      rw (q, first_place, p.1)
 
-  module _ (h : length s ≤ 1000000) where
-    first_by : (o : Option ℕ) → first_ill_formed s ≡ o → first_place s ≡ elim o [ some k ↦ length s | none ↦ 0 ]
-    unfolding first_place
-    first_by o f = let q = le-ltb 1000000 (length s) h in rw (q, first_place, f)
+  pub first-refused : (r : Refusal) → Err r ≡ tested_of (source_refusal s) → length s ≡ first_place s
+  unfolding first_place source_refusal
+  first-refused r e = by_case (ltb 1000000 (length s)) (λ q. rw (q, first_place))
+      (λ q. go q (first_ill_formed s) refl (rw (q, source_refusal) at found))
+    where
+      found : source_refusal s ≡ some r
+      found = refusal-of _ _ e
 
-    pub first-ill : {k : ℕ} {c : Checked} → c ≡ checked_of (first_ill_formed s) → c ≡ IllFormed k → length s ≡ first_place s
-    unfolding checked_of
-    first-ill {k} {c} d i = go (first_ill_formed s) refl (sym i ∙ d)
-      where
-        go : (o : Option ℕ) → first_ill_formed s ≡ o → IllFormed k ≡ checked_of o → length s ≡ first_place s
-        go none q d = let z : ◌≡◌ {A = ℕ} 0 1 = cc in absurd (omega arith)
-        go (some j) q d = sym (first_by (some j) q)
-
-    pub first-formed : first_ill_formed s ≡ none → 0 ≡ first_place s
-    first-formed f = sym (first_by none f)
+      go : ltb 1000000 (length s) ≡ false → (o : Option ℕ) → first_ill_formed s ≡ o
+          → elim o as (λ _. Option Refusal) [ some k ↦ some (NotUtf8 k) | none ↦ none ] ≡ some r → length s ≡ first_place s
+      go q none f g = let z : ◌≡◌ {A = ℕ} 0 1 = cc in absurd (omega arith)
+      go q (some k) f g = rw (q, first_place, f)

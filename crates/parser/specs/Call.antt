@@ -1,15 +1,13 @@
 -- What the contracts say of the reading call, and of the reading under it.
-use Rattle.std.specs.Prelude.{ℕ, ◌≤◌, ◌≡◌, List, length}
-use Rattle.syntax.specs.declared.answer.Answer.{Answer}
-use Rattle.syntax.specs.Answer.{Answered, slice_after}
+use Rattle.std.specs.Prelude.{ℕ, ◌≤◌, ◌≡◌, List, length, Result, Ok, Err}
+use Rattle.syntax.specs.Answer.{Answer, Answered, slice_after}
 use Rattle.syntax.specs.Limits.{max_length, max_open}
 use Rattle.syntax.specs.Core.{Reading, read, refused, parse}
 use Rattle.syntax.specs.Layout.{tree_capacity, tree_layout, error_layout, tree_words, error_words}
 use Rattle.syntax.specs.Reading.{read_answer, tree_after, errors_after, answer_of, marks_of, errors_of}
 use Rattle.entry.specs.Tree.{Step, words_at}
 use Rattle.parser.specs.ErrorList.{ErrorStep}
-use Rattle.parser.specs.declared.resource.Parsed.{Parsed}
-use Rattle.parser.specs.declared.resource.Parsed.TheVariants.{Counts, Deep}
+use Rattle.parser.specs.declared.resource.Counts.{Counts}
 
 -- the source is short enough, and the slices are long enough
 pub record Sized (s t e : List ℕ) : Type 0 where
@@ -18,11 +16,11 @@ pub record Sized (s t e : List ℕ) : Type 0 where
   pub errors : error_layout (length s) ≤ length e
 
 -- a reading as the counts of marks and errors, or the place of the opening that is one too many
-abbrev pub parsed_of : Reading → Parsed
-parsed_of (read ms es) = Counts (length ms) (length es)
-parsed_of (refused k) = Deep k
+abbrev pub parsed_of : Reading → Result Counts ℕ
+parsed_of (read ms es) = Ok (record { marks = length ms; errors = length es })
+parsed_of (refused k) = Err k
 
-pub record DidParse (s t t' e e' : List ℕ) (r : Parsed) (o : Reading) : Type 0 where
+pub record DidParse (s t t' e e' : List ℕ) (r : Result Counts ℕ) (o : Reading) : Type 0 where
   pub answers : r ≡ parsed_of o
   pub tree : Step (tree_capacity (length s)) 0 t t' (words_at 0 (marks_of o))
   pub errors : ErrorStep (length s) 0 e e' (errors_of o)

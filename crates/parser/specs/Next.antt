@@ -1,7 +1,6 @@
 -- What the contracts say of the entry after a place.
-use Rattle.std.specs.Prelude.{ℕ, ◌≡◌, List, length}
-use Rattle.syntax.specs.declared.next.Next.{Next}
-use Rattle.syntax.specs.declared.next.Next.TheVariants as answers
+use Rattle.std.specs.Prelude.{ℕ, ◌≡◌, List, length, Option, Some, None}
+use Rattle.syntax.specs.declared.next.Extent.{Extent}
 use Rattle.syntax.specs.Next.{next_answer, Answered, place_after, NextTree}
 use Rattle.entry.specs.Place.{Inside}
 use Rattle.parser.specs.Resource.{junk_till}
@@ -18,12 +17,12 @@ Stoppable s (Bad f k) = Inside s k
 Stoppable s (Deep k) = Unit {0}
 
 -- where what starts at a place stopped
-abbrev pub stopped_at : List ℕ → ℕ → ReadEntry → Next
-stopped_at s start (Message e m) = answers.Entry start e
-stopped_at s start (Term e m) = answers.Entry start e
-stopped_at s start (Comment l e m) = answers.Entry start e
-stopped_at s start (Bad f k) = answers.Entry start (junk_till k s)
-stopped_at s start (Deep k) = answers.None
+abbrev pub stopped_at : List ℕ → ℕ → ReadEntry → Option Extent
+stopped_at s start (Message e m) = Some (record { start = start; stop = e })
+stopped_at s start (Term e m) = Some (record { start = start; stop = e })
+stopped_at s start (Comment l e m) = Some (record { start = start; stop = e })
+stopped_at s start (Bad f k) = Some (record { start = start; stop = junk_till k s })
+stopped_at s start (Deep k) = None
 
 -- a call from a place: its answer, the place after it, and what it leaves of the tree
 pub record DidAsk (s : List ℕ) (at : ℕ) (t t' : List ℕ) (r : Asked) : Type 0 where

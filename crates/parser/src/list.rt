@@ -3,7 +3,7 @@ ghost use Rattle.std.specs.Prelude.{◌+◌, ◌≤◌, ◌≡◌, [], ◌∷◌
 ghost use Rattle.std.proofs.lemmas.List.Edits.{sets};
 ghost use Rattle.parser.specs.ErrorList.{Small, Spare, ErrorStep, with_junk};
 
-use syntax::errors::{ParserError, kind_words};
+use syntax::errors::ParserError;
 use syntax::layout::{GROUP_SIZE, SIZES};
 
 // Writes two words in a row.
@@ -29,8 +29,7 @@ pub fn put_error(
     requires small { Small junk_start × Small junk_end }
     ensures { (result ≡ n + 1) × ErrorStep cap n list.old list.new (with_junk e junk_start junk_end ∷ []) }
 {
-    let kind = e.kind;
-    let words = kind_words(kind);
+    let words = e.kind.words();
     let at = n + SIZES;
     list[at] = words.number;
     let group = cap + GROUP_SIZE * n + SIZES;

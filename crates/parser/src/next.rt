@@ -10,10 +10,11 @@ ghost use Rattle.parser.specs.Next.{Stoppable, stopped_at, DidAsk};
 use crate::junk::skip_to_next_entry_start;
 use crate::marks::get_entry;
 use entry::border::{ReadEntry, skip_blank_lines};
+use syntax::answer::Refusal;
 use syntax::layout::{SIZES, TREE_WORDS_A_BYTE};
 use syntax::limits::{MAX_LENGTH, MAX_OPEN};
-use syntax::next::Next;
-use utf8::{Checked, check};
+use syntax::next::{Extent, Next};
+use syntax::test::test_source;
 
 // What a call answers, and the place from which the next one goes on.
 #[derive(Drop)]
@@ -22,25 +23,21 @@ pub struct Asked {
     pub at: usize,
 }
 
-// Where an entry's reading stopped, for junk its end.
-fn stopped_at(source: &[u8], start: usize, entry: ReadEntry) -> Next
+// Where an entry's reading stopped, for junk its end; nowhere if it nests too deep.
+fn stopped_at(source: &[u8], start: usize, entry: ReadEntry) -> Option<Extent>
     requires { Stoppable source.now entry }
     ensures { result ≡ stopped_at source.now start entry }
 {
-    match entry {
-        ReadEntry::Message(end, _) => Next::Entry(start, end),
-        ReadEntry::Term(end, _) => Next::Entry(start, end),
-        ReadEntry::Comment(_, end, _) => Next::Entry(start, end),
-        ReadEntry::Bad(_, k) => {
-            let end = skip_to_next_entry_start(source, k);
-            Next::Entry(start, end)
-        }
-        ReadEntry::Deep(_) => Next::None,
-    }
+    let stop = match entry {
+        ReadEntry::Message(end, _) | ReadEntry::Term(end, _) | ReadEntry::Comment(_, end, _) => end,
+        ReadEntry::Bad(_, k) => skip_to_next_entry_start(source, k),
+        ReadEntry::Deep(_) => return None,
+    };
+    Some(Extent { start, stop })
 }
 
 // The entry at a place. Its marks are read into the tree, as scratch.
-fn entry_at(source: &[u8], start: usize, tree: &mut [u32]) -> Next
+fn entry_at(source: &[u8], start: usize, tree: &mut [u32]) -> Option<Extent>
     requires { (length source.now ≤ max_length) × (start < length source.now) × (tree_layout (length source.now) ≤ length tree.old) }
     ensures { (result ≡ stopped start
         (stop_of (drop start source.now) (get_entry (level max_open) (drop start source.now))))
@@ -56,27 +53,27 @@ fn answer(source: &[u8], at: usize, tree: &mut [u32]) -> Next
 {
     let length = source.len();
     if MAX_LENGTH < length {
-        return Next::None;
+        return Ok(None);
     }
     let block = skip_blank_lines(source, at);
     let start = block.end;
     if length <= start {
-        return Next::None;
+        return Ok(None);
     }
     let words = SIZES + TREE_WORDS_A_BYTE * length;
     if tree.len() < words {
-        return Next::TreeTooShort(words as u64);
+        return Err(Refusal::TreeTooShort(words as u64));
     }
-    entry_at(source, start, tree)
+    Ok(entry_at(source, start, tree))
 }
 
 fn place_after(source: &[u8], at: usize, next: Next) -> usize
     ensures { result ≡ place_after source.now at next }
 {
     match next {
-        Next::Entry(_, stop) => stop,
-        Next::None => source.len(),
-        Next::TreeTooShort(_) => at,
+        Ok(Some(extent)) => extent.stop,
+        Ok(None) => source.len(),
+        Err(_) => at,
     }
 }
 
@@ -95,12 +92,8 @@ pub fn next_entry(source: &[u8], at: usize, tree: &mut [u32]) -> Asked
 pub fn first_place(source: &[u8]) -> usize
     ensures { result ≡ first_place source.now }
 {
-    let length = source.len();
-    if MAX_LENGTH < length {
-        return length;
+    match test_source(source) {
+        Ok(()) => 0,
+        Err(_) => source.len(),
     }
-    if let Checked::IllFormed(_) = check(source) {
-        return length;
-    }
-    0
 }

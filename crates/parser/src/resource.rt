@@ -20,11 +20,11 @@ use syntax::limits::MAX_OPEN;
 // The kinds of comments of the levels 1 to 3 follow this one.
 const NO_LEVEL: u32 = COMMENT - 1;
 
-// What was read: the counts of marks and of errors, or the place of an opening that nests too deep.
-#[derive(Drop)]
-pub enum Parsed {
-    Counts(usize, usize),
-    Deep(usize),
+// How many marks and errors were read.
+#[derive(Clone, Copy, Debug, PartialEq, Eq)]
+pub struct Counts {
+    pub marks: usize,
+    pub errors: usize,
 }
 
 // The comment that is attached if a message or a term comes next: where its opening mark stands.
@@ -173,8 +173,8 @@ fn parse_entry(source: &[u8], tree: &mut [u32], errors: &mut [u32], state: State
     }
 }
 
-// A file: its entries, and junk where one cannot be read.
-pub fn parse(source: &[u8], tree: &mut [u32], errors: &mut [u32]) -> Parsed
+// A file: its entries, and junk where one cannot be read. It ends at an opening that nests too deep, and answers its place.
+pub fn parse(source: &[u8], tree: &mut [u32], errors: &mut [u32]) -> Result<Counts, usize>
     requires { Sized source.now tree.old errors.old }
     ensures { DidParse source.now tree.old tree.new errors.old errors.new result
         (Core.parse max_open source.now) }
@@ -186,9 +186,10 @@ pub fn parse(source: &[u8], tree: &mut [u32], errors: &mut [u32]) -> Parsed
                 state = next;
             }
             EntryTurn::Deep(k) => {
-                return Parsed::Deep(k);
+                return Err(k);
             }
         }
     }
-    Parsed::Counts(state.marks, state.errors)
+    let State { marks, errors, .. } = state;
+    Ok(Counts { marks, errors })
 }

@@ -5,16 +5,17 @@ use Prim.Native.Nat.{ℕ, suc, ◌+◌, ◌≤◌, ◌<◌}
 use native.Mathlib.Omega.{arith}
 use Rattle.std.proofs.Math.Path.{◌≡◌, refl, ap}
 use Rattle.std.proofs.Common.{sym, ◌∙◌}
-use Rattle.std.specs.Prelude.{true, false, List, [], ◌∷◌, drop, ltb}
+use Rattle.std.specs.Prelude.{true, false, List, [], ◌∷◌, drop, ltb, Ok, Err, Some, None}
 use Rattle.std.proofs.Math.Option.{Option, some, none}
 use Rattle.std.proofs.Math.ListN.{length, length-drop}
 use borrow.Author.Tests.{lt-ltb, le-ltb, ltb-true}
 use Rattle.utf8.specs.Utf8.{first_ill_formed}
-use Rattle.syntax.specs.declared.next.Next.TheVariants.{Entry, None, TreeTooShort}
+use Rattle.syntax.specs.declared.answer.Refusal.TheVariants.{TreeTooShort}
 use Rattle.syntax.specs.Limits.{max_length, max_open}
 use Rattle.syntax.specs.Expression.{level}
 use Rattle.syntax.specs.Layout.{tree_layout}
-use Rattle.syntax.specs.Next.{Extent, parse_extents, entries_of, first_place, Ahead, entry_at, nothing, short, ahead_from}
+use Rattle.syntax.specs.declared.next.Extent.{Extent}
+use Rattle.syntax.specs.Next.{parse_extents, entries_of, first_place, Ahead, entry_at, nothing, short, ahead_from}
 use Rattle.syntax.specs.Next.{ahead, stopped, answer_by, next_answer, place_after}
 use Rattle.laws.specs.Bytes.{by_case, pick}
 use Rattle.laws.specs.Bounds.Expression.{level-bounds}
@@ -92,13 +93,13 @@ module _ (s : List ℕ) where
 
 -- what a call answers is the first of the entries after the place, or that there is none
 pub data Answered (s : List ℕ) (at m : ℕ) : Type 0 where
-  ends : next_answer s at m ≡ None → entries_after s at ≡ [] → Answered s at m
-  finds : {a e : ℕ} → next_answer s at m ≡ Entry a e
+  ends : next_answer s at m ≡ Ok None → entries_after s at ≡ [] → Answered s at m
+  finds : {a e : ℕ} → next_answer s at m ≡ Ok (Some (record { start = a; stop = e }))
       → entries_after s at ≡ record { start = a; stop = e } ∷ entries_after s e → at ≤ a → a < e → e ≤ length s
       → Answered s at m
 
 module _ (s : List ℕ) where
-  answer-nothing : (at m : ℕ) → ahead s at m ≡ nothing → next_answer s at m ≡ None
+  answer-nothing : (at m : ℕ) → ahead s at m ≡ nothing → next_answer s at m ≡ Ok None
   unfolding next_answer answer_by
   answer-nothing at m h = ap (answer_by s) h
 
@@ -128,8 +129,8 @@ module _ (s : List ℕ) where
           go [] h = ends (answer-nothing at m (p at m ∙ none_ahead a m h)) (q at ∙ rest-nil max_open s at h)
           go (b ∷ bs) h = by (stop_at (level max_open) (b ∷ bs)) refl
             where
-              is : (o : Option ℕ) → stop_at (level max_open) (b ∷ bs) ≡ o → next_answer s at m ≡ stopped a o
-              is o e = ap (answer_by s) (p at m ∙ some-ahead a m b bs h l) ∙ ap (stopped a) (ap (stop_at (level max_open)) h ∙ e)
+              is : (o : Option ℕ) → stop_at (level max_open) (b ∷ bs) ≡ o → next_answer s at m ≡ Ok (stopped a o)
+              is o e = ap (answer_by s) (p at m ∙ some-ahead a m b bs h l) ∙ ap (λ z. Ok (stopped a z)) (ap (stop_at (level max_open)) h ∙ e)
 
               by : (o : Option ℕ) → stop_at (level max_open) (b ∷ bs) ≡ o → Answered s at m
               by (some k) e =
@@ -141,10 +142,10 @@ module _ (s : List ℕ) where
               by none e = ends (is none e) (q at ∙ rest-none max_open s at b bs h e)
 
   -- at the end
-  end_none : (m : ℕ) → next_answer s (length s) m ≡ None
+  end_none : (m : ℕ) → next_answer s (length s) m ≡ Ok None
   end_none m = go (tested s)
     where
-      go : Tested s → next_answer s (length s) m ≡ None
+      go : Tested s → next_answer s (length s) m ≡ Ok None
       go (refused p q) = answer-nothing (length s) m (p (length s) m)
       go (passed p q) = answer-nothing (length s) m (p (length s) m ∙ none_ahead (start_after s (length s)) m (end_empty s))
 
@@ -154,7 +155,7 @@ module _ (s : List ℕ) where
 pub end-tells : (s ms : List ℕ) → answers s (length s) ms ≡ told [] (length ms)
 unfolding answers told
 end-tells s [] = refl
-end-tells s (m ∷ ms) = ap (λ r. r ∷ answers s (place_after s (length s) r) ms) (end_none s m) ∙ ap (λ r. None ∷ r) (end-tells s ms)
+end-tells s (m ∷ ms) = ap (λ r. r ∷ answers s (place_after s (length s) r) ms) (end_none s m) ∙ ap (λ r. Ok None ∷ r) (end-tells s ms)
 
 from_place : (s ms : List ℕ) (at : ℕ) → Long (tree_layout (length s)) ms → answers s at ms ≡ told (entries_after s at) (length ms)
 unfolding answers told
@@ -163,9 +164,9 @@ from_place s (m ∷ ms) at l = go (answered s at m l.0) (λ p. from_place s ms p
   where
     go : Answered s at m → ((p : ℕ) → answers s p ms ≡ told (entries_after s p) (length ms))
         → answers s at (m ∷ ms) ≡ told (entries_after s at) (suc (length ms))
-    go (ends h q) ih = ap (λ r. r ∷ answers s (place_after s at r) ms) h ∙ ap (λ r. None ∷ r) (end-tells s ms)
+    go (ends h q) ih = ap (λ r. r ∷ answers s (place_after s at r) ms) h ∙ ap (λ r. Ok None ∷ r) (end-tells s ms)
         ∙ sym (ap (λ xs. told xs (suc (length ms))) q)
-    go (finds {a} {e} h q g i j) ih = ap (λ r. r ∷ answers s (place_after s at r) ms) h ∙ ap (λ r. Entry a e ∷ r) (ih e)
+    go (finds {a} {e} h q g i j) ih = ap (λ r. r ∷ answers s (place_after s at r) ms) h ∙ ap (λ r. Ok (Some (record { start = a; stop = e })) ∷ r) (ih e)
         ∙ sym (ap (λ xs. told xs (suc (length ms))) q)
 
 -- the answers from the first place on
@@ -194,16 +195,16 @@ module _ (s : List ℕ) (at m : ℕ) where
           (λ w e. absurd (found (start_after s at) e)))
           (λ v e. absurd (no nothing refl e)) (sym (p at m) ∙ h)
 
-  pub short-stays : {n : ℕ} → next_answer s at m ≡ TreeTooShort n → (m < tree_layout (length s))
+  pub short-stays : {n : ℕ} → next_answer s at m ≡ Err (TreeTooShort n) → (m < tree_layout (length s))
       × (n ≡ tree_layout (length s)) × (place_after s at (next_answer s at m) ≡ at)
   unfolding next_answer answer_by stopped
   short-stays {n} h = let (l, e) = go (ahead s at m) refl h in (l, e, ap (place_after s at) h)
     where
-      entry : (a : ℕ) (o : Option ℕ) → stopped a o ≡ TreeTooShort n → (m < tree_layout (length s)) × (n ≡ tree_layout (length s))
+      entry : (a : ℕ) (o : Option ℕ) → Ok (stopped a o) ≡ Err (TreeTooShort n) → (m < tree_layout (length s)) × (n ≡ tree_layout (length s))
       entry a (some k) q = let z : ◌≡◌ {A = ℕ} 0 1 = cc in absurd (omega arith)
       entry a none q = let z : ◌≡◌ {A = ℕ} 0 1 = cc in absurd (omega arith)
 
-      go : (x : Ahead) → ahead s at m ≡ x → answer_by s x ≡ TreeTooShort n → (m < tree_layout (length s)) × (n ≡ tree_layout (length s))
+      go : (x : Ahead) → ahead s at m ≡ x → answer_by s x ≡ Err (TreeTooShort n) → (m < tree_layout (length s)) × (n ≡ tree_layout (length s))
       go (entry_at a) p q = entry a (stop_at (level max_open) (drop a s)) q
       go nothing p q = let z : ◌≡◌ {A = ℕ} 0 1 = cc in absurd (omega arith)
       go short p q = (ahead-short p, cc)

@@ -11,7 +11,8 @@ use Rattle.syntax.specs.Helper.{skip_blank_block}
 use Rattle.syntax.specs.Pattern.{Inside, used_by}
 use Rattle.syntax.specs.Expression.{level}
 use Rattle.syntax.specs.Core.{Entry, get_entry, junk_end}
-use Rattle.syntax.specs.Next.{Extent, up_extent, stop_of, extents, parse_extents}
+use Rattle.syntax.specs.declared.next.Extent.{Extent}
+use Rattle.syntax.specs.Next.{up_extent, stop_of, extents, parse_extents}
 use Rattle.laws.specs.Bounds.{ok-uses, bad-within}
 use Rattle.laws.specs.Bounds.Pattern.{InsideBounds}
 use Rattle.laws.specs.Bounds.Expression.{level-bounds}

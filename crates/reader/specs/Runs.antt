@@ -1,7 +1,6 @@
 -- Calls on a reader one after the other, as the contracts of `new` and `next` give them. What they tell is in proofs/Runs.
 use Rattle.std.specs.Prelude.{ℕ, List, [], ◌∷◌}
-use Rattle.syntax.specs.declared.next.Next.{Next}
-use Rattle.syntax.specs.Next.{next_answer}
+use Rattle.syntax.specs.Next.{Next, next_answer}
 use Rattle.reader.specs.declared.Reader.{Reader}
 use Rattle.reader.specs.Moved.{moved}
 

@@ -4,14 +4,13 @@
 -- nests too deep. `parse-shown` says it of a reading, `agrees` of the reading call.
 use Prim.Native.Nat.{ℕ, zero, suc, ◌+◌, ◌≤◌, ◌<◌}
 use Rattle.std.proofs.Common.{not-suc-le-zero, add-zero, zero-add, arith, sym, ap, ◌∙◌, length-drop}
-use Rattle.std.specs.Prelude.{◌≡◌, false, drop, length, ltb}
+use Rattle.std.specs.Prelude.{◌≡◌, false, drop, length, ltb, Err}
 use Rattle.std.proofs.Math.Path.{refl, subst}
 use mathlib.Core.List.{List, [], ◌∷◌, ◌++◌, map}
 use Rattle.std.proofs.Math.Option.{Option, some, none}
 use Rattle.utf8.specs.Utf8.{first_ill_formed}
-use Rattle.syntax.specs.declared.answer.Answer.{Answer}
-use Rattle.syntax.specs.declared.answer.Answer.TheVariants.{TreeTooShort, ErrorsTooShort}
-use Rattle.syntax.specs.Answer.{number_of, value_of, effect_of, written, zeroed, untouched}
+use Rattle.syntax.specs.declared.answer.Refusal.TheVariants.{TreeTooShort, ErrorsTooShort}
+use Rattle.syntax.specs.Answer.{Answer, number_of, value_of, effect_of, written, zeroed, untouched}
 use Rattle.syntax.specs.Limits.{max_length, max_open}
 use Rattle.syntax.specs.Kind as Kind
 use Rattle.syntax.specs.Marks.{Mark, plain, placed, move_up, node, text_node}
@@ -22,7 +21,8 @@ use Rattle.syntax.specs.Expression.{level}
 use Rattle.syntax.specs.Core.{Entry, get_entry, junk_end, kind_of_entry, Error, up_error, Reading, read, refused, following, entries, parse}
 use Rattle.syntax.specs.Layout.{tree_layout, error_layout}
 use Rattle.syntax.specs.Reading.{answer_of, read_answer, marks_of}
-use Rattle.syntax.specs.Next.{Extent, stop_of, parse_extents, entries_of}
+use Rattle.syntax.specs.declared.next.Extent.{Extent}
+use Rattle.syntax.specs.Next.{stop_of, parse_extents, entries_of}
 use Rattle.laws.specs.Bytes.{by_case, pick}
 use Rattle.laws.specs.Moving.{move_up-append, following-twice}
 use Rattle.laws.specs.Bounds.Pattern.{block-le}
@@ -179,6 +179,6 @@ agrees s t e = by_case (ltb max_length (length s)) (λ q. rw (q, read_answer) (�
     formed q (some k) h = rw (q, read_answer) (rw h (λ _. rw (q, entries_of) (rw h)))
     formed q none h =
         rw (q, read_answer)
-        (rw h (pick (Agrees s) (ltb t (tree_layout (length s))) (TreeTooShort _) _ (λ _ n. absurd (omega arith))
-        (λ _. pick (Agrees s) (ltb e (error_layout (length s))) (ErrorsTooShort _) _ (λ _ n. absurd (omega arith))
+        (rw h (pick (Agrees s) (ltb t (tree_layout (length s))) (Err (TreeTooShort _)) _ (λ _ n. absurd (omega arith))
+        (λ _. pick (Agrees s) (ltb e (error_layout (length s))) (Err (ErrorsTooShort _)) _ (λ _ n. absurd (omega arith))
         (λ _. by q h (parse max_open s) refl (parse-shown max_open s)))))

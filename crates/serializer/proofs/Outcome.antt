@@ -7,20 +7,18 @@ use mathlib.Core.List.{List, [], ◌++◌}
 use lib.ListN.{length, length-drop}
 use lib.Seq.{sets}
 use borrow.Author.Tests.{lt-ltb, le-ltb}
-use Rattle.syntax.specs.declared.answer.Answer.{Answer}
-use Rattle.syntax.specs.declared.answer.Answer.TheVariants.{Accepted, OutputTooShort}
-use Rattle.syntax.specs.Answer.{effect_of, slice_by, slice_after}
+use Rattle.std.proofs.Common.{Ok, Err}
+use Rattle.syntax.specs.declared.answer.Refusal.{Refusal}
+use Rattle.syntax.specs.declared.answer.Refusal.TheVariants.{OutputTooShort}
+use Rattle.syntax.specs.Answer.{Answer, effect_of, slice_by, slice_after}
 use Rattle.syntax.specs.Layout.{count, marks_in}
 use Rattle.syntax.specs.Serializer.{Piece, nodes, resource, serialize}
-use Rattle.syntax.specs.Tests.{refusal}
+use Rattle.syntax.specs.Tests.{refusal, tested_of}
 use Rattle.syntax.specs.Writing.{text_answer, write_answer, output_after}
-use Rattle.laws.specs.Tests.{Passes, passes, refusal-keeps}
+use Rattle.laws.specs.Tests.{Passes, passes, refusal-of, none_of, refusal-keeps}
 use Rattle.laws.specs.Sets.{sets-nothing, sets_first}
 use Rattle.laws.specs.Text.Length.{text-short}
-use Rattle.tree.specs.declared.test.Tested.TheVariants.{Refused, Passed}
-use Rattle.tree.specs.Test.{tested_of}
 use Rattle.tree.proofs.Sizes.{sizes, no-mark}
-use Rattle.tree.proofs.Tests.{refusal-of, none_of}
 use Rattle.serializer.specs.declared.writer.TextWriter.{TextWriter}
 use Rattle.serializer.specs.Writer.{begun, Room, Wrote}
 use Rattle.laws.specs.Answered.{answered}
@@ -50,38 +48,38 @@ module _ (s t : List ℕ) (junk : Bool) where
     unfolding serialize
     all-counted = omega (arith, d.end)
 
-    pub no_room : length (n ++ o) < w.at → DidWriteInto text o (n ++ o) (OutputTooShort w.at)
+    pub no_room : length (n ++ o) < w.at → DidWriteInto text o (n ++ o) (Err (OutputTooShort w.at))
     unfolding text_answer slice_after effect_of slice_by
     no_room h =
         let q = lt-ltb (length o) (length text) (omega (arith, ap length none-stored, all-counted)) in
-        record { answers = rw (q, text_answer) (ap OutputTooShort all-counted); output = rw (q, text_answer) none-stored }
+        record { answers = rw (q, text_answer) (ap (λ k. Err (OutputTooShort k)) all-counted); output = rw (q, text_answer) none-stored }
 
     -- and the second, over all of it
     pub with-room : (o' : List ℕ) (w' : TextWriter) → w.at ≤ length (n ++ o) → Wrote (n ++ o) o' begun w' piece
-        → DidWriteInto text o o' (Accepted w.at)
+        → DidWriteInto text o o' (Ok w.at)
     unfolding serialize text_answer slice_after effect_of slice_by
     with-room o' w' h f =
         let l : length text ≤ length o = omega (arith, ap length none-stored, all-counted) in
         let q = le-ltb (length o) (length text) l in
         record {
-          answers = rw (q, text_answer) (ap Accepted all-counted);
+          answers = rw (q, text_answer) (ap (λ k. Ok k) all-counted);
           output = rw (q, text_answer) (f.stored ∙ ap (λ m. sets m 0 text) none-stored ∙ sets_first o text l);
         }
 
 -- the tests before the writing: the call answers the refusal that they give, and changes nothing; or it writes
 module _ (s t o : List ℕ) (junk : Bool) where
-  pub refused : (r : Answer) → Refused r ≡ tested_of (refusal s t) → DidWrite s t o o junk r
+  pub refused : (r : Refusal) → Err r ≡ tested_of (refusal s t) → DidWrite s t o o junk (Err r)
   unfolding write_answer output_after slice_after slice_by
   refused r e =
       let q = refusal-of (refusal s t) r e in
       let u = refusal-keeps s t r q in
       record { answers = answered (rw (q, write_answer)); output = rw (q, write_answer) (rw u) }
 
-  pub passed : Passed ≡ tested_of (refusal s t) → (o' : List ℕ) (r : Answer)
+  pub passed : Ok tt ≡ tested_of (refusal s t) → (o' : List ℕ) (r : Answer)
       → DidWriteInto (serialize s junk (marks_in t)) o o' r → DidWrite s t o o' junk r
   unfolding write_answer output_after
   passed e o' r d = let q = none_of (refusal s t) e in
       record { answers = answered (rw (q, write_answer) d.answers); output = rw (q, write_answer) d.output }
 
-pub passing : (s t : List ℕ) → Passed ≡ tested_of (refusal s t) → Passes s t
+pub passing : (s t : List ℕ) → Ok tt ≡ tested_of (refusal s t) → Passes s t
 passing s t e = passes s t (none_of (refusal s t) e)

@@ -1,7 +1,6 @@
 -- What the contracts say of the writing call, and of the writing under it.
 use Rattle.std.specs.Prelude.{ℕ, ◌≡◌, Bool, List, length}
-use Rattle.syntax.specs.declared.answer.Answer.{Answer}
-use Rattle.syntax.specs.Answer.{Answered, slice_after}
+use Rattle.syntax.specs.Answer.{Answer, Answered, slice_after}
 use Rattle.syntax.specs.Writing.{text_answer, write_answer, output_after}
 
 -- the writing where no earlier test refuses: its answer, and every byte of the output

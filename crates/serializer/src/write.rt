@@ -5,17 +5,15 @@ ghost use Rattle.laws.specs.Tests.{Passes};
 ghost use Rattle.serializer.specs.Call.{DidWrite, DidWriteInto};
 
 use crate::resource::serialize_resource;
-use syntax::answer::Answer;
-use tree::test::{Tested, test_tree};
+use syntax::answer::{Answer, Refusal};
+use tree::test::test_tree;
 
 // Writes the normal text of a tree into an output that is lent, with its junk if so asked. The tests come in the order of the
 // refusals 1, 2, 6 and 7.
 pub fn write(source: &[u8], tree: &[u32], output: &mut [u8], with_junk: bool) -> Answer
     ensures { DidWrite source.now tree.now output.old output.new with_junk result }
 {
-    if let Tested::Refused(answer) = test_tree(source, tree) {
-        return answer;
-    }
+    test_tree(source, tree)?;
     write_into(source, tree, output, with_junk)
 }
 
@@ -28,8 +26,8 @@ fn write_into(source: &[u8], tree: &[u32], output: &mut [u8], with_junk: bool) -
     let counted = serialize_resource(source, tree, &mut output[..0], with_junk);
     let length = counted.at;
     if output.len() < length {
-        return Answer::OutputTooShort(length as u64);
+        return Err(Refusal::OutputTooShort(length as u64));
     }
     serialize_resource(source, tree, output, with_junk);
-    Answer::Accepted(length as u64)
+    Ok(length as u64)
 }

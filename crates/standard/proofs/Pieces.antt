@@ -13,6 +13,7 @@ use Rattle.syntax.specs.Expression.{level}
 use Rattle.syntax.specs.Core as Core
 use Rattle.syntax.specs.Core.{as_message, as_term, fields, term_fields, get_entry, junk_end, to_next_entry}
 use Rattle.laws.specs.Bytes.{by_case}
+use Rattle.syntax.specs.declared.errors.CharRange.TheVariants.{Letters}
 use Rattle.syntax.specs.declared.errors.ErrorKind.TheVariants.{ExpectedCharRange}
 use Rattle.syntax.specs.Reader as Reader
 use Rattle.syntax.specs.Helper.{get_identifier}
@@ -269,14 +270,14 @@ module _ (n : ℕ) (agree : Agree (level n) (nesting rust n)) where
       (second (Entry rust n) (blank-lines rust n // Junk rust n) s x
       ∙ second (blank-lines rust n) (Junk rust n) s (blanks-fail n s q) ∙ junk-is s f k e)
 
-  nil-bad : get_entry (level n) [] ≡ bad (record { start = 0; end = 1; kind = ExpectedCharRange 1 }) 0
+  nil-bad : get_entry (level n) [] ≡ bad (record { start = 0; end = 1; kind = ExpectedCharRange Letters }) 0
   unfolding get_entry starts_with as_message fields Reader.◌>>=◌ Reader.next get_identifier starts Reader.fail
   nil-bad = refl
 
   piece-end : AtEnd (piece rust n [])
   unfolding starts_with spaces run eol junk_end to_next_entry
   piece-end = let e : Entry rust n [] ≡ fails = rw nil-bad at (entry-agrees [] refl) in
-      rw (piece-junk [] (record { start = 0; end = 1; kind = ExpectedCharRange 1 }) 0 e refl nil-bad) refl
+      rw (piece-junk [] (record { start = 0; end = 1; kind = ExpectedCharRange Letters }) 0 e refl nil-bad) refl
 
   -- the parts of a source
   unfoldable pub parts : List ℕ → List Part

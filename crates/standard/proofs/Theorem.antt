@@ -1,7 +1,6 @@
--- Demand 2: for every source that is accepted, the tree is that of Project Fluent Syntax 1.0 with all departures on.
-use Rattle.std.specs.Prelude.{ℕ, ◌≡◌, List, ◌∷◌, length, drop, leb}
+-- For every source that is accepted, the tree is that of Project Fluent Syntax 1.0 with all departures on.
+use Rattle.std.specs.Prelude.{ℕ, ◌≡◌, List, ◌∷◌, length, drop, leb, Ok}
 use Rattle.std.proofs.Common.{sym, ap, ◌∙◌, arith, leb-true, leb-false}
-use Rattle.syntax.specs.declared.answer.Answer.TheVariants.{Accepted}
 use Rattle.syntax.specs.Limits.{max_open}
 use Rattle.syntax.specs.Marks.{Mark}
 use Rattle.syntax.specs.Layout.{tree_capacity, tree_layout, marks_in}
@@ -41,7 +40,7 @@ resource-is-standard n s ms es e =
     let z : ns ≡ ms = cc in tree-is-standard (length s) s ns fs r ∙ z)
 
 -- for every source that the reading call accepts, whatever slices it is lent
-pub accepted-is-standard : (s tree errors : List ℕ) → read_answer s (length tree) (length errors) ≡ Accepted 0
+pub accepted-is-standard : (s tree errors : List ℕ) → read_answer s (length tree) (length errors) ≡ Ok 0
     → marks_in (tree_after s tree errors) ≡ Grammar.Resource rust s
 accepted-is-standard s t e h =
     let r = read_of s t e h in

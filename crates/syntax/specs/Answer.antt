@@ -1,31 +1,42 @@
--- Document 01's number and value of each answer of the calls: 0 for acceptance, then the refusals in the order of its table; and what
--- becomes of the memory that a call was lent to write.
-use Rattle.std.specs.Prelude.{ℕ, ◌≡◌, true, false, List, ◌++◌, drop, replicate, eqb}
-use Rattle.syntax.specs.declared.answer.Answer.{Answer}
-use Rattle.syntax.specs.declared.answer.Answer.TheVariants.{Accepted, TooLong, NotUtf8, TreeTooShort}
-use Rattle.syntax.specs.declared.answer.Answer.TheVariants.{ErrorsTooShort, TooDeep, IllFormed, OutputTooShort}
+-- The number and the value of each answer of the calls, as docs/CALLS.md has them: 0 for acceptance, then the refusals in the order of
+-- its table; and what becomes of the memory that a call was lent to write.
+use Rattle.std.specs.Prelude.{ℕ, ◌≡◌, true, false, List, ◌++◌, drop, replicate, eqb, Result, Ok, Err}
+use Rattle.syntax.specs.declared.answer.Refusal.{Refusal}
+use Rattle.syntax.specs.declared.answer.Refusal.TheVariants.{TooLong, NotUtf8, TreeTooShort}
+use Rattle.syntax.specs.declared.answer.Refusal.TheVariants.{ErrorsTooShort, TooDeep, IllFormed, OutputTooShort}
 
-abbrev pub number_of : Answer → ℕ
-number_of (Accepted v) = 0
-number_of (TooLong v) = 1
-number_of (NotUtf8 v) = 2
-number_of (TreeTooShort v) = 3
-number_of (ErrorsTooShort v) = 4
-number_of (TooDeep v) = 5
-number_of (IllFormed v) = 6
-number_of (OutputTooShort v) = 7
+-- acceptance with a value, or a refusal
+abbrev pub Answer : Type 0
+Answer = Result ℕ Refusal
+
+abbrev pub refusal_number : Refusal → ℕ
+refusal_number (TooLong v) = 1
+refusal_number (NotUtf8 v) = 2
+refusal_number (TreeTooShort v) = 3
+refusal_number (ErrorsTooShort v) = 4
+refusal_number (TooDeep v) = 5
+refusal_number (IllFormed v) = 6
+refusal_number (OutputTooShort v) = 7
+
+abbrev pub refusal_value : Refusal → ℕ
+refusal_value (TooLong v) = v
+refusal_value (NotUtf8 v) = v
+refusal_value (TreeTooShort v) = v
+refusal_value (ErrorsTooShort v) = v
+refusal_value (TooDeep v) = v
+refusal_value (IllFormed v) = v
+refusal_value (OutputTooShort v) = v
+
+-- the number of an answer with values of any type
+abbrev pub number_of : {T : Type 0} → Result T Refusal → ℕ
+number_of (Ok v) = 0
+number_of (Err r) = refusal_number r
 
 abbrev pub value_of : Answer → ℕ
-value_of (Accepted v) = v
-value_of (TooLong v) = v
-value_of (NotUtf8 v) = v
-value_of (TreeTooShort v) = v
-value_of (ErrorsTooShort v) = v
-value_of (TooDeep v) = v
-value_of (IllFormed v) = v
-value_of (OutputTooShort v) = v
+value_of (Ok v) = v
+value_of (Err r) = refusal_value r
 
--- what a promise says of an answer r where a definition gives a: the case, and document 01's number and value
+-- what a promise says of an answer r where a definition gives a: the case, its number and its value
 pub record Answered (r a : Answer) : Type 0 where
   pub same : r ≡ a
   pub number : number_of r ≡ number_of a

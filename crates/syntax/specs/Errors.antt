@@ -1,5 +1,7 @@
--- errors.rs: document 01's number and arguments of each error, and moving errors up.
+-- errors.rs: the number and the arguments of each error, as docs/CALLS.md has them, and moving errors up.
 use Rattle.std.specs.Prelude.{ℕ, ◌+◌}
+pub use Rattle.syntax.specs.declared.errors.CharRange.{CharRange}
+pub use Rattle.syntax.specs.declared.errors.CharRange.TheVariants.{Letters, LineEnd, Digits}
 pub use Rattle.syntax.specs.declared.errors.ErrorKind.{ErrorKind}
 pub use Rattle.syntax.specs.declared.errors.ErrorKind.TheVariants.{
   ExpectedToken,
@@ -27,20 +29,16 @@ pub use Rattle.syntax.specs.declared.errors.ErrorKind.TheVariants.{
 pub use Rattle.syntax.specs.declared.errors.ParserError.{ParserError}
 use Rattle.syntax.specs.declared.errors.KindWords.{KindWords}
 
--- the codes of ExpectedCharRange: "a-zA-Z", a line end, "0-9"
-abbrev pub letter_range : ℕ
-letter_range = 1
-
-abbrev pub line_end_range : ℕ
-line_end_range = 2
-
-abbrev pub digit_range : ℕ
-digit_range = 3
+-- the codes of "a-zA-Z", a line end and "0-9"
+abbrev pub code_of : CharRange → ℕ
+code_of Letters = 1
+code_of LineEnd = 2
+code_of Digits = 3
 
 -- the number of a kind, in the order of `ErrorKind`, and its two arguments
 abbrev pub words_of : ErrorKind → KindWords
 words_of (ExpectedToken b) = record { number = 1; first = b; second = 0 }
-words_of (ExpectedCharRange b) = record { number = 2; first = b; second = 0 }
+words_of (ExpectedCharRange r) = record { number = 2; first = code_of r; second = 0 }
 words_of (ExpectedMessageField a e) = record { number = 3; first = a; second = e }
 words_of (ExpectedTermField a e) = record { number = 4; first = a; second = e }
 words_of ForbiddenCallee = record { number = 5; first = 0; second = 0 }
@@ -61,10 +59,10 @@ words_of ExpectedInlineExpression = record { number = 19; first = 0; second = 0 
 words_of ExpectedSimpleExpressionAsSelector = record { number = 20; first = 0; second = 0 }
 words_of ExpectedLiteral = record { number = 21; first = 0; second = 0 }
 
--- a kind n bytes further on: spans move, bytes and codes do not
+-- a kind n bytes further on: spans move, bytes and ranges do not
 abbrev pub up_kind : ℕ → ErrorKind → ErrorKind
 up_kind n (ExpectedToken b) = ExpectedToken b
-up_kind n (ExpectedCharRange c) = ExpectedCharRange c
+up_kind n (ExpectedCharRange r) = ExpectedCharRange r
 up_kind n (ExpectedMessageField a e) = ExpectedMessageField (n + a) (n + e)
 up_kind n (ExpectedTermField a e) = ExpectedTermField (n + a) (n + e)
 up_kind n ForbiddenCallee = ForbiddenCallee

@@ -356,7 +356,7 @@ alone i = do
 
 unfoldable pub needs_line_end : Bool → Reader (Unit {0})
 needs_line_end true = pure tt
-needs_line_end false = fail (Errors.ExpectedCharRange Errors.line_end_range)
+needs_line_end false = fail (Errors.ExpectedCharRange Errors.LineEnd)
 
 -- from "->" on
 unfoldable pub select_from : Inside → Inline → Reader Expression

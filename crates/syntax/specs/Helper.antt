@@ -45,7 +45,7 @@ unfoldable pub skip_digits : Reader (Unit {0})
 skip_digits s =
     elim
     (eqb (run is_digit s) 0) [
-      | true ↦ fail (Errors.ExpectedCharRange Errors.digit_range) s
+      | true ↦ fail (Errors.ExpectedCharRange Errors.Digits) s
       | false ↦ ok tt [] (run is_digit s)
     ]
 
@@ -76,7 +76,7 @@ get_identifier kind s =
     elim
     (starts is_letter s) [
       | true ↦ ok (run is_name_part s) (text_node kind 0 (run is_name_part s)) (run is_name_part s)
-      | false ↦ fail (Errors.ExpectedCharRange Errors.letter_range) s
+      | false ↦ fail (Errors.ExpectedCharRange Errors.Letters) s
     ]
 
 -- skip_unicode_escape_sequence. The argument of its error ends after the first wrong character, of which the Rust takes a byte

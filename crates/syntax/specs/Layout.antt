@@ -1,4 +1,4 @@
--- How a tree and a list of errors stand in words (document 01). Both start with two sizes, the count and the capacity; then come
+-- How a tree and a list of errors stand in words (docs/CALLS.md). Both start with two sizes, the count and the capacity; then come
 -- two parallel arrays.
 use Rattle.std.specs.Prelude.{ℕ, ◌+◌, ◌-◌, ◌*◌, Bool, true, false, ◌||◌, not, List, [], ◌∷◌, ◌++◌, map, length, get_or, take, drop, replicate, eqb}
 use Rattle.syntax.specs.Kind as Kind

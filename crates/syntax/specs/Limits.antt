@@ -1,4 +1,4 @@
--- Document 01's limits on a source.
+-- The limits on a source.
 use Rattle.std.specs.Prelude.{ℕ}
 
 -- bytes

@@ -1,4 +1,4 @@
--- What the program marks prints (document 01).
+-- What the program marks prints.
 use Rattle.std.specs.Prelude.{ℕ, List, [], ◌∷◌, ◌++◌, map, length}
 use Rattle.syntax.specs.Byte as Byte
 use Rattle.syntax.specs.Decimal.{decimal}

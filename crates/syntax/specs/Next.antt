@@ -1,10 +1,13 @@
--- A source entry by entry (document 01's reader): where each entry starts and where its reading stopped, and what a call from a place
+-- A source entry by entry: where each entry starts and where its reading stopped, and what a call from a place
 -- answers and leaves.
-use Rattle.std.specs.Prelude.{ℕ, zero, suc, ◌+◌, ◌≡◌, true, false, List, [], ◌∷◌, map, length, take, drop, ltb}
+use Rattle.std.specs.Prelude.{ℕ, zero, suc, ◌+◌, ◌≡◌, true, false, List, [], ◌∷◌, map, length, take, drop, ltb, Result, Ok, Err, Some, None}
+use Rattle.std.specs.Prelude.{Option as Maybe}
 use Rattle.std.proofs.Math.Option.{Option, some, none}
 use Rattle.utf8.specs.Utf8.{first_ill_formed}
-use Rattle.syntax.specs.declared.next.Next.{Next}
-use Rattle.syntax.specs.declared.next.Next.TheVariants.{Entry, None, TreeTooShort}
+pub use Rattle.syntax.specs.declared.next.Extent.{Extent}
+use Rattle.syntax.specs.declared.answer.Refusal.{Refusal}
+use Rattle.syntax.specs.declared.answer.Refusal.TheVariants.{TreeTooShort}
+use Rattle.syntax.specs.Answer.{number_of, refusal_value}
 use Rattle.syntax.specs.Limits.{max_length, max_open}
 use Rattle.syntax.specs.Reader.{Out, ok, bad, deep}
 use Rattle.syntax.specs.Helper.{skip_blank_block}
@@ -16,11 +19,7 @@ use Rattle.syntax.specs.Layout.{tree_layout}
 
 -- ---- the entries of a source
 
--- an entry's first byte, and where its reading stopped, for junk its end
-pub record Extent : Type 0 where
-  pub start : ℕ
-  pub stop : ℕ
-
+-- an entry's extent is its first byte, and where its reading stopped, for junk its end; n bytes further on
 unfoldable pub up_extent : ℕ → Extent → Extent
 up_extent n x = record { start = n + x.start; stop = n + x.stop }
 
@@ -79,37 +78,36 @@ ahead_from s start m =
 unfoldable pub ahead : List ℕ → (at m : ℕ) → Ahead
 ahead s at m = elim (ltb max_length (length s)) [ true ↦ nothing | false ↦ ahead_from s (at + used_by (skip_blank_block (drop at s))) m ]
 
-unfoldable pub stopped : ℕ → Option ℕ → Next
-stopped start (some k) = Entry start (start + k)
+-- an entry, or none where none is left; or a refusal
+abbrev pub Next : Type 0
+Next = Result (Maybe Extent) Refusal
+
+unfoldable pub stopped : ℕ → Option ℕ → Maybe Extent
+stopped start (some k) = Some (record { start = start; stop = start + k })
 stopped start none = None
 
 unfoldable pub answer_by : List ℕ → Ahead → Next
-answer_by s (entry_at a) = stopped a (stop_of (drop a s) (get_entry (level max_open) (drop a s)))
-answer_by s nothing = None
-answer_by s short = TreeTooShort (tree_layout (length s))
+answer_by s (entry_at a) = Ok (stopped a (stop_of (drop a s) (get_entry (level max_open) (drop a s))))
+answer_by s nothing = Ok None
+answer_by s short = Err (TreeTooShort (tree_layout (length s)))
 
 unfoldable pub next_answer : List ℕ → (at m : ℕ) → Next
 next_answer s at m = answer_by s (ahead s at m)
 
--- document 01's number of an answer: that none is left is no refusal
-abbrev pub number_of : Next → ℕ
-number_of (Entry a e) = 0
-number_of None = 0
-number_of (TreeTooShort n) = 3
-
--- what comes with it, in a source of l bytes: the entry's start, the end if none is left, or the words needed
+-- what comes with an answer, in a source of l bytes: the entry's start, the end if none is left, or the words needed
 abbrev pub value_of : ℕ → Next → ℕ
-value_of l (Entry a e) = a
-value_of l None = l
-value_of l (TreeTooShort n) = n
+value_of l (Ok (Some x)) = x.start
+value_of l (Ok None) = l
+value_of l (Err r) = refusal_value r
 
 -- an entry's second value, where its reading stopped; the other answers have one value
 abbrev pub second_of : ℕ → Next → ℕ
-second_of l (Entry a e) = e
-second_of l None = value_of l None
-second_of l (TreeTooShort n) = value_of l (TreeTooShort n)
+second_of l (Ok (Some x)) = x.stop
+second_of l (Ok None) = l
+second_of l (Err r) = refusal_value r
 
--- what a promise says of an answer r where a definition gives a, in a source of l bytes: the case, and document 01's number and values
+-- what a promise says of an answer r where a definition gives a, in a source of l bytes: the case, its number and its values.
+-- That none is left is no refusal, so its number is 0
 pub record Answered (l : ℕ) (r a : Next) : Type 0 where
   pub same : r ≡ a
   pub number : number_of r ≡ number_of a
@@ -118,9 +116,9 @@ pub record Answered (l : ℕ) (r a : Next) : Type 0 where
 
 -- the place after an answer: where the entry stopped, the end if none is left, or the same place
 abbrev pub place_after : List ℕ → ℕ → Next → ℕ
-place_after s at (Entry a e) = e
-place_after s at None = length s
-place_after s at (TreeTooShort n) = at
+place_after s at (Ok (Some x)) = x.stop
+place_after s at (Ok None) = length s
+place_after s at (Err r) = at
 
 -- a tree t in whose arrays, of a layout of n words, scratch was written: they are open, its length, its two sizes and the words past the
 -- layout are as they were

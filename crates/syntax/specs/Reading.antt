@@ -1,30 +1,29 @@
--- The reading call (document 01): for a source and the lent slices, what it answers and what every word of the slices then is.
-use Rattle.std.specs.Prelude.{ℕ, true, false, List, [], length, ltb}
+-- The reading call: for a source and the lent slices, what it answers and what every word of the slices then is.
+use Rattle.std.specs.Prelude.{ℕ, true, false, List, [], length, ltb, Ok, Err}
 use Rattle.std.proofs.Math.Option.{some, none}
 use Rattle.utf8.specs.Utf8.{first_ill_formed}
-use Rattle.syntax.specs.declared.answer.Answer.{Answer}
-use Rattle.syntax.specs.declared.answer.Answer.TheVariants.{Accepted, TooLong, NotUtf8, TreeTooShort, ErrorsTooShort, TooDeep}
-use Rattle.syntax.specs.Answer.{slice_after}
+use Rattle.syntax.specs.declared.answer.Refusal.TheVariants.{TooLong, NotUtf8, TreeTooShort, ErrorsTooShort, TooDeep}
+use Rattle.syntax.specs.Answer.{Answer, slice_after}
 use Rattle.syntax.specs.Limits.{max_length, max_open}
 use Rattle.syntax.specs.Marks.{Mark}
 use Rattle.syntax.specs.Layout.{tree_capacity, tree_layout, error_layout, tree_words, error_words}
 use Rattle.syntax.specs.Core.{Error, Reading, read, refused, parse}
 
 unfoldable pub answer_of : Reading → Answer
-answer_of (read ms es) = Accepted 0
-answer_of (refused k) = TooDeep k
+answer_of (read ms es) = Ok 0
+answer_of (refused k) = Err (TooDeep k)
 
--- the tests in document 01's order; the slices have t and e words
+-- the tests in their order; the slices have t and e words
 unfoldable pub read_answer : List ℕ → (t e : ℕ) → Answer
 read_answer s t e =
     let n = length s in
     elim (ltb max_length n) [
-      | true ↦ TooLong n
+      | true ↦ Err (TooLong n)
       | false ↦ elim (first_ill_formed s) [
-        | some k ↦ NotUtf8 k
+        | some k ↦ Err (NotUtf8 k)
         | none ↦ elim (ltb t (tree_layout n)) [
-          | true ↦ TreeTooShort (tree_layout n)
-          | false ↦ elim (ltb e (error_layout n)) [ true ↦ ErrorsTooShort (error_layout n) | false ↦ answer_of (parse max_open s) ]
+          | true ↦ Err (TreeTooShort (tree_layout n))
+          | false ↦ elim (ltb e (error_layout n)) [ true ↦ Err (ErrorsTooShort (error_layout n)) | false ↦ answer_of (parse max_open s) ]
         ]
       ]
     ]

@@ -1,4 +1,4 @@
--- The shape of a mark list: document 01's content models, the lists that are well formed, the value of refusal 6,
+-- The shape of a mark list: the content models, the lists that are well formed, the value of refusal 6,
 -- and the check that finds it in one pass.
 use Rattle.std.specs.Prelude.{ℕ, suc, ◌+◌, ◌-◌, ◌≤◌, ◌<◌, ◌≡◌, Bool, true, false, ◌&&◌, ◌||◌, not, List, [], ◌∷◌, ◌++◌, eqb, leb, length, take}
 use Rattle.std.proofs.Math.Option.{Option, some, none}

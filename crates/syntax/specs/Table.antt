@@ -1,4 +1,4 @@
--- The rows P1 to P10 of document 01, each whole, with two more, and the theorem that they hold.
+-- Worked sources, the rows P1 to P10 and two more, each with its whole listing or text, and the theorem that they hold.
 use Rattle.std.specs.Prelude.{ℕ, ◌≡◌, refl, false, List, [], ◌∷◌, map}
 use Prim.Native.String.{String}
 use Rattle.syntax.specs.Bytes as Bytes
@@ -46,7 +46,7 @@ rows =
     ∷ written "a = .b\n  c\n" "a = .b\nc\n"
     -- the first of the two tests for a term's attribute: error 12, position 9 to 10, junk 0 to 11
     ∷ listed "a = {-t.a}\n" "0 2 1\n7 0\n107 11\n12 9 10 0 11 0 0\n"
-    -- the listing that document 01 has in full
+    -- a message and its value
     ∷ listed "a = b\n" "0 8 0\n1 0\n9 0\n109 1\n11 0\n12 4\n112 5\n111 0\n101 0\n"
     ∷ []
 

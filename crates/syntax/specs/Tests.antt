@@ -1,9 +1,9 @@
--- The tests 1, 2 and 6 (document 01), which every call that is given a source and a tree makes first, in this order.
-use Rattle.std.specs.Prelude.{ℕ, ◌+◌, ◌*◌, Bool, true, false, ◌&&◌, List, length, leb, ltb}
+-- The tests for the refusals 1, 2 and 6, which every call that is given a source and a tree makes first, in this order.
+use Rattle.std.specs.Prelude.{ℕ, ◌+◌, ◌*◌, Bool, true, false, ◌&&◌, List, length, leb, ltb, Result, Ok, Err}
 use Rattle.std.proofs.Math.Option.{Option, some, none}
 use Rattle.utf8.specs.Utf8.{first_ill_formed, is_boundary}
-use Rattle.syntax.specs.declared.answer.Answer.{Answer}
-use Rattle.syntax.specs.declared.answer.Answer.TheVariants.{TooLong, NotUtf8, IllFormed}
+use Rattle.syntax.specs.declared.answer.Refusal.{Refusal}
+use Rattle.syntax.specs.declared.answer.Refusal.TheVariants.{TooLong, NotUtf8, IllFormed}
 use Rattle.syntax.specs.Limits.{max_length, max_open}
 use Rattle.syntax.specs.Layout.{sizes, tree_capacity, count, capacity, marks_in}
 use Rattle.syntax.specs.Shape.{verdict}
@@ -19,7 +19,7 @@ sizes_fit ws =
     && (leb (capacity ws) (tree_capacity max_length) && (leb (count ws) (capacity ws) && leb (sizes + 2 * capacity ws) (length ws)))
 
 -- 1 and 2, of a source
-unfoldable pub source_refusal : List ℕ → Option Answer
+unfoldable pub source_refusal : List ℕ → Option Refusal
 source_refusal s =
     elim (ltb max_length (length s)) [
       | true ↦ some (TooLong (length s))
@@ -27,7 +27,7 @@ source_refusal s =
     ]
 
 -- 6, of a tree over a source
-unfoldable pub tree_refusal : (source tree : List ℕ) → Option Answer
+unfoldable pub tree_refusal : (source tree : List ℕ) → Option Refusal
 tree_refusal s t =
     elim (sizes_fit t) [
       | false ↦ some (IllFormed no_mark)
@@ -35,5 +35,10 @@ tree_refusal s t =
     ]
 
 -- the first refusal of them, if any
-unfoldable pub refusal : (source tree : List ℕ) → Option Answer
-refusal s t = elim (source_refusal s) [ some a ↦ some a | none ↦ tree_refusal s t ]
+unfoldable pub refusal : (source tree : List ℕ) → Option Refusal
+refusal s t = elim (source_refusal s) [ some r ↦ some r | none ↦ tree_refusal s t ]
+
+-- the answer of a function that tests: nothing, or the refusal
+unfoldable pub tested_of : Option Refusal → Result (Unit {0}) Refusal
+tested_of none = Ok tt
+tested_of (some r) = Err r

@@ -2,18 +2,19 @@
 ghost use Rattle.std.specs.Prelude.{◌≡◌};
 ghost use Rattle.syntax.specs.Errors.{words_of};
 
-// The codes of the ranges of characters: "a-zA-Z", a line end, "0-9".
-pub const LETTERS: u8 = 1;
+// A range of characters that was wanted, with its code: "a-zA-Z", a line end, "0-9".
+#[derive(Clone, Copy, Debug, PartialEq, Eq)]
+pub enum CharRange {
+    Letters = 1,
+    LineEnd = 2,
+    Digits = 3,
+}
 
-pub const LINE_END: u8 = 2;
-
-pub const DIGITS: u8 = 3;
-
-// A byte that was wanted, the code of a range of characters, or the span of a name or an escape in the source.
-#[derive(Drop)]
+// A byte or a range of characters that was wanted, or the span of a name or an escape in the source.
+#[derive(Clone, Copy, Debug, PartialEq, Eq)]
 pub enum ErrorKind {
     ExpectedToken(u8),
-    ExpectedCharRange(u8),
+    ExpectedCharRange(CharRange),
     ExpectedMessageField(u32, u32),
     ExpectedTermField(u32, u32),
     ForbiddenCallee,
@@ -36,129 +37,74 @@ pub enum ErrorKind {
 }
 
 // The position is from start to end. The Rust's slice, the junk, is known only where the entry's junk ends.
-#[derive(Drop)]
+#[derive(Clone, Copy, Debug, PartialEq, Eq)]
 pub struct ParserError {
     pub start: u32,
     pub end: u32,
     pub kind: ErrorKind,
 }
 
-// A kind as numbers: document 01's number of it and its two arguments.
-#[derive(Drop)]
+// A kind as it stands in a list of errors: its number and its two arguments.
+#[derive(Clone, Copy, Debug, PartialEq, Eq)]
 pub struct KindWords {
     pub number: u32,
     pub first: u32,
     pub second: u32,
 }
 
-pub fn kind_words(kind: ErrorKind) -> KindWords
-    ensures { result ≡ words_of kind }
-{
-    match kind {
-        ErrorKind::ExpectedToken(x) => KindWords {
-            number: 1,
-            first: x as u32,
-            second: 0,
-        },
-        ErrorKind::ExpectedCharRange(x) => KindWords {
-            number: 2,
-            first: x as u32,
-            second: 0,
-        },
-        ErrorKind::ExpectedMessageField(x, y) => KindWords {
-            number: 3,
-            first: x,
-            second: y,
-        },
-        ErrorKind::ExpectedTermField(x, y) => KindWords {
-            number: 4,
-            first: x,
-            second: y,
-        },
-        ErrorKind::ForbiddenCallee => KindWords {
-            number: 5,
-            first: 0,
-            second: 0,
-        },
-        ErrorKind::MissingDefaultVariant => KindWords {
-            number: 6,
-            first: 0,
-            second: 0,
-        },
-        ErrorKind::MissingValue => KindWords {
-            number: 7,
-            first: 0,
-            second: 0,
-        },
-        ErrorKind::MultipleDefaultVariants => KindWords {
-            number: 8,
-            first: 0,
-            second: 0,
-        },
-        ErrorKind::MessageReferenceAsSelector => KindWords {
-            number: 9,
-            first: 0,
-            second: 0,
-        },
-        ErrorKind::TermReferenceAsSelector => KindWords {
-            number: 10,
-            first: 0,
-            second: 0,
-        },
-        ErrorKind::MessageAttributeAsSelector => KindWords {
-            number: 11,
-            first: 0,
-            second: 0,
-        },
-        ErrorKind::TermAttributeAsPlaceable => KindWords {
-            number: 12,
-            first: 0,
-            second: 0,
-        },
-        ErrorKind::UnterminatedStringLiteral => KindWords {
-            number: 13,
-            first: 0,
-            second: 0,
-        },
-        ErrorKind::PositionalArgumentFollowsNamed => KindWords {
-            number: 14,
-            first: 0,
-            second: 0,
-        },
-        ErrorKind::DuplicatedNamedArgument(x, y) => KindWords {
-            number: 15,
-            first: x,
-            second: y,
-        },
-        ErrorKind::UnknownEscapeSequence(x) => KindWords {
-            number: 16,
-            first: x as u32,
-            second: 0,
-        },
-        ErrorKind::InvalidUnicodeEscapeSequence(x, y) => KindWords {
-            number: 17,
-            first: x,
-            second: y,
-        },
-        ErrorKind::UnbalancedClosingBrace => KindWords {
-            number: 18,
-            first: 0,
-            second: 0,
-        },
-        ErrorKind::ExpectedInlineExpression => KindWords {
-            number: 19,
-            first: 0,
-            second: 0,
-        },
-        ErrorKind::ExpectedSimpleExpressionAsSelector => KindWords {
-            number: 20,
-            first: 0,
-            second: 0,
-        },
-        ErrorKind::ExpectedLiteral => KindWords {
-            number: 21,
-            first: 0,
-            second: 0,
-        },
+impl ErrorKind {
+    pub fn words(self) -> KindWords
+        ensures { result ≡ words_of self }
+    {
+        let (first, second) = self.arguments();
+        KindWords {
+            number: self.number(),
+            first,
+            second,
+        }
+    }
+
+    fn number(self) -> u32
+        ensures { result ≡ (words_of self).number }
+    {
+        match self {
+            ErrorKind::ExpectedToken(_) => 1,
+            ErrorKind::ExpectedCharRange(_) => 2,
+            ErrorKind::ExpectedMessageField(_, _) => 3,
+            ErrorKind::ExpectedTermField(_, _) => 4,
+            ErrorKind::ForbiddenCallee => 5,
+            ErrorKind::MissingDefaultVariant => 6,
+            ErrorKind::MissingValue => 7,
+            ErrorKind::MultipleDefaultVariants => 8,
+            ErrorKind::MessageReferenceAsSelector => 9,
+            ErrorKind::TermReferenceAsSelector => 10,
+            ErrorKind::MessageAttributeAsSelector => 11,
+            ErrorKind::TermAttributeAsPlaceable => 12,
+            ErrorKind::UnterminatedStringLiteral => 13,
+            ErrorKind::PositionalArgumentFollowsNamed => 14,
+            ErrorKind::DuplicatedNamedArgument(_, _) => 15,
+            ErrorKind::UnknownEscapeSequence(_) => 16,
+            ErrorKind::InvalidUnicodeEscapeSequence(_, _) => 17,
+            ErrorKind::UnbalancedClosingBrace => 18,
+            ErrorKind::ExpectedInlineExpression => 19,
+            ErrorKind::ExpectedSimpleExpressionAsSelector => 20,
+            ErrorKind::ExpectedLiteral => 21,
+        }
+    }
+
+    fn arguments(self) -> (u32, u32)
+        ensures { (result.0 ≡ (words_of self).first) × (result.1 ≡ (words_of self).second) }
+    {
+        match self {
+            ErrorKind::ExpectedToken(byte) | ErrorKind::UnknownEscapeSequence(byte) => {
+                (u32::from(byte), 0)
+            }
+            ErrorKind::ExpectedCharRange(range) => (range as u32, 0),
+            ErrorKind::ExpectedMessageField(start, end)
+            | ErrorKind::ExpectedTermField(start, end)
+            | ErrorKind::DuplicatedNamedArgument(start, end)
+            | ErrorKind::InvalidUnicodeEscapeSequence(start, end) => (start, end),
+            _ => (0, 0),
+        }
     }
 }

@@ -9,3 +9,4 @@ pub mod kind;
 pub mod layout;
 pub mod limits;
 pub mod next;
+pub mod test;

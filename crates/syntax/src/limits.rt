@@ -1,4 +1,4 @@
-// Document 01's limits on a source, as Limits in specs/ has them.
+// The limits on a source, as Limits in specs/ has them.
 
 // The most bytes.
 pub const MAX_LENGTH: usize = 1_000_000;

@@ -3,4 +3,3 @@ pub mod Walk
 pub mod Words
 pub mod Models
 pub mod Shape
-pub mod Test

@@ -1,7 +1,7 @@
 -- UTF-8, from table 3-7 of the Unicode Standard, "Well-Formed UTF-8 Byte Sequences". A source is the list of its bytes.
-use Rattle.std.specs.Prelude.{ℕ, zero, suc, ◌+◌, ◌≡◌, Bool, true, false, not, List, [], ◌∷◌, leb, ltb, eqb, length, get_or}
+use Rattle.std.specs.Prelude.{ℕ, zero, suc, ◌+◌, ◌≡◌, Bool, true, false, not, List, [], ◌∷◌, leb, ltb, eqb, length, get_or, Result, Ok, Err}
 use Rattle.std.proofs.Math.Option.{Option, none, some, map}
-use Rattle.utf8.specs.declared.Checked.{Checked}
+use Rattle.utf8.specs.declared.Utf8Error.{Utf8Error}
 
 -- the bytes from low to high, both included
 pub record Range : Type 0 where
@@ -89,6 +89,6 @@ is_boundary s at = elim (eqb at 0) [
 ]
 
 -- the answer of the function `check`
-unfoldable pub checked_of : Option ℕ → Checked
-checked_of none = Checked.WellFormed
-checked_of (some at) = Checked.IllFormed at
+unfoldable pub checked_of : Option ℕ → Result (Unit {0}) Utf8Error
+checked_of none = Ok tt
+checked_of (some at) = Err (record { valid_up_to = at })

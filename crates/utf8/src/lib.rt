@@ -6,20 +6,21 @@ ghost use Rattle.utf8.specs.Utf8.{first_ill_formed, is_boundary, checked_of};
 
 use simdutf8::compat::from_utf8;
 
-#[derive(Drop)]
-pub enum Checked {
-    WellFormed,
-    // The offset of the first byte from which no well-formed sequence can be read.
-    IllFormed(usize),
+// Where a source stops being UTF-8: the offset of the first byte from which no well-formed sequence can be read.
+#[derive(Clone, Copy, Debug, PartialEq, Eq)]
+pub struct Utf8Error {
+    pub valid_up_to: usize,
 }
 
 // Whether the source is well formed.
-pub fn check(source: &[u8]) -> Checked
+pub fn check(source: &[u8]) -> Result<(), Utf8Error>
     ensures { result ≡ checked_of (first_ill_formed source.now) }
 {
     match from_utf8(source) {
-        Ok(_) => Checked::WellFormed,
-        Err(fault) => Checked::IllFormed(fault.valid_up_to()),
+        Ok(_) => Ok(()),
+        Err(fault) => Err(Utf8Error {
+            valid_up_to: fault.valid_up_to(),
+        }),
     }
 }
 

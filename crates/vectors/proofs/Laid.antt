@@ -5,8 +5,11 @@ use mathlib.Core.Path.{◌≡◌, refl, sym, ap, ◌∙◌}
 use mathlib.Core.List.{List, [], ◌∷◌, ◌++◌, append_assoc}
 use lib.ListN.{length, get_or, take, drop, replicate, length-append, length-replicate, length-drop}
 use lib.Seq.{drop-drop, length-take-le}
-use Rattle.syntax.specs.declared.answer.Answer.{Answer}
-use Rattle.syntax.specs.Answer.{number_of, Effect, effect_of, slice_by, slice_after}
+use Rattle.std.proofs.Common.{Ok, Err}
+use Rattle.syntax.specs.declared.answer.Refusal.{Refusal}
+use Rattle.syntax.specs.declared.answer.Refusal.TheVariants.{TooLong, NotUtf8, TreeTooShort, ErrorsTooShort}
+use Rattle.syntax.specs.declared.answer.Refusal.TheVariants.{TooDeep, IllFormed, OutputTooShort}
+use Rattle.syntax.specs.Answer.{Answer, Effect, effect_of, slice_by, slice_after}
 use Rattle.syntax.specs.Layout.{array}
 use Rattle.laws.specs.Effect.{writes, zeroes, leaves}
 use Rattle.vectors.specs.Stored.{between, shorts}
@@ -123,20 +126,26 @@ module _ (s : List ℕ) (n : ℕ) where
   zeroed-is h p q =
       parts s (replicate n 0) (drop n (filled (length s))) n (p ∙ ap (λ i. replicate i 0) (length-take-le n s h)) (rest-yes s n filling q)
 
--- what the call leaves, by the number of its answer
-module _ (a : Arrays) (f g : List ℕ) (n : ℕ) (r : Answer) where
-  by : {e : Effect} → effect_of r ≡ e → left r a f g n ≡ slice_by e (laid_length a) (laid a f g) (filled n)
+-- what the call leaves, by its answer
+module _ (a : Arrays) (f g : List ℕ) (n : ℕ) where
+  by : (r : Answer) {e : Effect} → effect_of r ≡ e → left r a f g n ≡ slice_by e (laid_length a) (laid a f g) (filled n)
   unfolding left slice_after
-  by h = ap (λ e. slice_by e (laid_length a) (laid a f g) (filled n)) h
+  by r h = ap (λ e. slice_by e (laid_length a) (laid a f g) (filled n)) h
 
-  pub left_laid : number_of r ≡ 0 → left r a f g n ≡ laid a f g ++ drop (laid_length a) (filled n)
+  pub left_laid : (v : ℕ) → left (Ok v) a f g n ≡ laid a f g ++ drop (laid_length a) (filled n)
   unfolding slice_by
-  left_laid e = by (writes r e)
+  left_laid v = by (Ok v) (writes (Ok v) refl)
 
-  pub left-zeroed : number_of r ≡ 5 → left r a f g n ≡ replicate (laid_length a) 0 ++ drop (laid_length a) (filled n)
+  pub left-zeroed : (v : ℕ) → left (Err (TooDeep v)) a f g n ≡ replicate (laid_length a) 0 ++ drop (laid_length a) (filled n)
   unfolding slice_by
-  left-zeroed e = by (zeroes r e)
+  left-zeroed v = by (Err (TooDeep v)) (zeroes (Err (TooDeep v)) refl)
 
-  pub left-filled : (number_of r ≡ 0 → ⊥) → (number_of r ≡ 5 → ⊥) → left r a f g n ≡ filled n
+  pub left-filled : (r : Refusal) → ((v : ℕ) → r ≡ TooDeep v → ⊥) → left (Err r) a f g n ≡ filled n
   unfolding slice_by
-  left-filled p q = by (leaves r p q)
+  left-filled (TooLong v) p = by (Err (TooLong v)) (leaves (Err (TooLong v)) (λ e. omega arith) (λ e. omega arith))
+  left-filled (NotUtf8 v) p = by (Err (NotUtf8 v)) (leaves (Err (NotUtf8 v)) (λ e. omega arith) (λ e. omega arith))
+  left-filled (TreeTooShort v) p = by (Err (TreeTooShort v)) (leaves (Err (TreeTooShort v)) (λ e. omega arith) (λ e. omega arith))
+  left-filled (ErrorsTooShort v) p = by (Err (ErrorsTooShort v)) (leaves (Err (ErrorsTooShort v)) (λ e. omega arith) (λ e. omega arith))
+  left-filled (TooDeep v) p = absurd (p v refl)
+  left-filled (IllFormed v) p = by (Err (IllFormed v)) (leaves (Err (IllFormed v)) (λ e. omega arith) (λ e. omega arith))
+  left-filled (OutputTooShort v) p = by (Err (OutputTooShort v)) (leaves (Err (OutputTooShort v)) (λ e. omega arith) (λ e. omega arith))

@@ -3,7 +3,7 @@ use Prim.Native.Nat.{ℕ}
 use mathlib.Core.Path.{◌≡◌, ap, ◌∙◌}
 use mathlib.Core.List.{List}
 use lib.ListN.{length, replicate, length-replicate}
-use Rattle.syntax.specs.declared.answer.Answer.{Answer}
+use Rattle.syntax.specs.Answer.{Answer}
 use Rattle.syntax.specs.Reading.{read_answer, tree_after, errors_after}
 use Rattle.parser.specs.Call.{DidRead}
 use Rattle.vectors.specs.Agreement.{filling, filled, ReadFilled}

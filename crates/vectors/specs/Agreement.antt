@@ -1,7 +1,6 @@
 -- When the reading call agrees with a case.
 use Rattle.std.specs.Prelude.{ℕ, ◌+◌, ◌*◌, ◌≤◌, ◌≡◌, Bool, true, false, List, ◌∷◌, ◌++◌, length, replicate}
-use Rattle.syntax.specs.Answer.{number_of, value_of, slice_after}
-use Rattle.syntax.specs.declared.answer.Answer.{Answer}
+use Rattle.syntax.specs.Answer.{Answer, number_of, value_of, slice_after}
 use Rattle.syntax.specs.Layout.{array, tree_capacity, group_size}
 use Rattle.syntax.specs.Reading.{read_answer, tree_after, errors_after}
 use Rattle.vectors.specs.Stored.{between, shorts, Repeats}

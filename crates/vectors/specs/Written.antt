@@ -1,6 +1,6 @@
 -- What a case of the writing call holds, and when the call agrees with it.
 use Rattle.std.specs.Prelude.{ℕ, ◌+◌, ◌-◌, ◌*◌, ◌≤◌, ◌≡◌, Bool, List, [], ◌∷◌, ◌++◌, eqb, length, replicate, drop}
-use Rattle.syntax.specs.declared.answer.Answer.{Answer}
+use Rattle.syntax.specs.Answer.{Answer}
 use Rattle.syntax.specs.Layout.{array}
 use Rattle.syntax.specs.Writing.{write_answer, output_after}
 use Rattle.vectors.specs.Stored.{between, long_at, Repeats}

@@ -1,11 +1,11 @@
-// Comparisons of every word of a slice with what document 01 fixes.
+// Comparisons of every word of a slice with what a case has of it.
 ghost use Rattle.std.specs.Prelude.{◌+◌, ◌*◌, ◌≤◌, ◌≡◌, ◌++◌, length, replicate, drop};
 ghost use Rattle.syntax.specs.Layout.{array};
 ghost use Rattle.vectors.specs.Stored.{shorts};
 ghost use Rattle.vectors.specs.Agreement.{Tells, Stores, filled, laid, laid_length, left};
 
 use crate::stored::{SHORT, short};
-use syntax::answer::{Answer, number};
+use syntax::answer::{Answer, Refusal};
 use syntax::layout::SIZES;
 
 // What is stored of a slice's arrays: the first has so many words for its capacity, the second for its size.
@@ -116,9 +116,11 @@ pub fn is_left(answer: Answer, slice: &[u32], a: Arrays, first: &[u8], second: &
     ensures { Tells result
         (slice.now ≡ left answer a first.now second.now (length slice.now)) }
 {
-    match number(answer) {
-        0 => is_laid_out(slice, a, first, second),
-        5 => is_zeroed(slice, SIZES + a.capacity + a.size),
-        _ => are_all(slice, FILLING),
+    match answer {
+        Ok(_) => is_laid_out(slice, a, first, second),
+        Err(refusal) => match refusal {
+            Refusal::TooDeep(_) => is_zeroed(slice, SIZES + a.capacity + a.size),
+            _ => are_all(slice, FILLING),
+        },
     }
 }

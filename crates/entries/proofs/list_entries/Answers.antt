@@ -1,55 +1,62 @@
 -- `list_entries` meets its contract: in the loop the entries so far are listed.
-use Prim.Native.Nat.{ℕ, ◌+◌, ◌*◌}
 use native.Mathlib.Omega.{arith}
-use mathlib.Core.Path.{refl, ◌∙◌}
+use Prim.Native.Nat.{ℕ, ◌+◌, ◌*◌}
+use mathlib.Core.Path.{◌≡◌, refl, ap, ◌∙◌}
+use Rattle.std.proofs.Common.{Ok}
 use borrow.Author.Rules.{Below-set}
 use Rattle.entries.proofs.Going.{going_start, going-long, found, going_next, going_end}
 use Rattle.entries.proofs.list_entries.Goals as goal
 
-pub loop-start-init : goal.loop-start-init
-loop-start-init c = (refl, going_start _ _ c.first_place-at.ensures)
+pub loop-extent-init : goal.loop-extent-init
+loop-extent-init c = (refl, going_start _ _ c.first_place-at.ensures)
 
-pub shape_of-list-in_default : goal.shape_of-list-in_default
-shape_of-list-in_default c = going-long c.loop-start.invariant.1
+pub returns-in-Ok-None : goal.returns-in-Ok-None
+returns-in-Ok-None c =
+    let (k, going) = c.loop-extent.invariant in
+    going_end c.requires going _ k c.entry_after.ensures.0.same
+    (λ x e. let g = c.in-Ok-None.is ∙ ap (λ o. Ok o) c.in-Ok-None.field-0-is in let z : ◌≡◌ {A = ℕ} 0 1 = cc in omega arith)
 
-pub returns-in_default : goal.returns-in_default
-returns-in_default c =
-    let (k, going) = c.loop-start.invariant in
-    going_end c.requires going _ k c.entry_after.ensures.0.same c.in_default.not-Entry
+pub returns-in-Err : goal.returns-in-Err
+returns-in-Err c =
+    let (k, going) = c.loop-extent.invariant in
+    going_end c.requires going _ k c.entry_after.ensures.0.same
+    (λ x e. let g = c.in-Err.is in let z : ◌≡◌ {A = ℕ} 0 1 = cc in omega arith)
 
 pub overflow_cast-list : goal.overflow_cast-list
 overflow_cast-list c =
-    let (k, going) = c.loop-start.invariant in
-    let f = found c.requires going _ k c.entry_after.ensures.0.same c.in-Entry.is in
+    let (k, going) = c.loop-extent.invariant in
+    let f = found c.requires going _ k c.entry_after.ensures.0.same (c.in-Ok-Some.is ∙ ap (λ o. Ok o) c.in-Ok-Some.field-0-is) in
     omega (arith, f.some, f.within, c.requires.source)
 
 pub bounds-list-i : goal.bounds-list-i
 bounds-list-i c =
-    let (k, going) = c.loop-start.invariant in
-    let f = found c.requires going _ k c.entry_after.ensures.0.same c.in-Entry.is in
+    let (k, going) = c.loop-extent.invariant in
+    let f = found c.requires going _ k c.entry_after.ensures.0.same (c.in-Ok-Some.is ∙ ap (λ o. Ok o) c.in-Ok-Some.field-0-is) in
     omega (arith, f.before, f.some, f.within, going.few, going-long going, c.requires.source, c.requires.list)
 
-pub overflow_cast-list-in-loop-start : goal.overflow_cast-list-in-loop-start
-overflow_cast-list-in-loop-start c =
-    let (k, going) = c.loop-start.invariant in
-    let f = found c.requires going _ k c.entry_after.ensures.0.same c.in-Entry.is in
+pub overflow_cast-list-in-Ok-Some : goal.overflow_cast-list-in-Ok-Some
+overflow_cast-list-in-Ok-Some c =
+    let (k, going) = c.loop-extent.invariant in
+    let f = found c.requires going _ k c.entry_after.ensures.0.same (c.in-Ok-Some.is ∙ ap (λ o. Ok o) c.in-Ok-Some.field-0-is) in
     omega (arith, f.within, c.requires.source)
 
-pub bounds-list-i-in-loop-start : goal.bounds-list-i-in-loop-start
-bounds-list-i-in-loop-start c =
-    let (k, going) = c.loop-start.invariant in
-    let f = found c.requires going _ k c.entry_after.ensures.0.same c.in-Entry.is in
-    let n = 2 * c.loop-start.n in
-    Below-set ℕ c.loop-start.list (n + 1) n c.in-Entry.start
+pub bounds-list-i-in-Ok-Some : goal.bounds-list-i-in-Ok-Some
+bounds-list-i-in-Ok-Some c =
+    let (k, going) = c.loop-extent.invariant in
+    let f = found c.requires going _ k c.entry_after.ensures.0.same (c.in-Ok-Some.is ∙ ap (λ o. Ok o) c.in-Ok-Some.field-0-is) in
+    let n = 2 * c.loop-extent.n in
+    Below-set ℕ c.loop-extent.list (n + 1) n c.in-Ok-Some.extent.start
     (omega (arith, f.before, f.some, f.within, going.few, going-long going, c.requires.source, c.requires.list))
 
-pub loop-start-smaller : goal.loop-start-smaller
-loop-start-smaller c =
-    let (k, going) = c.loop-start.invariant in
-    let f = found c.requires going _ k c.entry_after.ensures.0.same c.in-Entry.is in
+pub loop-extent-smaller : goal.loop-extent-smaller
+loop-extent-smaller c =
+    let (k, going) = c.loop-extent.invariant in
+    let f = found c.requires going _ k c.entry_after.ensures.0.same (c.in-Ok-Some.is ∙ ap (λ o. Ok o) c.in-Ok-Some.field-0-is) in
     omega (arith, f.before, f.some, f.within)
 
-pub loop-start-preserved : goal.loop-start-preserved
-loop-start-preserved c =
-    let (k, going) = c.loop-start.invariant in
-    (c.entry_after.auto.tree ∙ k, going_next c.requires going _ k c.entry_after.ensures.0.same c.in-Entry.is)
+pub loop-extent-preserved : goal.loop-extent-preserved
+loop-extent-preserved c =
+    let (k, going) = c.loop-extent.invariant in (
+      c.entry_after.auto.tree ∙ k,
+      going_next c.requires going _ k c.entry_after.ensures.0.same (c.in-Ok-Some.is ∙ ap (λ o. Ok o) c.in-Ok-Some.field-0-is),
+    )

@@ -5,8 +5,8 @@ use lib.ListN.{length}
 use Rattle.entries.proofs.Going.{Going}
 use Rattle.entries.proofs.list_entries.Given as goal
 
-abbrev pub invariant-loop-start : goal.invariant-loop-start
-invariant-loop-start l = (length l.tree ≡ length l.initial.tree) × Going l.source l.initial.list l.list l.at l.n
+abbrev pub invariant-loop-extent : goal.invariant-loop-extent
+invariant-loop-extent l = (length l.tree ≡ length l.initial.tree) × Going l.source l.initial.list l.list l.at l.n
 
-abbrev pub decreases-loop-start : goal.decreases-loop-start
-decreases-loop-start l = length l.source - l.at
+abbrev pub decreases-loop-extent : goal.decreases-loop-extent
+decreases-loop-extent l = length l.source - l.at

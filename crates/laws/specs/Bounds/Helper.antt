@@ -6,6 +6,7 @@ use Rattle.std.proofs.Math.Bool.{true, false}
 use mathlib.Core.List.{List, [], ◌∷◌}
 use Rattle.std.proofs.Math.ListN.{length, length-drop}
 use borrow.Author.Tests.{eqb-false, ltb-true}
+use Rattle.syntax.specs.declared.errors.CharRange.TheVariants.{Letters, Digits}
 use Rattle.syntax.specs.declared.errors.ErrorKind.TheVariants.{ExpectedToken, ExpectedCharRange}
 use Rattle.syntax.specs.Bytes.{starts_with, starts, is_letter, is_digit, is_name_part, is_hex, spaces, eol, run}
 use Rattle.syntax.specs.Reader.{Out, ok, again, done}
@@ -83,7 +84,7 @@ module _ {n : ℕ} where
   unfolding skip_digits
   digits-bounds = record {
     on =
-        λ s. pick (Bounded n (λ _. 8) s) (eqb (run is_digit s) 0) _ _ (λ q. (fail-bounds (ExpectedCharRange 3)).on s)
+        λ s. pick (Bounded n (λ _. 8) s) (eqb (run is_digit s) 0) _ _ (λ q. (fail-bounds (ExpectedCharRange Digits)).on s)
         (λ q. used (uses-nil (run is_digit s) (run-le is_digit s) (omega (arith, eqb-false (run is_digit s) 0 q))));
   }
 
@@ -111,7 +112,7 @@ module _ {n : ℕ} where
   identifier-bounds kind = record {
     on = λ s. pick (Bounded n (λ _. 6) s) (starts is_letter s) _ _
         (λ h. used (uses-text (run is_name_part s) kind 0 (run is_name_part s) (run-le is_name_part s) (omega (arith, name-some s h))))
-        (λ h. (fail-bounds (ExpectedCharRange 1)).on s);
+        (λ h. (fail-bounds (ExpectedCharRange Letters)).on s);
   }
 
   pub escape-bounds : (len : ℕ) → Bounds n (λ _. 0) (skip_unicode_escape_sequence len)

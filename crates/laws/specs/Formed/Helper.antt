@@ -5,6 +5,7 @@ use Rattle.std.proofs.Math.Path.{refl}
 use Rattle.std.proofs.Math.Bool.{true, false, and-eq-true_iff}
 use mathlib.Core.List.{List}
 use Rattle.std.proofs.Math.Option.{some}
+use Rattle.syntax.specs.declared.errors.CharRange.TheVariants.{Letters, Digits}
 use Rattle.syntax.specs.declared.errors.ErrorKind.TheVariants.{ExpectedToken, ExpectedCharRange}
 use Rattle.syntax.specs.Kind as Kind
 use Rattle.syntax.specs.Bytes.{starts_with, starts, within, is_letter, is_digit, is_name_part, spaces, eol, run}
@@ -103,7 +104,7 @@ module _ {n k : ℕ} {g : Stand} where
   unfolding skip_digits
   digits-makes = record {
     on =
-        λ s. pick (Made n k g (λ _. g) s) (eqb (run is_digit s) 0) _ _ (λ q. (fail-makes (ExpectedCharRange 3)).on s)
+        λ s. pick (Made n k g (λ _. g) s) (eqb (run is_digit s) 0) _ _ (λ q. (fail-makes (ExpectedCharRange Digits)).on s)
         (λ q. skips (edge-run is_digit digit-ascii s (run is_digit s) (omega arith)));
   }
 
@@ -143,5 +144,5 @@ module _ {n k q r : ℕ} (kind : ℕ) (t : Kind.is_text kind ≡ true) (z : step
   identifier-makes = record {
     on = λ s. pick (Made n k (at q) (λ _. at r) s) (starts is_letter s) _ _
         (λ h. made (edge-name s) (by (run-text (edge s) kind 0 (run is_name_part s) t z refl (edge-name s) (omega arith))))
-        (λ h. (fail-makes (ExpectedCharRange 1)).on s);
+        (λ h. (fail-makes (ExpectedCharRange Letters)).on s);
   }

@@ -8,6 +8,7 @@ use mathlib.Core.List.{List, [], ◌∷◌, ◌++◌}
 use Rattle.std.proofs.Math.Dec.{eqb}
 use borrow.Author.Tests.{eqb-true}
 use Rattle.syntax.specs.Bytes.{starts_with, starts, second, is_digit}
+use Rattle.syntax.specs.declared.errors.CharRange.TheVariants as CharRange
 use Rattle.syntax.specs.declared.errors.ErrorKind.TheVariants as Errors
 use Rattle.syntax.specs.Marks.{Mark, node}
 use Rattle.syntax.specs.Reader.{ok, bad, deep, fail, after, Turn, again, done}
@@ -88,7 +89,7 @@ alone-reads i = then (attribute-reads (is_term_attribute (inline i))) (pure-read
 line_end-reads : (v : Bool) → Reads loose (needs_line_end v)
 unfolding needs_line_end
 line_end-reads true = pure-reads loose tt
-line_end-reads false = fail-reads loose (Errors.ExpectedCharRange 2)
+line_end-reads false = fail-reads loose (Errors.ExpectedCharRange CharRange.LineEnd)
 
 arrow-same : (b : ℕ) (bs y : List ℕ) → Whole (b ∷ bs)
     → (starts_with 45 ((b ∷ bs) ++ y) && second (λ c. eqb c 62) ((b ∷ bs) ++ y))

@@ -4,6 +4,7 @@ use Rattle.std.proofs.Common.{not-suc-le-zero, arith, sym, ap, ◌∙◌, subst,
 use mathlib.Core.List.{List, [], ◌∷◌, ◌++◌}
 use Rattle.syntax.specs.Bytes.{starts_with, starts, is_letter, is_digit, is_name_part, is_hex, spaces, eol, run, first_width}
 use Rattle.syntax.specs.Marks.{text_node}
+use Rattle.syntax.specs.declared.errors.CharRange.TheVariants.{Letters, Digits}
 use Rattle.syntax.specs.declared.errors.ErrorKind.TheVariants.{ExpectedToken, ExpectedCharRange, InvalidUnicodeEscapeSequence}
 use Rattle.syntax.specs.Reader.{Out, ok, bad, deep, Reader, fail, Turn, again, done}
 use Rattle.syntax.specs.Helper.{skip_blank_inline, skip_eol, blank_turn, skip_blank, block_turn, skip_blank_block, take_byte_if}
@@ -194,7 +195,7 @@ abbrev identifier_of : ℕ → Bool → ℕ → Out ℕ
 identifier_of kind v n =
     elim v [
       | true ↦ ok n (text_node kind 0 n) n
-      | false ↦ bad (record { start = 0; end = 1; kind = ExpectedCharRange 1 }) 0
+      | false ↦ bad (record { start = 0; end = 1; kind = ExpectedCharRange Letters }) 0
     ]
 
 pub identifier-same : (kind b : ℕ) (bs y : List ℕ) → Whole (b ∷ bs) → get_identifier kind ((b ∷ bs) ++ y) ≡ get_identifier kind (b ∷ bs)
@@ -218,7 +219,7 @@ identifier-reads kind = line_reads any (get_identifier kind)
     nil (b ∷ bs) s = rw (s, get_identifier) tt
 
 abbrev digits_of : ℕ → Out (Unit {0})
-digits_of n = elim (eqb n 0) [ true ↦ bad (record { start = 0; end = 1; kind = ExpectedCharRange 3 }) 0 | false ↦ ok tt [] n ]
+digits_of n = elim (eqb n 0) [ true ↦ bad (record { start = 0; end = 1; kind = ExpectedCharRange Digits }) 0 | false ↦ ok tt [] n ]
 
 pub digits-reads : Reads any skip_digits
 unfolding skip_digits fail

@@ -11,26 +11,18 @@ use Rattle.marks.proofs.report.Goals as goal
 
 pub put_reading-requires : goal.put_reading-requires
 put_reading-requires c =
-    let read = c.read-answer in
-    let lent = c.requires in
-    let accepted = c.in-Accepted.is in
-    let ready = acceptance lent read.ensures accepted read.auto.tree read.auto.errors in
+    let ready = acceptance c.requires c.read.ensures c.in-Ok.is c.read.auto.tree c.read.auto.errors in
     record { marks_held = ready.marks; errors_held = ready.errors }
 
-pub returns-in-Accepted : goal.returns-in-Accepted
-returns-in-Accepted c =
-    let read = c.read-answer in
-    let lent = c.requires in
-    let accepted = c.in-Accepted.is in
-    let ready = acceptance lent read.ensures accepted read.auto.tree read.auto.errors in
+pub returns-in-Ok : goal.returns-in-Ok
+returns-in-Ok c =
+    let ready = acceptance c.requires c.read.ensures c.in-Ok.is c.read.auto.tree c.read.auto.errors in
     reported ready.room (omega arith) (put_as c.put_reading.ensures ready.text)
 
-pub returns : goal.returns
-returns c =
+pub returns-in-Err : goal.returns-in-Err
+returns-in-Err c =
     let lent = c.requires in
-    let number = c.number in
-    let value = c.value in
-    let pair = ap₂ (λ n v. line (n ∷ v ∷ [])) number.ensures value.ensures in
-    let text = pair ∙ refusal lent c.read-answer.ensures c.in_default.not-Accepted in
-    let room = line-few number.result (value.result ∷ []) in
+    let pair = ap₂ (λ n v. line (n ∷ v ∷ [])) (c.from.ensures ∙ c.number.ensures) c.value.ensures in
+    let text = pair ∙ refusal lent (rw c.in-Err.is at c.read.ensures) in
+    let room = line-few c.from.result (c.value.result ∷ []) in
     reported (omega (arith, lent.output, ap length text)) (omega arith) (put_as c.put_pair.ensures text)

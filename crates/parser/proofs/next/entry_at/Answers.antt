@@ -1,16 +1,9 @@
 -- `next::entry_at` meets its contract.
 use Rattle.parser.proofs.Stops.{stoppable, entry_read}
-use borrow.Author.Rules.{rules}
 use Rattle.parser.proofs.next.entry_at.Goals as goal
-
-pub get_entry-entry-requires : goal.get_entry-entry-requires
-get_entry-entry-requires c = search rules
 
 pub stopped_at-requires : goal.stopped_at-requires
 stopped_at-requires c = stoppable _ _ c.requires.1 c.requires.0 c.get_entry-entry.ensures.answers
-
-pub shape_of-tree : goal.shape_of-tree
-shape_of-tree c = search rules
 
 pub returns : goal.returns
 returns c = entry_read _ _ c.requires.1 c.get_entry-entry.ensures c.stopped_at.ensures

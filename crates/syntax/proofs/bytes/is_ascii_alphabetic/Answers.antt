@@ -4,12 +4,6 @@ use mathlib.Core.Path.{sym, ◌∙◌}
 use Rattle.syntax.specs.Bytes.{is_upper, is_letter}
 use Rattle.syntax.proofs.bytes.is_ascii_alphabetic.Goals as goal
 
-pub is_ascii_uppercase-requires : goal.is_ascii_uppercase-requires
-is_ascii_uppercase-requires c = search rules
-
-pub is_between-requires : goal.is_between-requires
-is_between-requires c = search rules
-
 pub returns-then-is_ascii_uppercase : goal.returns-then-is_ascii_uppercase
 unfolding is_letter is_upper
 returns-then-is_ascii_uppercase c =

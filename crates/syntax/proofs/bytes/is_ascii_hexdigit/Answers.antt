@@ -4,15 +4,6 @@ use mathlib.Core.Path.{sym, ◌∙◌}
 use Rattle.syntax.specs.Bytes.{is_hex}
 use Rattle.syntax.proofs.bytes.is_ascii_hexdigit.Goals as goal
 
-pub is_ascii_digit-requires : goal.is_ascii_digit-requires
-is_ascii_digit-requires c = search rules
-
-pub is_between-requires : goal.is_between-requires
-is_between-requires c = search rules
-
-pub is_between-requires-else-is_between : goal.is_between-requires-else-is_between
-is_between-requires-else-is_between c = search rules
-
 pub returns-then-is_ascii_digit : goal.returns-then-is_ascii_digit
 unfolding is_hex
 returns-then-is_ascii_digit c = rw (sym c.is_ascii_digit.ensures ∙ c.if-is_ascii_digit.true) c.if-is_ascii_digit.true

@@ -3,9 +3,6 @@ use borrow.Author.Rules.{rules}
 use Rattle.syntax.specs.Bytes.{is_upper}
 use Rattle.syntax.proofs.bytes.is_ascii_uppercase.Goals as goal
 
-pub is_between-requires : goal.is_between-requires
-is_between-requires c = search rules
-
 pub returns : goal.returns
 unfolding is_upper
 returns c = c.is_between.ensures

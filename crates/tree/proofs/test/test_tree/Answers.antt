@@ -1,55 +1,34 @@
 -- `test::test_tree` meets its contract: each test refuses, or hands on.
-use borrow.Author.Rules.{rules}
 use borrow.Author.Tests.{not-true, not-false}
 use mathlib.Core.Path.{sym, ◌∙◌}
-use Rattle.laws.specs.Tests.{too_long, not-utf8, sizes-off, shape-off, all-well}
-use Rattle.tree.proofs.Tests.{well-formed, ill-formed, well-shaped, ill-shaped, refused, passed}
+use Rattle.std.proofs.lemmas.Result.{err_from_is_err_and}
+use Rattle.laws.specs.Tests.{refused, passed, refusal-of, none_of, source-first, source-passes, sizes-off, shape-off, all-well}
+use Rattle.tree.proofs.Tests.{well-shaped, ill-shaped}
 use Rattle.tree.proofs.test.test_tree.Goals as goal
 
-pub returns-then-length-gt-MAX_LENGTH : goal.returns-then-length-gt-MAX_LENGTH
-returns-then-length-gt-MAX_LENGTH c = refused (too_long _ _ c.if-length-gt-MAX_LENGTH.true)
-
-pub check-requires : goal.check-requires
-check-requires c = search rules
-
-pub enum_known-at : goal.enum_known-at
-enum_known-at c = search rules
-
-pub returns-in-IllFormed : goal.returns-in-IllFormed
-returns-in-IllFormed c =
-    refused (not-utf8 _ _ c.if-length-gt-MAX_LENGTH.false _ (ill-formed _ _ (sym c.in-IllFormed.is ∙ c.check.ensures)))
-
-pub enum_told-1 : goal.enum_told-1
-enum_told-1 c = search rules
-
-pub sizes_fit-requires : goal.sizes_fit-requires
-sizes_fit-requires c = search rules
+pub returns-in_err-test_source : goal.returns-in_err-test_source
+returns-in_err-test_source c =
+    let p = err_from_is_err_and c.from_residual.result c.from_residual.ensures.1 in
+    rw (p.1, p.2) (refused (source-first _ _ (refusal-of _ _ c.in_err-test_source.ensures.tested)))
 
 pub returns-then-not-sizes_fit : goal.returns-then-not-sizes_fit
 returns-then-not-sizes_fit c =
-    refused
-    (sizes-off _ _ c.if-length-gt-MAX_LENGTH.false (well-formed _ (sym c.in_default.is ∙ c.check.ensures))
-    (sym c.sizes_fit.ensures ∙ not-true _ c.if-not-sizes_fit.true-raw))
+    let s = source-passes _ (none_of _ c.in_ok-test_source.ensures.tested) in
+    refused (sizes-off _ _ s.0 s.1 (sym c.sizes_fit.ensures ∙ not-true _ c.if-not-sizes_fit.true-raw))
 
 pub check_shape-requires : goal.check_shape-requires
 check_shape-requires c = sym c.sizes_fit.ensures ∙ not-false _ c.if-not-sizes_fit.false-raw
 
-pub enum_known-mark : goal.enum_known-mark
-enum_known-mark c = search rules
-
-pub returns-in-IllFormed-check_shape : goal.returns-in-IllFormed-check_shape
-returns-in-IllFormed-check_shape c =
+pub returns-in-IllFormed : goal.returns-in-IllFormed
+returns-in-IllFormed c =
+    let s = source-passes _ (none_of _ c.in_ok-test_source.ensures.tested) in
     refused
-    (shape-off _ _ c.if-length-gt-MAX_LENGTH.false (well-formed _ (sym c.in_default.is ∙ c.check.ensures))
-    (sym c.sizes_fit.ensures ∙ not-false _ c.if-not-sizes_fit.false-raw) _
-    (ill-shaped _ _ (sym c.in-IllFormed-check_shape.is ∙ c.check_shape.ensures)))
-
-pub enum_told-in_default-check_shape : goal.enum_told-in_default-check_shape
-enum_told-in_default-check_shape c = search rules
+    (shape-off _ _ s.0 s.1 (sym c.sizes_fit.ensures ∙ not-false _ c.if-not-sizes_fit.false-raw) _
+    (ill-shaped _ _ (sym c.in-IllFormed.is ∙ c.check_shape.ensures)))
 
 pub returns : goal.returns
 returns c =
+    let s = source-passes _ (none_of _ c.in_ok-test_source.ensures.tested) in
     passed
-    (all-well _ _ c.if-length-gt-MAX_LENGTH.false (well-formed _ (sym c.in_default.is ∙ c.check.ensures))
-    (sym c.sizes_fit.ensures ∙ not-false _ c.if-not-sizes_fit.false-raw)
-    (well-shaped _ (sym c.in_default-check_shape.is ∙ c.check_shape.ensures)))
+    (all-well _ _ s.0 s.1 (sym c.sizes_fit.ensures ∙ not-false _ c.if-not-sizes_fit.false-raw)
+    (well-shaped _ (sym c.in_default.is ∙ c.check_shape.ensures)))
