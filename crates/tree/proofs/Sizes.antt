@@ -42,7 +42,7 @@ marks-drop (suc i) [] ps = refl
 marks-drop (suc i) (k ∷ ks) [] = sym (marks-none (drop i ks))
 marks-drop (suc i) (k ∷ ks) (p ∷ ps) = marks-drop i ks ps
 
-marks-at : (i : ℕ) (ks ps : List ℕ) → i < length ks → i < length ps
+pub marks-at : (i : ℕ) (ks ps : List ℕ) → i < length ks → i < length ps
     → drop i (marks_by ks ps) ≡ mark_of (get_or ks i 0) (get_or ps i 0) ∷ drop (suc i) (marks_by ks ps)
 unfolding marks_by
 marks-at i ks ps h l = rw (marks-drop i ks ps, marks-drop (suc i) ks ps, drop-cons ks i 0 h, drop-cons ps i 0 l)

@@ -3,7 +3,7 @@ ghost use Rattle.std.specs.Prelude.{◌≡◌};
 ghost use Rattle.syntax.specs.Tests.{refusal};
 ghost use Rattle.tree.specs.Test.{tested_of};
 
-use crate::check::{Shape, check_shape, sizes_fit};
+use crate::check::{check_shape, sizes_fit};
 use syntax::answer::Answer;
 use syntax::layout::NO_MARK;
 use syntax::limits::MAX_LENGTH;
@@ -30,7 +30,7 @@ pub fn test_tree(source: &[u8], tree: &[u32]) -> Tested
     if !sizes_fit(tree) {
         return Tested::Refused(Answer::IllFormed(NO_MARK));
     }
-    if let Shape::IllFormed(mark) = check_shape(source, tree) {
+    if let Err(mark) = check_shape(source, tree) {
         return Tested::Refused(Answer::IllFormed(mark as u64));
     }
     Tested::Passed

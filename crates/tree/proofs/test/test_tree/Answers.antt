@@ -37,12 +37,12 @@ check_shape-requires c = sym c.sizes_fit.ensures ∙ not-false _ c.if-not-sizes_
 pub enum_known-mark : goal.enum_known-mark
 enum_known-mark c = search rules
 
-pub returns-in-IllFormed-check_shape : goal.returns-in-IllFormed-check_shape
-returns-in-IllFormed-check_shape c =
+pub returns-in-Err : goal.returns-in-Err
+returns-in-Err c =
     refused
     (shape-off _ _ c.if-length-gt-MAX_LENGTH.false (well-formed _ (sym c.in_default.is ∙ c.check.ensures))
     (sym c.sizes_fit.ensures ∙ not-false _ c.if-not-sizes_fit.false-raw) _
-    (ill-shaped _ _ (sym c.in-IllFormed-check_shape.is ∙ c.check_shape.ensures)))
+    (ill-shaped _ _ (sym c.in-Err.is ∙ c.check_shape.ensures)))
 
 pub enum_told-in_default-check_shape : goal.enum_told-in_default-check_shape
 enum_told-in_default-check_shape c = search rules
