@@ -81,7 +81,7 @@ module _ (ws : List ℕ) (fit : Sizes ws) where
   pub mark-inside : (i : ℕ) (m : Mark) (rest : List Mark) → drop i (marks_in ws) ≡ m ∷ rest → i < count ws
   mark-inside i m rest e =
       by_case (ltb i (count ws)) (λ q. ltb-true i (count ws) q)
-      (λ q. let z : ◌≡◌ {A = ℕ} 0 1 = cc (no-mark i (ltb-false i (count ws) q)) in absurd (omega arith))
+      (λ q. cc (no-mark i (ltb-false i (count ws) q)))
 
   pub mark-next : (i : ℕ) (m : Mark) (rest : List Mark) → drop i (marks_in ws) ≡ m ∷ rest → drop (i + 1) (marks_in ws) ≡ rest
   mark-next i m rest e = rw add-one (cc (next-mark i (mark-inside i m rest e)))

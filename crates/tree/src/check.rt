@@ -40,6 +40,7 @@ struct Open {
 }
 
 // Where the check stands: between two children of the innermost open node, or within a T child of a kind that starts at a place.
+// It goes from step to step by value: beside the stack's array it made the check take 1.5 times as long.
 #[derive(Clone, Copy)]
 enum State {
     Between(Open),
@@ -57,14 +58,16 @@ pub fn sizes_fit(tree: &[u32]) -> bool
     capacity <= MAX_CAPACITY && count as usize <= capacity && SIZES + 2 * capacity <= tree.len()
 }
 
-// Whether a list may end here.
-fn may_be_last(s: State) -> bool
-    requires known { Known s }
-    ensures { (frames : List Frame) → result ≡ may_end (state_of frames s) }
-{
-    match s {
-        State::Between(o) => o.depth == 0 && may_end(o.kind, o.state),
-        State::Within(_, _, _) => false,
+impl State {
+    // Whether a list may end here.
+    fn may_be_last(self) -> bool
+        requires known { Known self }
+        ensures { (frames : List Frame) → result ≡ may_end (state_of frames self) }
+    {
+        match self {
+            State::Between(o) => o.depth == 0 && may_end(o.kind, o.state),
+            State::Within(_, _, _) => false,
+        }
     }
 }
 
@@ -207,7 +210,7 @@ pub fn check_shape(source: &[u8], tree: &[u32]) -> Result<(), usize>
     for (i, (&kind, &place)) in kinds.iter().zip(places).enumerate() {
         state = checker.step_mark(state, kind, place).ok_or(i)?;
     }
-    if may_be_last(state) {
+    if state.may_be_last() {
         Ok(())
     } else {
         Err(count)

@@ -18,6 +18,7 @@ type Models = [[u8; STATES * ROW]; KINDS];
 // For each kind, and for each of the states that its children lead through, a byte for each kind of a child: '-' if no such child
 // may follow, else the state that it leads to, as a digit for a T child and as a letter from 'a' on for another. The last byte
 // is '+' if a node of the kind may end in the state. The rows of a kind are one array: each more makes the proof longer.
+// A match over kind, state and child would be plainer, and took the check 1.2 times as long; cells of a type would hide the rows.
 static MODELS: Models = [
     // the list: 1 to 7, each 6 right before a 1 or 2
     *b"\

@@ -1,9 +1,9 @@
--- `check::may_be_last` meets its contract.
+-- `check::State::may_be_last` meets its contract.
 use borrow.Author.Tests.{ne_eqb}
 use Rattle.syntax.specs.Shape.{may_end}
 use Rattle.tree.specs.Shape.{frames_in, state_of}
 use Rattle.tree.proofs.Stack.{frames-pop}
-use Rattle.tree.proofs.check.may_be_last.Goals as goal
+use Rattle.tree.proofs.check.State.may_be_last.Goals as goal
 
 pub returns-then-o-eq0 : goal.returns-then-o-eq0
 unfolding may_end state_of frames_in
