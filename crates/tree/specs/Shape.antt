@@ -10,7 +10,7 @@ use Rattle.syntax.specs.Shape as Definition
 use Rattle.laws.specs.Shape.Check.{Around}
 use Rattle.laws.specs.Shape.Bound.{Small}
 use Rattle.tree.specs.Models.{parent}
-use Rattle.tree.specs.declared.check.Frame.{Frame}
+use Rattle.tree.specs.declared.models.Node.{Node}
 use Rattle.tree.specs.declared.check.Open.{Open}
 use Rattle.tree.specs.declared.check.State.{State}
 use Rattle.tree.specs.declared.check.State.TheVariants.{Between, Within}
@@ -20,23 +20,23 @@ unfoldable pub shape_of : Option ℕ → Result ⊤ ℕ
 shape_of none = Ok tt
 shape_of (some v) = Err v
 
-abbrev pub frame_of : Frame → Definition.Frame
+abbrev pub frame_of : Node → Definition.Frame
 frame_of f = Definition.frame (parent f.kind) f.state
 
-abbrev pub unused : Frame
+abbrev pub unused : Node
 unused = record { kind = None; state = 0 }
 
 -- the frames around a node at a depth, innermost first: the last on the stack is the innermost
-unfoldable pub frames_in : List Frame → (depth : ℕ) → List Definition.Frame
+unfoldable pub frames_in : List Node → (depth : ℕ) → List Definition.Frame
 frames_in fs zero = []
 frames_in fs (suc d) = frame_of (get_or fs d unused) ∷ frames_in fs d
 
 -- the definition's state
-unfoldable pub state_of : List Frame → State → Definition.State
-state_of fs (Between o) = between o.left (parent o.kind) o.state (frames_in fs o.depth)
-state_of fs (Within j a o) = within (Kind.number_of j) a o.left (parent o.kind) o.state (frames_in fs o.depth)
+unfoldable pub state_of : List Node → State → Definition.State
+state_of fs (Between o) = between o.left (parent o.node.kind) o.node.state (frames_in fs o.depth)
+state_of fs (Within j a o) = within (Kind.number_of j) a o.left (parent o.node.kind) o.node.state (frames_in fs o.depth)
 
-unfoldable pub outcome : List Frame → Rust.Option State → Option Definition.State
+unfoldable pub outcome : List Node → Rust.Option State → Option Definition.State
 outcome fs (Some s) = some (state_of fs s)
 outcome fs None = none
 
@@ -46,16 +46,16 @@ pub record Sits (left k q depth : ℕ) : Type 0 where
   pub list : k ≡ top → depth ≡ 0
 
 -- the open nodes are such
-pub record Fits (fs : List Frame) (o : Open) : Type 0 where
-  pub inner : Sits o.left (parent o.kind) o.state o.depth
-  pub around : Around Sits o.left (parent o.kind) (frames_in fs o.depth)
+pub record Fits (fs : List Node) (o : Open) : Type 0 where
+  pub inner : Sits o.left (parent o.node.kind) o.node.state o.depth
+  pub around : Around Sits o.left (parent o.node.kind) (frames_in fs o.depth)
 
 -- What holds of every state that the check reaches: its open nodes fit, and a T child is of a T kind and starts on a boundary.
-abbrev pub Reached : (boundary : ℕ → Bool) → List Frame → State → Type 0
+abbrev pub Reached : (boundary : ℕ → Bool) → List Node → State → Type 0
 Reached boundary fs (Between o) = Fits fs o
 Reached boundary fs (Within j a o) = (Kind.is_text (Kind.number_of j) ≡ true) × ((boundary a ≡ true) × Fits fs o)
 
 -- the part of it that needs no stack
 abbrev pub Known : State → Type 0
-Known (Between o) = Sits o.left (parent o.kind) o.state o.depth
+Known (Between o) = Sits o.left (parent o.node.kind) o.node.state o.depth
 Known (Within j a o) = Unit {0}

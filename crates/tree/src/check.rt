@@ -10,7 +10,7 @@ ghost use Rattle.syntax.specs.Shape.{step, enter, step_mark, may_end, verdict};
 ghost use Rattle.tree.specs.Models.{parent};
 ghost use Rattle.tree.specs.Shape.{shape_of, frames_in, state_of, outcome, Fits, Reached, Known};
 
-use crate::models::{Next, may_end, needs, opens, step};
+use crate::models::{Next, Node, needs, opens};
 use syntax::kind::Kind;
 use syntax::layout::{MARKS_A_BYTE, SIZES};
 use syntax::limits;
@@ -23,18 +23,10 @@ const MAX_OPEN: u8 = limits::MAX_OPEN as u8;
 
 const MOST_FRAMES: usize = 4 * limits::MAX_OPEN + 3;
 
-// An open node: its kind, none for the list, and the state that its children have led to.
-#[derive(Clone, Copy)]
-struct Frame {
-    kind: Option<Kind>,
-    state: u8,
-}
-
 // The innermost open node, how many more openings may follow, and how many nodes are open around it.
 #[derive(Clone, Copy)]
 struct Open {
-    kind: Option<Kind>,
-    state: u8,
+    node: Node,
     left: u8,
     depth: usize,
 }
@@ -62,10 +54,10 @@ impl State {
     // Whether a list may end here.
     fn may_be_last(self) -> bool
         requires known { Known self }
-        ensures { (frames : List Frame) → result ≡ may_end (state_of frames self) }
+        ensures { (frames : List Node) → result ≡ may_end (state_of frames self) }
     {
         match self {
-            State::Between(o) => o.depth == 0 && may_end(o.kind, o.state),
+            State::Between(o) => o.depth == 0 && o.node.may_end(),
             State::Within(_, _, _) => false,
         }
     }
@@ -76,7 +68,7 @@ impl State {
 struct Checker<'a> {
     source: &'a [u8],
     // The nodes around the innermost open one, from the outermost on.
-    frames: [Frame; MOST_FRAMES],
+    frames: [Node; MOST_FRAMES],
 }
 
 // A step leads on to a state, or to none where no well-formed list goes on with the mark.
@@ -85,21 +77,23 @@ impl Checker<'_> {
     fn enter(&mut self, o: Open, child: Kind, next: u8) -> Option<State>
         requires fits { Fits self.old.frames o }
         requires child_kind { is_text (number_of child) ≡ false }
-        requires child_step { step (parent o.kind) o.state (number_of child) ≡ some next }
+        requires child_step { step (parent o.node.kind) o.node.state (number_of child) ≡ some next }
         ensures goes { outcome self.new.frames result
-            ≡ enter o.left (parent o.kind) o.state (frames_in self.old.frames o.depth) (number_of child) }
+            ≡ enter o.left (parent o.node.kind) o.node.state (frames_in self.old.frames o.depth) (number_of child) }
         ensures source { self.new.source ≡ self.old.source }
     {
         if o.left < needs(child) {
             return None;
         }
-        self.frames[o.depth] = Frame {
-            kind: o.kind,
+        self.frames[o.depth] = Node {
             state: next,
+            ..o.node
         };
         Some(State::Between(Open {
-            kind: Some(child),
-            state: 0,
+            node: Node {
+                kind: Some(child),
+                state: 0,
+            },
             left: o.left - opens(child),
             depth: o.depth + 1,
         }))
@@ -113,15 +107,13 @@ impl Checker<'_> {
             → outcome self.now.frames result
             ≡ step_mark boundary (state_of self.now.frames (State.Between o)) (mark_of kind place) }
     {
-        let closed = o.kind?;
-        if kind != closed.closing() || place != 0 || !may_end(o.kind, o.state) {
+        let closed = o.node.kind?;
+        if kind != closed.closing() || place != 0 || !o.node.may_end() {
             return None;
         }
         let outer = o.depth.checked_sub(1)?;
-        let Frame { kind, state } = self.frames[outer];
         Some(State::Between(Open {
-            kind,
-            state,
+            node: self.frames[outer],
             left: o.left + opens(closed),
             depth: outer,
         }))
@@ -130,14 +122,18 @@ impl Checker<'_> {
     // Starts a T child, which leads the node that is open to the state `next`.
     fn start(&self, o: Open, child: Kind, next: u8, place: u32) -> Option<State>
         requires child_kind { is_text (number_of child) ≡ true }
-        requires child_step { step (parent o.kind) o.state (number_of child) ≡ some next }
+        requires child_step { step (parent o.node.kind) o.node.state (number_of child) ≡ some next }
         ensures { outcome self.now.frames result
             ≡ step_mark (is_boundary self.now.source.now) (state_of self.now.frames (State.Between o)) (mark_of (number_of child) place) }
     {
+        let node = Node {
+            state: next,
+            ..o.node
+        };
         utf8::is_boundary(self.source, place as usize).then_some(State::Within(
             child,
             place,
-            Open { state: next, ..o },
+            Open { node, ..o },
         ))
     }
 
@@ -163,7 +159,7 @@ impl Checker<'_> {
         let Ok(child) = Kind::try_from(kind) else {
             return self.leave(o, kind, place);
         };
-        match step(o.kind, o.state, child)? {
+        match o.node.step(child)? {
             Next::Text(next) => self.start(o, child, next, place),
             Next::Node(next) if place == 0 => self.enter(o, child, next),
             Next::Node(_) => None,
@@ -190,16 +186,16 @@ pub fn check_shape(source: &[u8], tree: &[u32]) -> Result<(), usize>
     requires { sizes_fit tree.now ≡ true }
     ensures { result ≡ shape_of (verdict (is_boundary source.now) max_open (marks_in tree.now)) }
 {
-    let mut checker = Checker {
-        source,
-        frames: [Frame {
-            kind: None,
-            state: 0,
-        }; MOST_FRAMES],
-    };
-    let mut state = State::Between(Open {
+    let list = Node {
         kind: None,
         state: 0,
+    };
+    let mut checker = Checker {
+        source,
+        frames: [list; MOST_FRAMES],
+    };
+    let mut state = State::Between(Open {
+        node: list,
         left: MAX_OPEN,
         depth: 0,
     });

@@ -189,34 +189,43 @@ fn models() -> &'static Models
     &MODELS
 }
 
-// The place of a kind's model in the table.
-fn index(kind: Option<Kind>) -> usize
-    ensures { result ≡ parent kind }
-{
-    kind.map_or(0, |kind| kind.number() as usize)
+// A node that is open: its kind, none for the list, and the state that its children have led to.
+#[derive(Clone, Copy)]
+pub struct Node {
+    pub kind: Option<Kind>,
+    pub state: u8,
 }
 
-// Where a child leads in the state of the kind, if such a child may follow. The list has no kind.
-pub fn step(kind: Option<Kind>, state: u8, child: Kind) -> Option<Next>
-    requires { state ≤ 3 }
-    ensures { result ≡ next_of (is_text (number_of child)) (step (parent kind) state (number_of child)) }
-{
-    let next = models()[index(kind)][ROW * state as usize + child.number() as usize];
-    if next == b'-' {
-        None
-    } else if next < b'a' {
-        Some(Next::Text(next - b'0'))
-    } else {
-        Some(Next::Node(next - b'a'))
+impl Node {
+    // The place of the kind's model in the table.
+    fn index(self) -> usize
+        ensures { result ≡ parent self.kind }
+    {
+        self.kind.map_or(0, |kind| kind.number() as usize)
     }
-}
 
-// Whether a node of the kind may end in the state.
-pub fn may_end(kind: Option<Kind>, state: u8) -> bool
-    requires { state ≤ 3 }
-    ensures { result ≡ final (parent kind) state }
-{
-    models()[index(kind)][ROW * state as usize + KINDS] == b'+'
+    // Where a child leads, if such a child may follow.
+    pub fn step(self, child: Kind) -> Option<Next>
+        requires { self.state ≤ 3 }
+        ensures { result ≡ next_of (is_text (number_of child)) (step (parent self.kind) self.state (number_of child)) }
+    {
+        let next = models()[self.index()][ROW * self.state as usize + child.number() as usize];
+        if next == b'-' {
+            None
+        } else if next < b'a' {
+            Some(Next::Text(next - b'0'))
+        } else {
+            Some(Next::Node(next - b'a'))
+        }
+    }
+
+    // Whether the node may end here.
+    pub fn may_end(self) -> bool
+        requires { self.state ≤ 3 }
+        ensures { result ≡ final (parent self.kind) self.state }
+    {
+        models()[self.index()][ROW * self.state as usize + KINDS] == b'+'
+    }
 }
 
 // The openings of '{' and '(' that a node of the kind makes: a placeable and arguments.
