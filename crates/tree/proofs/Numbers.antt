@@ -56,7 +56,12 @@ module _ (j : ℕ) (other : (k : Kind) → number_of k ≡ j → ⊥) where
     where
       kinds : List Kind
       kinds =
-          Kinds.Message ∷ Kinds.Term ∷ Kinds.Comment ∷ Kinds.GroupComment ∷ Kinds.ResourceComment ∷ Kinds.AttachedComment ∷ Kinds.Junk ∷ Kinds.CommentLine ∷ Kinds.Identifier ∷ Kinds.Attribute ∷ Kinds.Pattern ∷ Kinds.Text ∷ Kinds.Placeable ∷ Kinds.Select ∷ Kinds.Variant ∷ Kinds.DefaultVariant ∷ Kinds.NumberKey ∷ Kinds.IdentifierKey ∷ Kinds.StringLiteral ∷ Kinds.NumberLiteral ∷ Kinds.VariableReference ∷ Kinds.FunctionReference ∷ Kinds.MessageReference ∷ Kinds.TermReference ∷ Kinds.Arguments ∷ Kinds.NamedArgument ∷ []
+          Kinds.Message ∷ Kinds.Term ∷ Kinds.Comment ∷ Kinds.GroupComment ∷ Kinds.ResourceComment
+          ∷ Kinds.AttachedComment ∷ Kinds.Junk ∷ Kinds.CommentLine ∷ Kinds.Identifier ∷ Kinds.Attribute
+          ∷ Kinds.Pattern ∷ Kinds.Text ∷ Kinds.Placeable ∷ Kinds.Select ∷ Kinds.Variant ∷ Kinds.DefaultVariant
+          ∷ Kinds.NumberKey ∷ Kinds.IdentifierKey ∷ Kinds.StringLiteral ∷ Kinds.NumberLiteral
+          ∷ Kinds.VariableReference ∷ Kinds.FunctionReference ∷ Kinds.MessageReference ∷ Kinds.TermReference
+          ∷ Kinds.Arguments ∷ Kinds.NamedArgument ∷ []
 
       go : (o : Option ℕ) → step k q j ≡ o → step k q j ≡ none
       go none e = e

@@ -71,7 +71,9 @@ module _ (ws : List ℕ) (fit : Sizes ws) where
   module _ (s : Sides) (b : Begun ws s) (xs : List Item) (t u : Sides) (y : Yields steps s xs t) where
     road : YieldsList steps (λ p. (p.0, (p.1.0.now, p.1.1.now))) s (enumerate_from 0 sides)
     road =
-        YieldsList-from_enumerate (YieldsList-from_zip (YieldsList-from_slice (kinds ws) b.first) (YieldsList-from_slice (places ws) b.second))
+        YieldsList-from_enumerate
+        (YieldsList-from_zip (YieldsList-from_slice (kinds ws) b.first)
+        (YieldsList-from_slice (places ws) b.second))
         b.zeroth
 
     pub turn-made : (r : Option Item) (x : Item) → r ≡ Some x → steps t r u → Turn ws (length xs) x.0 x.1.0.now x.1.1.now

@@ -54,20 +54,30 @@ loop-i-init c = record { stands = stands-first _ _; source = refl }
 pub returns-in_err-state : goal.returns-in_err-state
 unfolding kinds places count capacity
 returns-in_err-state c =
-    let t = turn-made _ (sizes _ c.requires) _ (begun (goal.at.returns-in_err-state c).After-into_iter-i-iterator) _ _ c.next.new.self c.loop-i.yielded_by _ _ c.in-Some.is c.next.ensures.steps in
+    let t =
+    turn-made _ (sizes _ c.requires) _
+    (begun
+    (goal.at.returns-in_err-state c).After-into_iter-i-iterator) _ _ c.next.new.self c.loop-i.yielded_by _ _
+    c.in-Some.is c.next.ensures.steps in
     let p = err_from_is_err_and c.from_residual.result c.from_residual.ensures.1 in
     rw (p.1, p.2)
-    (stands-refused _ _ (sizes _ c.requires) _ _ _ c.loop-i.invariant.stands t _ _ _ (rw c.loop-i.invariant.source at c.step_mark.ensures.goes)
+    (stands-refused _ _ (sizes _ c.requires) _ _ _ c.loop-i.invariant.stands t _ _ _
+    (rw c.loop-i.invariant.source at c.step_mark.ensures.goes)
     (sym c.in_err-state.was ∙ c.ok_or.ensures.value))
 
 pub loop-i-preserved : goal.loop-i-preserved
 unfolding kinds places count capacity
 loop-i-preserved c =
-    let t = turn-made _ (sizes _ c.requires) _ (begun (goal.at.loop-i-preserved c).After-into_iter-i-iterator) _ _ c.next.new.self c.loop-i.yielded_by _ _ c.in-Some.is c.next.ensures.steps in
+    let t =
+    turn-made _ (sizes _ c.requires) _
+    (begun
+    (goal.at.loop-i-preserved c).After-into_iter-i-iterator) _ _ c.next.new.self c.loop-i.yielded_by _ _
+    c.in-Some.is c.next.ensures.steps in
     record {
       stands =
           rw (length_push c.loop-i.yielded _)
-          (stands-on _ _ (sizes _ c.requires) _ _ _ c.loop-i.invariant.stands t _ _ _ (rw c.loop-i.invariant.source at c.step_mark.ensures.goes)
+          (stands-on _ _ (sizes _ c.requires) _ _ _ c.loop-i.invariant.stands t _ _ _
+          (rw c.loop-i.invariant.source at c.step_mark.ensures.goes)
           (sym c.in_ok-state.was ∙ c.ok_or.ensures.value));
       source = ap (λ b. b.now) c.step_mark.ensures.source ∙ c.loop-i.invariant.source;
     }
@@ -75,11 +85,19 @@ loop-i-preserved c =
 pub returns-then-may_be_last : goal.returns-then-may_be_last
 unfolding kinds places count capacity
 returns-then-may_be_last c =
-    let n = turns-over _ (sizes _ c.requires) _ (begun (goal.at.returns-then-may_be_last c).After-into_iter-i-iterator) _ _ c.next.new.self c.loop-i.yielded_by _ c.in-None.is c.next.ensures.steps in
+    let n =
+    turns-over _ (sizes _ c.requires) _
+    (begun
+    (goal.at.returns-then-may_be_last c).After-into_iter-i-iterator) _ _ c.next.new.self c.loop-i.yielded_by _
+    c.in-None.is c.next.ensures.steps in
     stands-whole _ _ (sizes _ c.requires) _ _ _ c.loop-i.invariant.stands n (c.if-may_be_last.ensures _)
 
 pub returns-else-may_be_last : goal.returns-else-may_be_last
 unfolding kinds places count capacity
 returns-else-may_be_last c =
-    let n = turns-over _ (sizes _ c.requires) _ (begun (goal.at.returns-else-may_be_last c).After-into_iter-i-iterator) _ _ c.next.new.self c.loop-i.yielded_by _ c.in-None.is c.next.ensures.steps in
+    let n =
+    turns-over _ (sizes _ c.requires) _
+    (begun
+    (goal.at.returns-else-may_be_last c).After-into_iter-i-iterator) _ _ c.next.new.self c.loop-i.yielded_by _
+    c.in-None.is c.next.ensures.steps in
     stands-early _ _ (sizes _ c.requires) _ _ _ c.loop-i.invariant.stands n (c.if-may_be_last.ensures _)

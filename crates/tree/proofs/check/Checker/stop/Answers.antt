@@ -5,7 +5,8 @@ use Rattle.laws.specs.Bytes.{by_case}
 use Rattle.tree.specs.Shape.{state_of, outcome}
 use Rattle.tree.proofs.Steps.{stopped, stopped-by-other, stopped-before, stopped-inside}
 use Rattle.tree.proofs.check.Checker.stop.Goals as goal
-use Rattle.tree.proofs.check.Checker.stop.Goals.{then-kind-closing-via-then-kind-closing, then-kind-closing-via-else-kind-closing+then-end-start}
+use Rattle.tree.proofs.check.Checker.stop.Goals.{then-kind-closing-via-then-kind-closing}
+use Rattle.tree.proofs.check.Checker.stop.Goals.{then-kind-closing-via-else-kind-closing+then-end-start}
 
 pub returns-then-kind-closing : goal.returns-then-kind-closing
 unfolding outcome state_of
