@@ -89,34 +89,29 @@ module _ (t : Table) (e : right_table t ≡ true) where
       }
 
 -- what the byte x of a child says: the states that the models lead to are at most 3
-
-pub next_small : (k q j r : ℕ) → step k q j ≡ some r → r ≤ 3
+next_small : (k q j r : ℕ) → step k q j ≡ some r → r ≤ 3
 unfolding models
 next_small k q j r s = leb-true _ _ (rule (λ k q j r. leb r 3) refl k q j r s)
 
-module _ (text : Bool) (x : ℕ) where
-  reads_nothing : (o : Option ℕ) → x ≡ byte_of text o → x ≡ 45 → None ≡ next_of text o
-  unfolding next_of byte_of
-  reads_nothing none e h = refl
-  reads_nothing (some r) e h =
-      by_case text (λ t. absurd (omega (arith, rw (t, byte_of) at e))) (λ t. absurd (omega (arith, rw (t, byte_of) at e)))
+reads-none : (text : Bool) (o : Option ℕ) (x : ℕ) → x ≡ byte_of text o → x ≡ 45 → None ≡ next_of text o
+unfolding next_of byte_of
+reads-none text none x e h = refl
+reads-none true (some r) x e h = absurd (omega arith)
+reads-none false (some r) x e h = absurd (omega arith)
 
-  reads-text : (o : Option ℕ) → ((r : ℕ) → o ≡ some r → r ≤ 3) → x ≡ byte_of text o → (x ≡ 45 → ⊥) → x < 97 → (48 ≤ x)
-      × (Some (Text (x - 48)) ≡ next_of text o)
-  unfolding next_of byte_of
-  reads-text none s e h l = absurd (h e)
-  reads-text (some r) s e h l =
-      by_case text
-      (λ t. let d : x ≡ 48 + r = rw (t, byte_of) at e in let z : x - 48 ≡ r = omega arith in rw (t, z, next_of) (omega arith, refl))
-      (λ t. absurd (omega (arith, rw (t, byte_of) at e)))
+reads-text : (text : Bool) (o : Option ℕ) (x : ℕ) → x ≡ byte_of text o → (x ≡ 45 → ⊥) → x < 97
+    → (48 ≤ x) × (Some (Text (x - 48)) ≡ next_of text o)
+unfolding next_of byte_of
+reads-text text none x e h l = absurd (h e)
+reads-text true (some r) x e h l = let z : x - 48 ≡ r = omega arith in rw z (omega arith, refl)
+reads-text false (some r) x e h l = absurd (omega arith)
 
-  reads-node : (o : Option ℕ) → ((r : ℕ) → o ≡ some r → r ≤ 3) → x ≡ byte_of text o → 97 ≤ x → Some (Node (x - 97)) ≡ next_of text o
-  unfolding next_of byte_of
-  reads-node none s e l = absurd (omega arith)
-  reads-node (some r) s e l =
-      by_case text
-      (λ t. absurd (omega (arith, rw (t, byte_of) at e, s r refl)))
-      (λ t. let d : x ≡ 97 + r = rw (t, byte_of) at e in let z : x - 97 ≡ r = omega arith in rw (t, z, next_of))
+reads-node : (text : Bool) (o : Option ℕ) (x : ℕ) → ((r : ℕ) → o ≡ some r → r ≤ 3) → x ≡ byte_of text o → 97 ≤ x
+    → Some (Node (x - 97)) ≡ next_of text o
+unfolding next_of byte_of
+reads-node text none x s e l = absurd (omega arith)
+reads-node true (some r) x s e l = absurd (omega (arith, s r refl))
+reads-node false (some r) x s e l = let z : x - 97 ≡ r = omega arith in rw z
 
 -- the byte at i and j, the numbers of a parent and its child
 module _ (t : Table) (w : Right t) {i q j : ℕ} (kind : Rust.Option Kind) (child : Kind) (b : q ≤ 3)
@@ -130,18 +125,15 @@ module _ (t : Table) (w : Right t) {i q j : ℕ} (kind : Rust.Option Kind) (chil
   byte : entry t i q j ≡ byte_of text next
   byte = rw (x, y) (w.next (parent kind) q (Kind.number_of child) (parent_small kind) b (number_small child))
 
-  small : (r : ℕ) → next ≡ some r → r ≤ 3
-  small = next_small (parent kind) q (Kind.number_of child)
-
   pub step-none : entry t i q j ≡ 45 → None ≡ next_of text next
-  step-none h = reads_nothing text (entry t i q j) next byte h
+  step-none h = reads-none text next (entry t i q j) byte h
 
   pub step-text : (entry t i q j ≡ 45 → ⊥) → entry t i q j < 97 → (48 ≤ entry t i q j)
       × (Some (Text (entry t i q j - 48)) ≡ next_of text next)
-  step-text h l = reads-text text (entry t i q j) next small byte h l
+  step-text h l = reads-text text next (entry t i q j) byte h l
 
   pub step-node : 97 ≤ entry t i q j → Some (Node (entry t i q j - 97)) ≡ next_of text next
-  step-node l = reads-node text (entry t i q j) next small byte l
+  step-node l = reads-node text next (entry t i q j) (next_small (parent kind) q (Kind.number_of child)) byte l
 
 pub end_read : (t : Table) → Right t → (k q : ℕ) → k ≤ Kind.named_argument → q ≤ 3 → eqb (entry t k q 27) 43 ≡ final k q
 unfolding end_byte
