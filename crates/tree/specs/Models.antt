@@ -13,7 +13,7 @@ abbrev pub parent : Rust.Option Kind → ℕ
 parent None = top
 parent (Some k) = Kind.number_of k
 
--- the answer of the function `step` on a child that is a T kind or not
+-- the answer of the method `step` on a child that is a T kind or not
 unfoldable pub next_of : (text : Bool) → Option ℕ → Rust.Option Next
 next_of text none = None
 next_of true (some r) = Some (Text r)

@@ -20,9 +20,11 @@ unfoldable pub shape_of : Option ℕ → Result ⊤ ℕ
 shape_of none = Ok tt
 shape_of (some v) = Err v
 
+-- an open node as the definition has it
 abbrev pub frame_of : Node → Definition.Frame
 frame_of f = Definition.frame (parent f.kind) f.state
 
+-- what stands on the stack where no node has been put
 abbrev pub unused : Node
 unused = record { kind = None; state = 0 }
 
@@ -36,6 +38,7 @@ unfoldable pub state_of : List Node → State → Definition.State
 state_of fs (Between o) = between o.left (parent o.node.kind) o.node.state (frames_in fs o.depth)
 state_of fs (Within j a o) = within (Kind.number_of j) a o.left (parent o.node.kind) o.node.state (frames_in fs o.depth)
 
+-- what the definition answers where a step answers a state, or none
 unfoldable pub outcome : List Node → Rust.Option State → Option Definition.State
 outcome fs (Some s) = some (state_of fs s)
 outcome fs None = none
@@ -45,7 +48,7 @@ pub record Sits (left k q depth : ℕ) : Type 0 where
   pub small : Small max_open left k q depth
   pub list : k ≡ top → depth ≡ 0
 
--- the open nodes are such
+-- the open nodes are such, the innermost and each around it as it stood there
 pub record Fits (fs : List Node) (o : Open) : Type 0 where
   pub inner : Sits o.left (parent o.node.kind) o.node.state o.depth
   pub around : Around Sits o.left (parent o.node.kind) (frames_in fs o.depth)
