@@ -66,7 +66,7 @@ module _ {boundary : ℕ → Bool} {ms : List Mark} {i : ℕ} where
     where
       go : {left t : ℕ} {cs : List Mark} → drop i ms ≡ cs → Run boundary left top h.state t cs → final top t ≡ true
           → TopNext boundary ms i
-      go z stay f = let no : ◌≡◌ {A = ℕ} 0 1 = cc in absurd (omega arith)
+      go z stay f = cc
       go z (text {t = t} j a b x s p y l rest) f =
           entry-from h.state z (Spec.text a b x p y l) s (record { to = t; run = rest; ended = f })
       go z (nest {inside = left} {s = u} {t = t} x s o inner g rest) f =

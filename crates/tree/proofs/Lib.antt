@@ -1,4 +1,5 @@
 -- What the proofs of the functions share, and what callers cite of trees.
+pub mod Numbers
 pub mod Table
 pub mod Steps
 pub mod Stack
@@ -10,5 +11,6 @@ pub mod Contents
 pub mod References
 pub mod Messages
 pub mod Entries
+pub mod Turns
 pub mod Stands
 pub mod Tests

@@ -42,7 +42,7 @@ marks-drop (suc i) [] ps = refl
 marks-drop (suc i) (k ∷ ks) [] = sym (marks-none (drop i ks))
 marks-drop (suc i) (k ∷ ks) (p ∷ ps) = marks-drop i ks ps
 
-marks-at : (i : ℕ) (ks ps : List ℕ) → i < length ks → i < length ps
+pub marks-at : (i : ℕ) (ks ps : List ℕ) → i < length ks → i < length ps
     → drop i (marks_by ks ps) ≡ mark_of (get_or ks i 0) (get_or ps i 0) ∷ drop (suc i) (marks_by ks ps)
 unfolding marks_by
 marks-at i ks ps h l = rw (marks-drop i ks ps, marks-drop (suc i) ks ps, drop-cons ks i 0 h, drop-cons ps i 0 l)
@@ -81,7 +81,7 @@ module _ (ws : List ℕ) (fit : Sizes ws) where
   pub mark-inside : (i : ℕ) (m : Mark) (rest : List Mark) → drop i (marks_in ws) ≡ m ∷ rest → i < count ws
   mark-inside i m rest e =
       by_case (ltb i (count ws)) (λ q. ltb-true i (count ws) q)
-      (λ q. let z : ◌≡◌ {A = ℕ} 0 1 = cc (no-mark i (ltb-false i (count ws) q)) in absurd (omega arith))
+      (λ q. cc (no-mark i (ltb-false i (count ws) q)))
 
   pub mark-next : (i : ℕ) (m : Mark) (rest : List Mark) → drop i (marks_in ws) ≡ m ∷ rest → drop (i + 1) (marks_in ws) ≡ rest
   mark-next i m rest e = rw add-one (cc (next-mark i (mark-inside i m rest e)))

@@ -1,89 +1,79 @@
 -- The loop over the marks: what holds from turn to turn.
-use Prim.Native.Nat.{ℕ, ◌+◌, ◌≤◌, ◌<◌}
+use Prim.Native.Nat.{ℕ, ◌+◌, ◌≤◌}
 use native.Mathlib.Numerals.{add-one}
 use native.Mathlib.Omega.{arith}
 use mathlib.Core.Path.{◌≡◌, refl, sym, ◌∙◌}
 use mathlib.Core.Bool.{true, false}
 use mathlib.Core.List.{List, []}
-use mathlib.Core.Option.{Option, some, none}
-use lib.ListN.{length, get_or, drop, replicate}
+use lib.ListN.{drop, replicate}
 use Rattle.utf8.specs.Utf8.{is_boundary}
-use Rattle.syntax.specs.Marks.{Mark}
-use Rattle.syntax.specs.Layout.{count, capacity, mark_of, marks_in}
+use Rattle.syntax.specs.Layout.{count, mark_of, marks_in}
 use Rattle.syntax.specs.Limits.{max_open}
 use Rattle.syntax.specs.Shape.{between, step_mark, may_end, judge, verdict}
-use Rattle.syntax.specs.Shape as Definition
 use Rattle.laws.specs.Shape.Check.{Holds, holds-between}
-use Rattle.laws.specs.Shape.Bound.{most_frames, Small, small-initial}
+use Rattle.laws.specs.Shape.Bound.{Small, small-initial}
+use Rattle.tree.specs.declared.models.Node.{Node}
 use Rattle.tree.specs.declared.check.State.{State}
 use Rattle.tree.specs.declared.check.State.TheVariants.{Between, Within}
-use Rattle.tree.specs.declared.check.Shape.TheVariants.{WellFormed, IllFormed}
-use Rattle.tree.specs.Shape.{shape_of, frames_in, state_of, Fits, Reached, Known}
-use Rattle.tree.proofs.Sizes.{Sizes, next-mark, no-mark}
+use Rattle.std.specs.Prelude.{Some, None, Ok, Err}
+use Rattle.std.specs.Option.{ok_or}
+use Rattle.std.specs.declared.option.Option as Rust
+use Rattle.tree.specs.Shape.{shape_of, unused, frames_in, state_of, outcome, Fits, Reached, Known}
+use Rattle.tree.proofs.Sizes.{Sizes, no-mark}
+use Rattle.tree.proofs.Turns.{Turn}
 use Rattle.tree.proofs.Stack.{reached-step}
 
 -- after i marks: the check goes on from the code's state to the verdict
-pub record Stands (source tree : List ℕ) (ks qs : List ℕ) (s : State) (i : ℕ) : Type 0 where
+pub record Stands (source tree : List ℕ) (fs : List Node) (s : State) (i : ℕ) : Type 0 where
   pub inside : i ≤ count tree
-  pub long_kinds : length ks ≡ most_frames max_open
-  pub long_states : length qs ≡ most_frames max_open
-  pub reached : Reached (is_boundary source) ks qs s
-  pub same : verdict (is_boundary source) max_open (marks_in tree) ≡ judge (is_boundary source) i (state_of ks qs s) (drop i (marks_in tree))
+  pub reached : Reached (is_boundary source) fs s
+  pub same : verdict (is_boundary source) max_open (marks_in tree) ≡ judge (is_boundary source) i (state_of fs s) (drop i (marks_in tree))
 
-module _ (source tree : List ℕ) (fit : Sizes tree) (ks qs : List ℕ) (s : State) (i : ℕ) (st : Stands source tree ks qs s i) where
-  abbrev mark : Mark
-  mark = mark_of (get_or tree (2 + i) 0) (get_or tree (2 + capacity tree + i) 0)
+module _ (source tree : List ℕ) (fit : Sizes tree) (fs : List Node) (s : State) (i : ℕ) (st : Stands source tree fs s i) where
+  -- a turn at the index j, whose step leads on or not
+  module _ {j k p : ℕ} (t : Turn tree i j k p) (fs' : List Node) where
+    pub stands-on : (o : Rust.Option State) (s' : State)
+        → outcome fs' o ≡ step_mark (is_boundary source) (state_of fs s) (mark_of k p)
+        → Ok s' ≡ ok_or o j → Stands source tree fs' s' (i + 1)
+    unfolding judge outcome
+    stands-on None s' e r = cc
+    stands-on (Some s'') s' e r =
+        let z : s'' ≡ s' = cc in
+        rw (← z)
+        (record {
+          inside = omega (arith, t.inside);
+          reached = reached-step (is_boundary source) fs fs' s s'' (mark_of k p) (sym e) st.reached;
+          same = st.same ∙ rw (t.marks, judge, ← e, add-one);
+        })
 
-  abbrev stepped : Option Definition.State
-  stepped = step_mark (is_boundary source) (state_of ks qs s) mark
-
-  -- a mark leads on
-  pub stands_on : (ks' qs' : List ℕ) (s' : State) → i < count tree → some (state_of ks' qs' s') ≡ stepped
-      → length ks' ≡ length ks → length qs' ≡ length qs → Stands source tree ks' qs' s' (i + 1)
-  unfolding judge
-  stands_on ks' qs' s' h e k q =
-      record {
-        inside = omega arith;
-        long_kinds = k ∙ st.long_kinds;
-        long_states = q ∙ st.long_states;
-        reached = reached-step (is_boundary source) ks qs ks' qs' s s' mark (sym e) st.reached;
-        same = st.same ∙ rw (next-mark tree fit i h, judge, ← e, add-one);
-      }
-
-  -- or is refused
-  pub stands-refused : i < count tree → none ≡ stepped → IllFormed i ≡ shape_of (verdict (is_boundary source) max_open (marks_in tree))
-  unfolding judge shape_of
-  stands-refused h e = rw (st.same, next-mark tree fit i h, judge, ← e)
+    pub stands-refused : (o : Rust.Option State) (v : ℕ)
+        → outcome fs' o ≡ step_mark (is_boundary source) (state_of fs s) (mark_of k p)
+        → Err v ≡ ok_or o j → Err v ≡ shape_of (verdict (is_boundary source) max_open (marks_in tree))
+    unfolding judge shape_of outcome
+    stands-refused None v e r = let z : v ≡ j = cc in rw (z, st.same, t.marks, judge, ← e, t.index)
+    stands-refused (Some s'') v e r = cc
 
   -- the list ends
-  pub stands-whole : count tree ≤ i → true ≡ may_end (state_of ks qs s)
-      → WellFormed ≡ shape_of (verdict (is_boundary source) max_open (marks_in tree))
+  pub stands-whole : count tree ≡ i → true ≡ may_end (state_of fs s)
+      → Ok tt ≡ shape_of (verdict (is_boundary source) max_open (marks_in tree))
   unfolding judge shape_of
-  stands-whole h e = rw (st.same, no-mark tree fit i h, judge, ← e)
+  stands-whole h e = rw (st.same, no-mark tree fit i (omega arith), judge, ← e)
 
-  pub stands-early : count tree ≤ i → false ≡ may_end (state_of ks qs s)
-      → IllFormed (count tree) ≡ shape_of (verdict (is_boundary source) max_open (marks_in tree))
+  pub stands-early : count tree ≡ i → false ≡ may_end (state_of fs s)
+      → Err (count tree) ≡ shape_of (verdict (is_boundary source) max_open (marks_in tree))
   unfolding judge shape_of
-  stands-early h e = let n : i ≡ count tree = omega arith in rw (st.same, no-mark tree fit i h, judge, ← e, n)
+  stands-early h e = rw (st.same, no-mark tree fit i (omega arith), judge, ← e, h)
 
-pub stands-known : {source tree ks qs : List ℕ} {s : State} {i : ℕ} → Stands source tree ks qs s i → Known s
+pub stands-known : {source tree : List ℕ} {fs : List Node} {s : State} {i : ℕ} → Stands source tree fs s i → Known s
 stands-known {s = Between o} st = st.reached.inner
 stands-known {s = Within j a o} st = tt
 
 -- at the start nothing is open
 pub stands-first : (source tree : List ℕ)
-    → Stands source tree (replicate 259 0) (replicate 259 0)
-    (Between (record { kind = 0; state = 0; left = 64; depth = 0 })) 0
+    → Stands source tree (replicate 259 unused) (Between (record { node = unused; left = 64; depth = 0 })) 0
 unfolding verdict state_of frames_in
-stands-first source tree =
-    record {
-      inside = omega arith;
-      long_kinds = refl;
-      long_states = refl;
-      reached = first small-initial;
-      same = refl;
-    }
+stands-first source tree = record { inside = omega arith; reached = first small-initial; same = refl }
   where
-    first : {left k q : ℕ} → Holds (is_boundary source) (Small max_open) (between left k q [])
-        → Fits (replicate 259 0) (replicate 259 0) (record { kind = k; state = q; left = left; depth = 0 })
-    first (holds-between p a) = record { inner = p; around = a }
+    first : Holds (is_boundary source) (Small max_open) (between 64 0 0 [])
+        → Fits (replicate 259 unused) (record { node = unused; left = 64; depth = 0 })
+    first (holds-between p a) = record { inner = record { small = p; list = λ e. refl }; around = tt }

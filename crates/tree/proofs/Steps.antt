@@ -3,7 +3,7 @@ use Prim.Native.Nat.{ℕ, ◌-◌, ◌≤◌, ◌<◌}
 use native.Mathlib.Omega.{arith}
 use mathlib.Core.Path.{◌≡◌, refl}
 use mathlib.Core.Bool.{Bool, true, false, ◌&&◌, ◌||◌, not}
-use mathlib.Core.List.{List, ◌∷◌}
+use mathlib.Core.List.{List, [], ◌∷◌}
 use mathlib.Core.Option.{Option, some, none}
 use lib.Dec.{eqb, leb}
 use borrow.Author.Tests.{eq-eqb, ne_eqb, le-leb, lt-leb, not-true}
@@ -12,14 +12,14 @@ use Rattle.syntax.specs.Marks.{Mark, plain, placed}
 use Rattle.syntax.specs.Layout.{has_place, mark_of}
 use Rattle.syntax.specs.Shape.{start, models, step, final, opens, Frame, frame, State, between, within, needs, enter, leave, step_mark}
 use Rattle.laws.specs.Bytes.{by_case}
-use Rattle.laws.specs.Shape.Run.{end-rule, known-child}
+use Rattle.laws.specs.Shape.Run.{end-rule}
 
 no-and : (a : Bool) → (a && false) ≡ false
 no-and true = refl
 no-and false = refl
 
--- kinds past the last are no T kinds and no children, and a node that may end is no T node
-pub not-text : (j : ℕ) → Kind.named_argument < j → Kind.is_text j ≡ false
+-- kinds past the last are no T kinds, and a node that may end is no T node
+not-text : (j : ℕ) → Kind.named_argument < j → Kind.is_text j ≡ false
 unfolding Kind.is_text
 not-text j h =
     rw (
@@ -35,13 +35,6 @@ not-text j h =
   where
     other : (n : ℕ) → n ≤ Kind.named_argument → eqb j n ≡ false
     other n l = ne_eqb j n (λ e. omega arith)
-
-pub no-child : (k q j : ℕ) → Kind.named_argument < j → step k q j ≡ none
-no-child k q j h = go (step k q j) refl
-  where
-    go : (o : Option ℕ) → step k q j ≡ o → step k q j ≡ none
-    go none e = e
-    go (some r) e = let b = known-child k q j r e in absurd (omega arith)
 
 ends-no-text : (k q : ℕ) → final k q ≡ true → Kind.is_text k ≡ false
 unfolding models Kind.is_text
@@ -132,6 +125,17 @@ module _ (boundary : ℕ → Bool) (left k q : ℕ) (fs : List Frame) where
   not-closed p f =
       let z = eq-eqb (Kind.closing k) (Kind.closing k) refl in
       mark-either (λ m. child m ≡ none) (Kind.closing k) p (rw (step_mark, z, f)) (rw (step_mark, not-text (Kind.closing k) (omega arith)))
+
+-- no mark closes the list
+pub unclosed : (boundary : ℕ → Bool) (left k q j p : ℕ) → step k q j ≡ none
+    → step_mark boundary (between left k q []) (mark_of j p) ≡ none
+unfolding step_mark leave
+unclosed boundary left k q j p e =
+    mark-either (λ m. step_mark boundary (between left k q []) m ≡ none) j p
+    (by_case (eqb j (Kind.closing k))
+    (λ c. by_case (final k q) (λ f. rw (c, step_mark, f)) (λ f. rw (c, step_mark, f)))
+    (λ c. rw (c, step_mark) (enter-nothing left k q [] j e)))
+    (by_case (Kind.is_text j && boundary p) (λ t. rw (t, step_mark, e)) (λ t. rw (t, step_mark)))
 
 module _ (boundary : ℕ → Bool) (j a left k q : ℕ) (fs : List Frame) where
   -- a T child ends

@@ -11,11 +11,15 @@ use lib.ListN.{length, get_or, take, drop}
 use lib.Seq.{get_or-drop, get_or-take}
 use borrow.Author.Tests.{eqb-true, eqb-false, leb-true, lt-ltb}
 use Rattle.syntax.specs.Kind as Kind
+use Rattle.syntax.specs.declared.kind.Kind.{Kind}
+use Rattle.std.specs.declared.option.Option as Rust
 use Rattle.syntax.specs.Shape.{models, step, final}
 use Rattle.laws.specs.Bytes.{by_case}
 use Rattle.laws.specs.Shape.Run.{rule}
-use Rattle.tree.specs.Models.{next_of, byte_of, end_byte, Table, entry, Right}
-use Rattle.tree.specs.declared.models.Next.TheVariants.{Text, Node, Nothing}
+use Rattle.tree.proofs.Numbers.{number_small, parent_small}
+use Rattle.tree.specs.Models.{parent, next_of, byte_of, end_byte, Table, entry, Right}
+use Rattle.std.specs.Prelude.{Some, None}
+use Rattle.tree.specs.declared.models.Next.TheVariants.{Text, Node}
 
 -- the test f passes at each element of the list and its place, counted from i
 abbrev every : {A : Type 0} → (ℕ → A → Bool) → ℕ → List A → Bool
@@ -85,65 +89,71 @@ module _ (t : Table) (e : right_table t ≡ true) where
       }
 
 -- what the byte x of a child says: the states that the models lead to are at most 3
-
-pub next_small : (k q j r : ℕ) → step k q j ≡ some r → r ≤ 3
+next_small : (k q j r : ℕ) → step k q j ≡ some r → r ≤ 3
 unfolding models
 next_small k q j r s = leb-true _ _ (rule (λ k q j r. leb r 3) refl k q j r s)
 
-module _ (text : Bool) (x : ℕ) where
-  reads_nothing : (o : Option ℕ) → x ≡ byte_of text o → x ≡ 45 → Nothing ≡ next_of text o
-  unfolding next_of byte_of
-  reads_nothing none e h = refl
-  reads_nothing (some r) e h =
-      by_case text (λ t. absurd (omega (arith, rw (t, byte_of) at e))) (λ t. absurd (omega (arith, rw (t, byte_of) at e)))
+reads-none : (text : Bool) (o : Option ℕ) (x : ℕ) → x ≡ byte_of text o → x ≡ 45 → None ≡ next_of text o
+unfolding next_of byte_of
+reads-none text none x e h = refl
+reads-none true (some r) x e h = absurd (omega arith)
+reads-none false (some r) x e h = absurd (omega arith)
 
-  reads-text : (o : Option ℕ) → ((r : ℕ) → o ≡ some r → r ≤ 3) → x ≡ byte_of text o → (x ≡ 45 → ⊥) → x < 97 → (48 ≤ x)
-      × (Text (x - 48) ≡ next_of text o)
-  unfolding next_of byte_of
-  reads-text none s e h l = absurd (h e)
-  reads-text (some r) s e h l =
-      by_case text
-      (λ t. let d : x ≡ 48 + r = rw (t, byte_of) at e in let z : x - 48 ≡ r = omega arith in rw (t, z, next_of) (omega arith, refl))
-      (λ t. absurd (omega (arith, rw (t, byte_of) at e)))
+reads-text : (text : Bool) (o : Option ℕ) (x : ℕ) → x ≡ byte_of text o → (x ≡ 45 → ⊥) → x < 97
+    → (48 ≤ x) × (Some (Text (x - 48)) ≡ next_of text o)
+unfolding next_of byte_of
+reads-text text none x e h l = absurd (h e)
+reads-text true (some r) x e h l = let z : x - 48 ≡ r = omega arith in rw z (omega arith, refl)
+reads-text false (some r) x e h l = absurd (omega arith)
 
-  reads-node : (o : Option ℕ) → ((r : ℕ) → o ≡ some r → r ≤ 3) → x ≡ byte_of text o → 97 ≤ x → Node (x - 97) ≡ next_of text o
-  unfolding next_of byte_of
-  reads-node none s e l = absurd (omega arith)
-  reads-node (some r) s e l =
-      by_case text
-      (λ t. absurd (omega (arith, rw (t, byte_of) at e, s r refl)))
-      (λ t. let d : x ≡ 97 + r = rw (t, byte_of) at e in let z : x - 97 ≡ r = omega arith in rw (t, z, next_of))
+reads-node : (text : Bool) (o : Option ℕ) (x : ℕ) → ((r : ℕ) → o ≡ some r → r ≤ 3) → x ≡ byte_of text o → 97 ≤ x
+    → Some (Node (x - 97)) ≡ next_of text o
+unfolding next_of byte_of
+reads-node text none x s e l = absurd (omega arith)
+reads-node true (some r) x s e l = absurd (omega (arith, s r refl))
+reads-node false (some r) x s e l = let z : x - 97 ≡ r = omega arith in rw z
 
-module _ (t : Table) (w : Right t) (k q j : ℕ) (a : k ≤ Kind.named_argument) (b : q ≤ 3) (d : j ≤ Kind.named_argument) where
-  pub step-nothing : entry t k q j ≡ 45 → Nothing ≡ next_of (Kind.is_text j) (step k q j)
-  step-nothing h = reads_nothing (Kind.is_text j) (entry t k q j) (step k q j) (w.next k q j a b d) h
+-- the byte at i and j, the numbers of a parent and its child
+module _ (t : Table) (w : Right t) {i q j : ℕ} (kind : Rust.Option Kind) (child : Kind) (b : q ≤ 3)
+    (x : i ≡ parent kind) (y : j ≡ Kind.number_of child) where
+  abbrev text : Bool
+  text = Kind.is_text (Kind.number_of child)
 
-  pub step-text : (entry t k q j ≡ 45 → ⊥) → entry t k q j < 97 → (48 ≤ entry t k q j)
-      × (Text (entry t k q j - 48) ≡ next_of (Kind.is_text j) (step k q j))
-  step-text h l = reads-text (Kind.is_text j) (entry t k q j) (step k q j) (next_small k q j) (w.next k q j a b d) h l
+  abbrev next : Option ℕ
+  next = step (parent kind) q (Kind.number_of child)
 
-  pub step-node : 97 ≤ entry t k q j → Node (entry t k q j - 97) ≡ next_of (Kind.is_text j) (step k q j)
-  step-node l = reads-node (Kind.is_text j) (entry t k q j) (step k q j) (next_small k q j) (w.next k q j a b d) l
+  byte : entry t i q j ≡ byte_of text next
+  byte = rw (x, y) (w.next (parent kind) q (Kind.number_of child) (parent_small kind) b (number_small child))
+
+  pub step-none : entry t i q j ≡ 45 → None ≡ next_of text next
+  step-none h = reads-none text next (entry t i q j) byte h
+
+  pub step-text : (entry t i q j ≡ 45 → ⊥) → entry t i q j < 97 → (48 ≤ entry t i q j)
+      × (Some (Text (entry t i q j - 48)) ≡ next_of text next)
+  step-text h l = reads-text text next (entry t i q j) byte h l
+
+  pub step-node : 97 ≤ entry t i q j → Some (Node (entry t i q j - 97)) ≡ next_of text next
+  step-node l = reads-node text next (entry t i q j) (next_small (parent kind) q (Kind.number_of child)) byte l
 
 pub end_read : (t : Table) → Right t → (k q : ℕ) → k ≤ Kind.named_argument → q ≤ 3 → eqb (entry t k q 27) 43 ≡ final k q
 unfolding end_byte
 end_read t w k q a b = rw (w.end k q a b) (by_case (final k q) (λ e. rw (e, end_byte)) (λ e. rw (e, end_byte)))
 
 -- what the answer of `step` says of the models
-pub next-text : (text : Bool) (o : Option ℕ) (r : ℕ) → Text r ≡ next_of text o → (text ≡ true) × (o ≡ some r)
+pub next-text : (text : Bool) (o : Option ℕ) (r : ℕ) → Some (Text r) ≡ next_of text o → (text ≡ true) × (o ≡ some r)
 unfolding next_of
-next-text text none r e = let z : ◌≡◌ {A = ℕ} 0 1 = cc in absurd (omega arith)
+next-text text none r e = cc
 next-text true (some q) r e = (refl, cc)
-next-text false (some q) r e = let z : ◌≡◌ {A = ℕ} 0 1 = cc in absurd (omega arith)
+next-text false (some q) r e = cc
 
-pub next-node : (text : Bool) (o : Option ℕ) (r : ℕ) → Node r ≡ next_of text o → (text ≡ false) × (o ≡ some r)
+pub next-node : (text : Bool) (o : Option ℕ) (r : ℕ) → Some (Node r) ≡ next_of text o → (text ≡ false) × (o ≡ some r)
 unfolding next_of
-next-node text none r e = let z : ◌≡◌ {A = ℕ} 0 1 = cc in absurd (omega arith)
-next-node true (some q) r e = let z : ◌≡◌ {A = ℕ} 0 1 = cc in absurd (omega arith)
+next-node text none r e = cc
+next-node true (some q) r e = cc
 next-node false (some q) r e = (refl, cc)
 
-pub next-nothing : (text : Bool) (o : Option ℕ) → Nothing ≡ next_of text o → o ≡ none
+pub next-none : (text : Bool) (o : Option ℕ) → None ≡ next_of text o → o ≡ none
 unfolding next_of
-next-nothing text none e = refl
-next-nothing true (some q) e = let z : ◌≡◌ {A = ℕ} 0 1 = cc in absurd (omega arith)
-next-nothing false (some q) e = let z : ◌≡◌ {A = ℕ} 0 1 = cc in absurd (omega arith)
+next-none text none e = refl
+next-none true (some q) e = cc
+next-none false (some q) e = cc

@@ -6,8 +6,9 @@ use mathlib.Core.Path.{◌≡◌, refl, sym, ap, ap₂, subst, ◌∙◌}
 use mathlib.Core.Bool.{Bool, true, false, ◌||◌, not}
 use mathlib.Core.List.{List, [], ◌∷◌, ◌++◌, map, append_assoc}
 use lib.Dec.{eqb, leb, ltb}
-use lib.ListN.{length, take, drop, get_or, length-append, length-drop, drop_of_length-le, get_or-eq_default, length-take}
-use lib.Seq.{take_all, take-nil, drop-cons, get_or-take, get_or-drop}
+use lib.ListN.{length, take, drop, get_or, length-append, length-drop, drop_of_length-le, get_or-eq_default}
+use Rattle.std.proofs.lemmas.List.{take_rest}
+use lib.Seq.{take_all, take-nil, drop-cons, get_or-drop}
 use borrow.Author.Tests.{eqb-true, leb-true, leb-false, ltb-true, lt-ltb, le-ltb, ne_eqb}
 use Rattle.utf8.specs.Utf8.{is_boundary}
 use Rattle.syntax.specs.Kind as Kind
@@ -47,6 +48,10 @@ between-held s a e start end h l =
         all : {n : ℕ} → length s ≤ n → take (n - a) (drop a s) ≡ drop a s
         all {n} m = take_all (n - a) (drop a s) (simp length-drop (omega arith))
 
+-- a list from a place on, as a slice has it
+abbrev pub part : ℕ → List ℕ → List ℕ
+part n xs = take (length xs - n) (drop n xs)
+
 -- past the words there is 0, and no text
 pub no_word : (ws : List ℕ) (i : ℕ) → length ws ≤ i → 0 ≡ get_or ws i 0
 no_word ws i h = sym (get_or-eq_default ws 0 h)
@@ -63,17 +68,6 @@ none_left (x ∷ ks) = refl
 
 -- The kinds of a list, one by one: how many are left of the node that starts at the mark i.
 module _ (ws : List ℕ) where
-  pub kind-inside : (i : ℕ) → i < length (kinds ws) → 2 + i < length ws
-  unfolding kinds
-  kind-inside i h = omega (arith, simp (length-take, length-drop) at h)
-
-  next-kind : (i : ℕ) → i < length (kinds ws) → drop i (kinds ws) ≡ get_or ws (2 + i) 0 ∷ drop (i + 1) (kinds ws)
-  unfolding kinds
-  next-kind i h =
-      let l : i < count ws = omega (arith, length-take (count ws) (drop 2 ws)) in
-      rw (add-one, drop-cons (kinds ws) i 0)
-      (ap (λ k. k ∷ drop (suc i) (kinds ws)) (rw (get_or-take (count ws) (drop 2 ws) i 0 l, get_or-drop)))
-
   -- with depth nodes open at the mark next
   pub record Passing (i depth next : ℕ) : Type 0 where
     pub same : after_in ws i ≡ next + till_closed depth (drop next (kinds ws))
@@ -86,30 +80,40 @@ module _ (ws : List ℕ) where
 
   pub passing-first : (i : ℕ) → i < length (kinds ws) → Passing i 1 (i + 1)
   unfolding after_in
-  passing-first i h = record { same = rw (next-kind i h, after_in); deep = omega arith; small = omega arith }
+  passing-first i h = record { same = rw (drop-cons (kinds ws) i 0 h, add-one, after_in); deep = omega arith; small = omega arith }
+
+  -- a kind in a loop over the kinds from a on
+  pub kind-in-part : (ks : List ℕ) (a i : ℕ) → ks ≡ kinds ws → i < length (part a ks)
+      → (a + i < length (kinds ws)) × (get_or (part a ks) i 0 ≡ get_or (kinds ws) (a + i) 0)
+  kind-in-part ks a i e h =
+      let l : i < length ks - a = simp length-drop at (rw (take_rest ks a) at h) in
+      rw (take_rest ks a, get_or-drop, ← e) (omega arith, refl)
+
+  pub part-length : (ks : List ℕ) (a : ℕ) → ks ≡ kinds ws → length (part a ks) ≡ length (kinds ws) - a
+  part-length ks a e = rw (take_rest ks a, e) (length-drop a (kinds ws))
 
   module _ (i : ℕ) {depth next : ℕ} (p : Passing i depth next) where
     abbrev word : ℕ
-    word = get_or ws (2 + next) 0
+    word = get_or (kinds ws) next 0
 
     abbrev rest : List ℕ
-    rest = drop (next + 1) (kinds ws)
+    rest = drop (suc next) (kinds ws)
 
     more : next < length (kinds ws)
         → after_in ws i
         ≡ next + 1 + elim (ltb word (Kind.closing 0)) [ true ↦ till_closed (suc depth) rest | false ↦ till_closed (depth - 1) rest ]
     unfolding till_closed
-    more h = p.same ∙ rw (next-kind next h, till_closed, ne_eqb depth 0 (λ e. omega (arith, p.deep))) (omega arith)
+    more h = p.same ∙ rw (drop-cons (kinds ws) next 0 h, till_closed, ne_eqb depth 0 (λ e. omega (arith, p.deep))) (omega arith)
 
     pub passing-open : next < length (kinds ws) → word < Kind.closing 0 → Passing i (depth + 1) (next + 1)
     passing-open h k =
-        record { same = more h ∙ rw (lt-ltb word 100 k, add-one depth); deep = omega arith; small = omega (arith, p.small) }
+        record { same = more h ∙ rw (lt-ltb word 100 k, add-one depth, add-one next); deep = omega arith; small = omega (arith, p.small) }
 
     -- a mark that closes a node
     module _ (h : next < length (kinds ws)) (k : Kind.closing 0 ≤ word) where
       pub passing-close : (depth - 1 ≡ 0 → ⊥) → Passing i (depth - 1) (next + 1)
       passing-close d =
-          record { same = more h ∙ rw (le-ltb word 100 k); deep = omega (arith, p.deep, d); small = omega (arith, p.small) }
+          record { same = more h ∙ rw (le-ltb word 100 k, add-one next); deep = omega (arith, p.deep, d); small = omega (arith, p.small) }
 
       pub passing-last : depth - 1 ≡ 0 → next + 1 ≡ after_in ws i
       unfolding till_closed

@@ -1,16 +1,23 @@
 -- The content models as the code's table has them.
-use Rattle.std.specs.Prelude.{ℕ, ◌+◌, ◌*◌, ◌≤◌, ◌≡◌, Bool, true, false, List, [], get_or}
+use Rattle.std.specs.Prelude.{ℕ, ◌+◌, ◌*◌, ◌≤◌, ◌≡◌, Bool, true, false, List, [], get_or, Some, None}
+use Rattle.std.specs.declared.option.Option as Rust
 use Rattle.std.proofs.Math.Option.{Option, some, none}
 use Rattle.syntax.specs.Kind as Kind
-use Rattle.syntax.specs.Shape.{step, final}
+use Rattle.syntax.specs.declared.kind.Kind.{Kind}
+use Rattle.syntax.specs.Shape.{top, step, final}
 use Rattle.tree.specs.declared.models.Next.{Next}
-use Rattle.tree.specs.declared.models.Next.TheVariants.{Text, Node, Nothing}
+use Rattle.tree.specs.declared.models.Next.TheVariants.{Text, Node}
 
--- the answer of the function `step` on a child that is a T kind or not
-unfoldable pub next_of : (text : Bool) → Option ℕ → Next
-next_of text none = Nothing
-next_of true (some r) = Text r
-next_of false (some r) = Node r
+-- the number of the kind of a node that has children: the list has no kind
+abbrev pub parent : Rust.Option Kind → ℕ
+parent None = top
+parent (Some k) = Kind.number_of k
+
+-- the answer of the method `step` on a child that is a T kind or not
+unfoldable pub next_of : (text : Bool) → Option ℕ → Rust.Option Next
+next_of text none = None
+next_of true (some r) = Some (Text r)
+next_of false (some r) = Some (Node r)
 
 -- its byte in the table
 unfoldable pub byte_of : (text : Bool) → Option ℕ → ℕ

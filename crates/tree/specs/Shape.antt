@@ -1,55 +1,64 @@
 -- How the code's states stand for those of the definition, and what it knows of them.
-use Rattle.std.specs.Prelude.{ℕ, zero, suc, ◌≤◌, ◌≡◌, Bool, true, List, [], ◌∷◌, length, get_or}
+use Rattle.std.specs.Prelude.{ℕ, zero, suc, ◌≡◌, Bool, true, List, [], ◌∷◌, get_or, Some, None, Ok, Err, ⊤}
+use Rattle.std.specs.declared.option.Option as Rust
+use Rattle.std.specs.declared.result.Result.{Result}
 use Rattle.std.proofs.Math.Option.{Option, some, none}
 use Rattle.syntax.specs.Kind as Kind
 use Rattle.syntax.specs.Limits.{max_open}
-use Rattle.syntax.specs.Shape.{Frame, frame, between, within}
+use Rattle.syntax.specs.Shape.{top, between, within}
 use Rattle.syntax.specs.Shape as Definition
 use Rattle.laws.specs.Shape.Check.{Around}
-use Rattle.laws.specs.Shape.Bound.{most_frames, Small}
-use Rattle.tree.specs.declared.check.Shape.{Shape}
-use Rattle.tree.specs.declared.check.Shape.TheVariants.{WellFormed, IllFormed}
+use Rattle.laws.specs.Shape.Bound.{Small}
+use Rattle.tree.specs.Models.{parent}
+use Rattle.tree.specs.declared.models.Node.{Node}
 use Rattle.tree.specs.declared.check.Open.{Open}
 use Rattle.tree.specs.declared.check.State.{State}
 use Rattle.tree.specs.declared.check.State.TheVariants.{Between, Within}
-use Rattle.tree.specs.declared.check.Step.{Step}
-use Rattle.tree.specs.declared.check.Step.TheVariants.{On, Refused}
 
 -- the answer of the function `check_shape`
-unfoldable pub shape_of : Option ℕ → Shape
-shape_of none = WellFormed
-shape_of (some v) = IllFormed v
+unfoldable pub shape_of : Option ℕ → Result ⊤ ℕ
+shape_of none = Ok tt
+shape_of (some v) = Err v
 
--- the frames around a node at a depth, innermost first: the stack's last kind and state are the innermost frame's
-unfoldable pub frames_in : (kinds states : List ℕ) → (depth : ℕ) → List Frame
-frames_in ks qs zero = []
-frames_in ks qs (suc d) = frame (get_or ks d 0) (get_or qs d 0) ∷ frames_in ks qs d
+-- an open node as the definition has it
+abbrev pub frame_of : Node → Definition.Frame
+frame_of f = Definition.frame (parent f.kind) f.state
+
+-- what stands on the stack where no node has been put
+abbrev pub unused : Node
+unused = record { kind = None; state = 0 }
+
+-- the frames around a node at a depth, innermost first: the last on the stack is the innermost
+unfoldable pub frames_in : List Node → (depth : ℕ) → List Definition.Frame
+frames_in fs zero = []
+frames_in fs (suc d) = frame_of (get_or fs d unused) ∷ frames_in fs d
 
 -- the definition's state
-unfoldable pub state_of : (kinds states : List ℕ) → State → Definition.State
-state_of ks qs (Between o) = between o.left o.kind o.state (frames_in ks qs o.depth)
-state_of ks qs (Within j a o) = within j a o.left o.kind o.state (frames_in ks qs o.depth)
+unfoldable pub state_of : List Node → State → Definition.State
+state_of fs (Between o) = between o.left (parent o.node.kind) o.node.state (frames_in fs o.depth)
+state_of fs (Within j a o) = within (Kind.number_of j) a o.left (parent o.node.kind) o.node.state (frames_in fs o.depth)
 
-unfoldable pub outcome : (kinds states : List ℕ) → Step → Option Definition.State
-outcome ks qs (On s) = some (state_of ks qs s)
-outcome ks qs Refused = none
+-- what the definition answers where a step answers a state, or none
+unfoldable pub outcome : List Node → Rust.Option State → Option Definition.State
+outcome fs (Some s) = some (state_of fs s)
+outcome fs None = none
 
--- the stack has room for every frame
-pub record Room (kinds states : List ℕ) : Type 0 where
-  pub long_kinds : most_frames max_open ≤ length kinds
-  pub long_states : most_frames max_open ≤ length states
+-- an open node is as small as those that the check reaches, and only the list has no node around it
+pub record Sits (left k q depth : ℕ) : Type 0 where
+  pub small : Small max_open left k q depth
+  pub list : k ≡ top → depth ≡ 0
 
--- the open nodes are as small as those that the check reaches
-pub record Fits (kinds states : List ℕ) (o : Open) : Type 0 where
-  pub inner : Small max_open o.left o.kind o.state o.depth
-  pub around : Around (Small max_open) o.left o.kind (frames_in kinds states o.depth)
+-- the open nodes are such, the innermost and each around it as it stood there
+pub record Fits (fs : List Node) (o : Open) : Type 0 where
+  pub inner : Sits o.left (parent o.node.kind) o.node.state o.depth
+  pub around : Around Sits o.left (parent o.node.kind) (frames_in fs o.depth)
 
 -- What holds of every state that the check reaches: its open nodes fit, and a T child is of a T kind and starts on a boundary.
-abbrev pub Reached : (boundary : ℕ → Bool) (kinds states : List ℕ) → State → Type 0
-Reached boundary ks qs (Between o) = Fits ks qs o
-Reached boundary ks qs (Within j a o) = (Kind.is_text j ≡ true) × ((boundary a ≡ true) × Fits ks qs o)
+abbrev pub Reached : (boundary : ℕ → Bool) → List Node → State → Type 0
+Reached boundary fs (Between o) = Fits fs o
+Reached boundary fs (Within j a o) = (Kind.is_text (Kind.number_of j) ≡ true) × ((boundary a ≡ true) × Fits fs o)
 
 -- the part of it that needs no stack
 abbrev pub Known : State → Type 0
-Known (Between o) = Small max_open o.left o.kind o.state o.depth
+Known (Between o) = Sits o.left (parent o.node.kind) o.node.state o.depth
 Known (Within j a o) = Unit {0}

@@ -1,28 +1,16 @@
 // What stands at a mark in the words of a tree. Any words will do: a word that is not there is taken as 0.
-ghost use Rattle.std.specs.Prelude.{◌+◌, min, ◌≡◌, length, get_or};
+ghost use Rattle.std.specs.Prelude.{◌+◌, ◌≡◌, get_or};
 ghost use Rattle.syntax.specs.Layout.{kinds};
 ghost use Rattle.tree.specs.Words.{kind_in, place_in, text_in, after_in};
 
 use syntax::kind::CLOSING;
 use syntax::layout::SIZES;
 
-fn least(a: usize, b: usize) -> usize
-    ensures { result ≡ min a b }
-{
-    if a < b { a } else { b }
-}
-
 // The word of a mark in the array that starts at the word `from`.
 fn word_at(tree: &[u32], from: usize, mark: usize) -> u32
     ensures { result ≡ get_or tree.now (from + mark) 0 }
 {
-    if tree.len() <= from {
-        return 0;
-    }
-    if tree.len() - from <= mark {
-        return 0;
-    }
-    tree[from + mark]
+    tree.get(from.saturating_add(mark)).copied().unwrap_or(0)
 }
 
 // The kind of a mark.
@@ -36,10 +24,10 @@ pub fn kind_at(tree: &[u32], mark: usize) -> u32
 pub fn place_at(tree: &[u32], mark: usize) -> u32
     ensures { result ≡ place_in tree.now mark }
 {
-    if tree.len() < SIZES {
+    let [_, capacity, ..] = *tree else {
         return 0;
-    }
-    word_at(tree, SIZES + tree[1] as usize, mark)
+    };
+    word_at(tree, SIZES + capacity as usize, mark)
 }
 
 // The text of the T node that starts at a mark: the source from the mark's place up to the next one's.
@@ -49,42 +37,40 @@ pub fn text_at<'a>(source: &'a [u8], tree: &[u32], mark: usize) -> &'a [u8]
     if tree.len() <= mark {
         return &source[..0];
     }
-    let end = least(place_at(tree, mark + 1) as usize, source.len());
-    let start = least(place_at(tree, mark) as usize, end);
+    let end = (place_at(tree, mark + 1) as usize).min(source.len());
+    let start = (place_at(tree, mark) as usize).min(end);
     &source[start..end]
 }
 
-// How many kinds there are: as many as the count says, if the slice has them.
-fn kind_count(tree: &[u32]) -> usize
-    ensures { result ≡ length (kinds tree.now) }
+// The kinds: as many as the count says, if the slice has them.
+fn kinds(tree: &[u32]) -> &[u32]
+    ensures { result.now ≡ kinds tree.now }
 {
-    if tree.len() < SIZES {
-        return 0;
-    }
-    least(tree[0] as usize, tree.len() - SIZES)
+    let [count, _, words @ ..] = tree else {
+        return &[];
+    };
+    &words[..(*count as usize).min(words.len())]
 }
 
 // The mark after the node that starts at a mark: the count where the node is not closed, the mark itself where there is none.
 pub fn after_node(tree: &[u32], mark: usize) -> usize
     ensures { result ≡ after_in tree.now mark }
 {
-    let count = kind_count(tree);
-    if count <= mark {
+    let kinds = kinds(tree);
+    if kinds.len() <= mark {
         return mark;
     }
+    let inner = mark + 1;
     let mut depth: usize = 1;
-    let mut next = mark + 1;
-    while next < count {
-        let kind = tree[SIZES + next];
-        next += 1;
+    for (i, &kind) in kinds[inner..].iter().enumerate() {
         if kind < CLOSING {
             depth += 1;
         } else {
             depth -= 1;
             if depth == 0 {
-                return next;
+                return inner + i + 1;
             }
         }
     }
-    next
+    kinds.len()
 }

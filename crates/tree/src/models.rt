@@ -1,31 +1,25 @@
 // The content models (document 01) as a table, and what else the check asks of a kind.
 ghost use Rattle.std.specs.Prelude.{◌≡◌, ◌≤◌};
-ghost use Rattle.syntax.specs.Kind.{named_argument, is_text};
+ghost use Rattle.syntax.specs.Kind.{is_text, number_of};
 ghost use Rattle.syntax.specs.Shape.{step, final, opens, needs};
-ghost use Rattle.tree.specs.Models.{Right, next_of};
+ghost use Rattle.tree.specs.Models.{Right, next_of, parent};
 
-use syntax::kind;
+use syntax::kind::Kind;
 
 // The kinds that have a model, the list's as 0 among them; the states of a kind; the bytes of a state.
-const KINDS: usize = 1 + kind::NAMED_ARGUMENT as usize;
+const KINDS: usize = 1 + Kind::NamedArgument as usize;
 
 const STATES: usize = 4;
 
 const ROW: usize = KINDS + 1;
 
-pub type Models = [[u8; STATES * ROW]; KINDS];
-
-// The kinds that the functions below test for.
-const PLACEABLE: u8 = kind::PLACEABLE as u8;
-
-const FUNCTION: u8 = kind::FUNCTION as u8;
-
-const ARGUMENTS: u8 = kind::ARGUMENTS as u8;
+type Models = [[u8; STATES * ROW]; KINDS];
 
 // For each kind, and for each of the states that its children lead through, a byte for each kind of a child: '-' if no such child
 // may follow, else the state that it leads to, as a digit for a T child and as a letter from 'a' on for another. The last byte
 // is '+' if a node of the kind may end in the state. The rows of a kind are one array: each more makes the proof longer.
-const MODELS: Models = [
+// A match over kind, state and child would be plainer, and took the check 1.2 times as long; cells of a type would hide the rows.
+static MODELS: Models = [
     // the list: 1 to 7, each 6 right before a 1 or 2
     *b"\
         -aaaaab0-------------------+\
@@ -181,66 +175,75 @@ const MODELS: Models = [
         ----------------------------",
 ];
 
-// The state that a T child leads to, or another child, or that no such child may follow.
-#[derive(Drop)]
+// The state that a T child leads to, or another child.
+#[derive(Clone, Copy, PartialEq, Eq, Debug)]
 pub enum Next {
     Text(u8),
     Node(u8),
-    Nothing,
 }
 
-// The table, for a caller to hold and lend: it is written out wherever the constant is named.
-pub fn models() -> Models
-    ensures { Right result }
+// The table, with what holds of it: whoever names the static itself has its bytes in a proof.
+fn models() -> &'static Models
+    ensures { Right result.now }
 {
-    MODELS
+    &MODELS
 }
 
-// Where a child leads in the state of the kind.
-pub fn step(models: &Models, kind: u8, state: u8, child: u8) -> Next
-    requires right { Right models.now }
-    requires kind_le_named_argument { kind ≤ named_argument }
-    requires state_bound { state ≤ 3 }
-    requires child_le_named_argument { child ≤ named_argument }
-    ensures { result ≡ next_of (is_text child) (step kind state child) }
-{
-    let next = models[kind as usize][ROW * state as usize + child as usize];
-    if next == b'-' {
-        return Next::Nothing;
+// A node that is open: its kind, none for the list, and the state that its children have led to.
+#[derive(Clone, Copy)]
+pub struct Node {
+    pub kind: Option<Kind>,
+    pub state: u8,
+}
+
+impl Node {
+    // The place of the kind's model in the table.
+    fn index(self) -> usize
+        ensures { result ≡ parent self.kind }
+    {
+        self.kind.map_or(0, |kind| kind.number() as usize)
     }
-    if next < b'a' {
-        Next::Text(next - b'0')
-    } else {
-        Next::Node(next - b'a')
-    }
-}
 
-// Whether a node of the kind may end in the state.
-pub fn may_end(models: &Models, kind: u8, state: u8) -> bool
-    requires right { Right models.now }
-    requires kind_le_named_argument { kind ≤ named_argument }
-    requires state_bound { state ≤ 3 }
-    ensures { result ≡ final kind state }
-{
-    models[kind as usize][ROW * state as usize + KINDS] == b'+'
+    // Where a child leads, if such a child may follow.
+    pub fn step(self, child: Kind) -> Option<Next>
+        requires { self.state ≤ 3 }
+        ensures { result ≡ next_of (is_text (number_of child)) (step (parent self.kind) self.state (number_of child)) }
+    {
+        let next = models()[self.index()][ROW * self.state as usize + child.number() as usize];
+        if next == b'-' {
+            None
+        } else if next < b'a' {
+            Some(Next::Text(next - b'0'))
+        } else {
+            Some(Next::Node(next - b'a'))
+        }
+    }
+
+    // Whether the node may end here.
+    pub fn may_end(self) -> bool
+        requires { self.state ≤ 3 }
+        ensures { result ≡ final (parent self.kind) self.state }
+    {
+        models()[self.index()][ROW * self.state as usize + KINDS] == b'+'
+    }
 }
 
 // The openings of '{' and '(' that a node of the kind makes: a placeable and arguments.
-pub fn opens(kind: u8) -> u8
-    ensures { result ≡ opens kind }
+pub fn opens(kind: Kind) -> u8
+    ensures { result ≡ opens (number_of kind) }
 {
     match kind {
-        PLACEABLE | ARGUMENTS => 1,
+        Kind::Placeable | Kind::Arguments => 1,
         _ => 0,
     }
 }
 
 // The openings that must be left where a node of the kind begins: a function needs its arguments.
-pub fn needs(kind: u8) -> u8
-    ensures { result ≡ needs kind }
+pub fn needs(kind: Kind) -> u8
+    ensures { result ≡ needs (number_of kind) }
 {
     match kind {
-        PLACEABLE | FUNCTION | ARGUMENTS => 1,
+        Kind::Placeable | Kind::FunctionReference | Kind::Arguments => 1,
         _ => 0,
     }
 }

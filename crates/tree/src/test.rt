@@ -2,7 +2,7 @@
 ghost use Rattle.std.specs.Prelude.{◌≡◌};
 ghost use Rattle.syntax.specs.Tests.{refusal, tested_of};
 
-use crate::check::{Shape, check_shape, sizes_fit};
+use crate::check::{check_shape, sizes_fit};
 use syntax::answer::Refusal;
 use syntax::layout::NO_MARK;
 use syntax::test::test_source;
@@ -15,7 +15,7 @@ pub fn test_tree(source: &[u8], tree: &[u32]) -> Result<(), Refusal>
     if !sizes_fit(tree) {
         return Err(Refusal::IllFormed(NO_MARK));
     }
-    if let Shape::IllFormed(mark) = check_shape(source, tree) {
+    if let Err(mark) = check_shape(source, tree) {
         return Err(Refusal::IllFormed(mark as u64));
     }
     Ok(())

@@ -46,7 +46,7 @@ pub record Small (limit left k q depth : ℕ) : Type 0 where
   pub kind : k ≤ Kind.named_argument
   pub state : q ≤ 3
 
-small-along : (limit left k q j r depth : ℕ) → step k q j ≡ some r → Small limit left k q depth → Small limit left k r depth
+pub small-along : (limit left k q j r depth : ℕ) → step k q j ≡ some r → Small limit left k q depth → Small limit left k r depth
 unfolding models
 small-along limit left k q j r depth s h =
     record {
@@ -57,7 +57,7 @@ small-along limit left k q j r depth s h =
       state = leb-true _ _ (rule (λ k q j r. leb r 3) refl k q j r s);
     }
 
-small-down : (limit left k q j r depth : ℕ) → step k q j ≡ some r → Kind.is_text j ≡ false → needs j ≤ left
+pub small-down : (limit left k q j r depth : ℕ) → step k q j ≡ some r → Kind.is_text j ≡ false → needs j ≤ left
     → Small limit left k q depth → Small limit (left - opens j) j start (suc depth)
 small-down limit left k q j r depth s i n h =
     let d = needs-demand j in

@@ -1,62 +1,40 @@
 -- `marks::after_node` meets its contract: in the loop, as many nodes are open as are counted.
+use Prim.Native.Nat.{◌+◌}
+use native.Mathlib.Nat.{add-zero}
 use native.Mathlib.Omega.{arith}
-use Rattle.tree.proofs.Words.{kind-inside, none_passed, passing-first, passing-open}
+use mathlib.Core.Path.{◌≡◌, ap}
+use lib.ListN.{length}
+use Rattle.tree.proofs.Words.{kind-in-part, part-length, none_passed, passing-first, passing-open}
 use Rattle.tree.proofs.Words.{passing-close, passing-last, passing-end}
 use Rattle.tree.proofs.marks.after_node.Goals as goal
+use Rattle.tree.proofs.marks.after_node.Goals.{then-kind-lt-CLOSING, else-kind-lt-CLOSING+else-depth-eq0}
 
-pub kind_count-count-requires : goal.kind_count-count-requires
-kind_count-count-requires c = tt
+pub returns-then-kinds-mark : goal.returns-then-kinds-mark
+returns-then-kinds-mark c = none_passed _ _ (rw c.kinds-kinds.ensures at c.if-kinds-mark.true)
 
-pub returns-then-count-mark : goal.returns-then-count-mark
-returns-then-count-mark c = none_passed c.args.tree.now c.args.mark (omega arith)
-
-pub overflow_add-next : goal.overflow_add-next
-overflow_add-next c = let a = c.args in omega (arith, kind-inside a.tree.now a.mark (omega arith))
-
-pub loop-next-init : goal.loop-next-init
-loop-next-init c = passing-first c.args.tree.now c.args.mark (omega arith)
-
-pub overflow_add-kind : goal.overflow_add-kind
-overflow_add-kind c = let a = c.args in let l = c.loop-next in omega (arith, kind-inside a.tree.now l.next (omega arith))
-
-pub offset_bounds-tree-next : goal.offset_bounds-tree-next
-offset_bounds-tree-next c =
-    let a = c.args in let l = c.loop-next in omega (arith, kind-inside a.tree.now l.next (omega arith))
-
-pub bounds-tree-next : goal.bounds-tree-next
-bounds-tree-next c = let a = c.args in let l = c.loop-next in omega (arith, kind-inside a.tree.now l.next (omega arith))
-
-pub overflow_add-next-in-loop-next : goal.overflow_add-next-in-loop-next
-overflow_add-next-in-loop-next c =
-    let a = c.args in let l = c.loop-next in omega (arith, kind-inside a.tree.now l.next (omega arith))
-
-pub overflow_add-depth : goal.overflow_add-depth
-overflow_add-depth c =
-    let a = c.args in let l = c.loop-next in omega (arith, l.invariant.small, kind-inside a.tree.now l.next (omega arith))
-
-pub loop-next-smaller-then-kind-lt-CLOSING : goal.loop-next-smaller-then-kind-lt-CLOSING
-loop-next-smaller-then-kind-lt-CLOSING c = omega arith
-
-pub loop-next-preserved-then-kind-lt-CLOSING : goal.loop-next-preserved-then-kind-lt-CLOSING
-loop-next-preserved-then-kind-lt-CLOSING c =
-    let a = c.args in
-    let l = c.loop-next in passing-open a.tree.now a.mark l.invariant (omega arith) c.if-kind-lt-CLOSING.true
-
-pub overflow_sub-depth : goal.overflow_sub-depth
-overflow_sub-depth c = c.loop-next.invariant.deep
+pub loop-i-init : goal.loop-i-init
+loop-i-init c = rw add-zero (passing-first _ _ (rw c.kinds-kinds.ensures at c.if-kinds-mark.false))
 
 pub returns-then-depth-eq0 : goal.returns-then-depth-eq0
 returns-then-depth-eq0 c =
-    let a = c.args in
-    let l = c.loop-next in passing-last a.tree.now a.mark l.invariant (omega arith) (omega arith) c.if-depth-eq0.true
+    let k = kind-in-part _ _ _ _ c.kinds-kinds.ensures c.loop-i-test.true in
+    passing-last _ _ c.loop-i.invariant k.0 (rw k.1 at c.if-kind-lt-CLOSING.false) c.if-depth-eq0.true
 
-pub loop-next-smaller : goal.loop-next-smaller
-loop-next-smaller c = omega arith
-
-pub loop-next-preserved : goal.loop-next-preserved
-loop-next-preserved c =
-    let a = c.args in
-    let l = c.loop-next in passing-close a.tree.now a.mark l.invariant (omega arith) (omega arith) c.if-depth-eq0.false
+pub loop-i-preserved : goal.loop-i-preserved
+loop-i-preserved c =
+    let k = kind-in-part _ _ _ _ c.kinds-kinds.ensures c.loop-i-test.true in
+    let i = c.loop-i.i in
+    let e : c.args.mark + 1 + (i + 1) ≡ c.args.mark + 1 + i + 1 = omega arith in
+    rw e
+    (elim c.if-kind-lt-CLOSING.branch [
+      | then-kind-lt-CLOSING w ↦ rw w.depth-is (passing-open _ _ c.loop-i.invariant k.0 (rw k.1 at w.if-kind-lt-CLOSING.true))
+      | else-kind-lt-CLOSING+else-depth-eq0 w ↦ rw w.depth-is
+          (passing-close _ _ c.loop-i.invariant k.0 (rw k.1 at w.if-kind-lt-CLOSING.false) w.if-depth-eq0.false)
+    ])
 
 pub returns : goal.returns
-returns c = let a = c.args in let l = c.loop-next in passing-end a.tree.now a.mark l.invariant (omega arith)
+returns c =
+    let n = part-length c.args.tree.now _ (c.args.mark + 1) c.kinds-kinds.ensures in
+    let e = ap length c.kinds-kinds.ensures in
+    let l : length c.kinds-kinds.result.now ≡ c.args.mark + 1 + c.loop-i.i = omega (arith, n, c.loop-i-test.false) in
+    rw l (passing-end _ _ c.loop-i.invariant (omega arith))

@@ -19,12 +19,12 @@ returns-then-not-sizes_fit c =
 pub check_shape-requires : goal.check_shape-requires
 check_shape-requires c = sym c.sizes_fit.ensures ∙ not-false _ c.if-not-sizes_fit.false-raw
 
-pub returns-in-IllFormed : goal.returns-in-IllFormed
-returns-in-IllFormed c =
+pub returns-in-Err : goal.returns-in-Err
+returns-in-Err c =
     let s = source-passes _ (none_of _ c.in_ok-test_source.ensures.tested) in
     refused
     (shape-off _ _ s.0 s.1 (sym c.sizes_fit.ensures ∙ not-false _ c.if-not-sizes_fit.false-raw) _
-    (ill-shaped _ _ (sym c.in-IllFormed.is ∙ c.check_shape.ensures)))
+    (ill-shaped _ _ (sym c.in-Err.is ∙ c.check_shape.ensures)))
 
 pub returns : goal.returns
 returns c =
