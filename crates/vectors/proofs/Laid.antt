@@ -6,9 +6,11 @@ use mathlib.Core.List.{List, [], ◌∷◌, ◌++◌, append_assoc}
 use lib.ListN.{length, get_or, take, drop, replicate, length-append, length-replicate, length-drop}
 use lib.Seq.{drop-drop, length-take-le}
 use Rattle.syntax.specs.declared.answer.Answer.{Answer}
-use Rattle.syntax.specs.Answer.{number_of, Effect, effect_of, slice_by, slice_after}
+use Rattle.syntax.specs.declared.answer.Answer.TheVariants.{Accepted, TooLong, NotUtf8, TreeTooShort, ErrorsTooShort}
+use Rattle.syntax.specs.declared.answer.Answer.TheVariants.{TooDeep, IllFormed, OutputTooShort}
+use Rattle.syntax.specs.Answer.{number_of, value_of, Effect, effect_of, slice_by, slice_after}
 use Rattle.syntax.specs.Layout.{array}
-use Rattle.laws.specs.Effect.{writes, zeroes, leaves}
+use Rattle.laws.specs.Effect.{accepted, writes, zeroes, leaves}
 use Rattle.vectors.specs.Stored.{between, shorts}
 use Rattle.vectors.specs.Agreement.{Stores, filling, filled, laid, laid_length, left}
 use Rattle.vectors.specs.declared.compare.Arrays.{Arrays}
@@ -111,6 +113,14 @@ module _ (s : List ℕ) (a : Arrays) (f g : List ℕ) (st : Stores a f g) where
 
 -- the same of a slice that refusal 5 left
 module _ (s : List ℕ) (n : ℕ) where
+  pub zeroed-long : s ≡ replicate n 0 ++ drop n (filled (length s)) → n ≤ length s
+  zeroed-long e = let k = simp (length-append, length-replicate) at (ap length e) in omega arith
+
+  pub zeroed-first : s ≡ replicate n 0 ++ drop n (filled (length s)) → take n s ≡ replicate (length (take n s)) 0
+  zeroed-first e =
+      let p = first_part s (replicate n 0) (drop n (filled (length s))) n (length-replicate n 0) e in
+      p ∙ ap (λ i. replicate i 0) (sym (ap length p ∙ length-replicate n 0))
+
   pub zeroed_rest : s ≡ replicate n 0 ++ drop n (filled (length s))
       → between n (length s) s ≡ replicate (length (between n (length s) s)) filling
   unfolding filled
@@ -123,20 +133,30 @@ module _ (s : List ℕ) (n : ℕ) where
   zeroed-is h p q =
       parts s (replicate n 0) (drop n (filled (length s))) n (p ∙ ap (λ i. replicate i 0) (length-take-le n s h)) (rest-yes s n filling q)
 
--- what the call leaves, by the number of its answer
+too-deep : (r : Answer) → number_of r ≡ 5 → r ≡ TooDeep (value_of r)
+too-deep (TooDeep v) e = refl
+too-deep (Accepted v) e = absurd (omega arith)
+too-deep (TooLong v) e = absurd (omega arith)
+too-deep (NotUtf8 v) e = absurd (omega arith)
+too-deep (TreeTooShort v) e = absurd (omega arith)
+too-deep (ErrorsTooShort v) e = absurd (omega arith)
+too-deep (IllFormed v) e = absurd (omega arith)
+too-deep (OutputTooShort v) e = absurd (omega arith)
+
+-- what the call leaves, by its answer
 module _ (a : Arrays) (f g : List ℕ) (n : ℕ) (r : Answer) where
   by : {e : Effect} → effect_of r ≡ e → left r a f g n ≡ slice_by e (laid_length a) (laid a f g) (filled n)
   unfolding left slice_after
   by h = ap (λ e. slice_by e (laid_length a) (laid a f g) (filled n)) h
 
-  pub left_laid : number_of r ≡ 0 → left r a f g n ≡ laid a f g ++ drop (laid_length a) (filled n)
+  pub left_laid : {v : ℕ} → r ≡ Accepted v → left r a f g n ≡ laid a f g ++ drop (laid_length a) (filled n)
   unfolding slice_by
-  left_laid e = by (writes r e)
+  left_laid e = by (writes r (ap number_of e))
 
-  pub left-zeroed : number_of r ≡ 5 → left r a f g n ≡ replicate (laid_length a) 0 ++ drop (laid_length a) (filled n)
+  pub left-zeroed : {v : ℕ} → r ≡ TooDeep v → left r a f g n ≡ replicate (laid_length a) 0 ++ drop (laid_length a) (filled n)
   unfolding slice_by
-  left-zeroed e = by (zeroes r e)
+  left-zeroed e = by (zeroes r (ap number_of e))
 
-  pub left-filled : (number_of r ≡ 0 → ⊥) → (number_of r ≡ 5 → ⊥) → left r a f g n ≡ filled n
+  pub left-filled : ((v : ℕ) → r ≡ Accepted v → ⊥) → ((v : ℕ) → r ≡ TooDeep v → ⊥) → left r a f g n ≡ filled n
   unfolding slice_by
-  left-filled p q = by (leaves r p q)
+  left-filled p q = by (leaves r (λ e. p _ (accepted r e)) (λ e. q _ (too-deep r e)))
