@@ -1,37 +1,37 @@
 -- Entries listed part way: those so far stand in the list, and the others come after the place.
-use Prim.Native.Nat.{ℕ, suc, ◌+◌, ◌*◌, ◌≤◌, ◌<◌}
+use Prim.Native.Nat.{ℕ, suc, ◌+◌, ◌≤◌, ◌<◌}
 use native.Mathlib.Omega.{arith}
 use mathlib.Core.Path.{◌≡◌, refl, sym, ap, ap₂, ◌∙◌}
-use mathlib.Core.List.{List, [], ◌∷◌, ◌++◌, append_assoc, append-nil}
+use mathlib.Core.List.{List, [], ◌∷◌, ◌++◌, map, append_assoc, append-nil, map-append}
 use lib.ListN.{length, drop, set, length-append}
 use lib.Seq.{sets, length-sets}
+use Rattle.std.proofs.lemmas.List.{length-map}
+use Rattle.std.proofs.lemmas.List.Edits.{sets-eq}
 use Rattle.syntax.specs.declared.next.Next.{Next}
 use Rattle.syntax.specs.declared.next.Next.TheVariants.{Entry}
 use Rattle.syntax.specs.Next.{Extent, entries_of, first_place, next_answer}
-use Rattle.laws.specs.Sets.{sets-append, sets_first}
 use Rattle.reader.proofs.Calls.{entries_after, after_first, first-within, Answered, ends, finds, answered}
-use Rattle.entries.specs.Listed.{Lent, words_of, Listed}
+use Rattle.entries.specs.declared.Extent as Declared
+use Rattle.entries.specs.Listed.{Lent, told, Listed}
 
-words_append : (xs ys : List Extent) → words_of (xs ++ ys) ≡ words_of xs ++ words_of ys
-unfolding words_of
-words_append [] ys = refl
-words_append (x ∷ xs) ys = ap (λ r. x.start ∷ x.stop ∷ r) (words_append xs ys)
+push : {A : Type 0} (l : List A) (i : ℕ) (xs : List A) (x : A) → set (sets l i xs) (i + length xs) x ≡ sets l i (xs ++ (x ∷ []))
+push l i [] x = let k : i + 0 ≡ i = omega arith in ap (λ k. set l k x) k
+push l i (y ∷ xs) x =
+    let k : i + suc (length xs) ≡ suc i + length xs = omega arith in
+    ap (λ k. set (sets (set l i y) (suc i) xs) k x) k ∙ push (set l i y) (suc i) xs x
 
-words-length : (xs : List Extent) → length (words_of xs) ≡ 2 * length xs
-unfolding words_of
-words-length [] = refl
-words-length (x ∷ xs) = omega (arith, words-length xs)
+length-told : (xs : List Extent) → length (map told xs) ≡ length xs
+length-told xs = length-map xs told
 
-pub record Going (s ws ws' : List ℕ) (at n : ℕ) : Type 0 where
+pub record Going (s : List ℕ) (ws ws' : List Declared.Extent) (at n : ℕ) : Type 0 where
   pub inside : at ≤ length s
   pub few : n ≤ at
   pub done : List Extent
   pub count : n ≡ length done
   pub all : done ++ entries_after s at ≡ entries_of s
-  pub words : ws' ≡ sets ws 0 (words_of done)
+  pub listed : ws' ≡ sets ws 0 (map told done)
 
-pub going_start : (s ws : List ℕ) {at : ℕ} → at ≡ first_place s → Going s ws ws at 0
-unfolding words_of
+pub going_start : (s : List ℕ) (ws : List Declared.Extent) {at : ℕ} → at ≡ first_place s → Going s ws ws at 0
 going_start s ws {at} h =
     record {
       inside = omega (arith, first-within s);
@@ -39,11 +39,11 @@ going_start s ws {at} h =
       done = [];
       count = refl;
       all = ap (entries_after s) h ∙ after_first s;
-      words = refl;
+      listed = refl;
     }
 
-pub going-long : {s ws ws' : List ℕ} {at n : ℕ} → Going s ws ws' at n → length ws' ≡ length ws
-going-long {ws = ws} g = ap length g.words ∙ length-sets ws 0 (words_of g.done)
+pub going-long : {s : List ℕ} {ws ws' : List Declared.Extent} {at n : ℕ} → Going s ws ws' at n → length ws' ≡ length ws
+going-long {ws = ws} g = ap length g.listed ∙ length-sets ws 0 (map told g.done)
 
 -- the entry after a place: how far it lies, and that it is the first of those after the place
 pub record Found (s : List ℕ) (at a e : ℕ) : Type 0 where
@@ -52,14 +52,14 @@ pub record Found (s : List ℕ) (at a e : ℕ) : Type 0 where
   pub within : e ≤ length s
   pub first : entries_after s at ≡ record { start = a; stop = e } ∷ entries_after s e
 
-module _ {s t ws ws' : List ℕ} {at n : ℕ} {r : Next} (l : Lent s t ws) (g : Going s ws ws' at n) (m : ℕ)
+module _ {s t : List ℕ} {ws ws' : List Declared.Extent} {at n : ℕ} {r : Next} (l : Lent s t ws) (g : Going s ws ws' at n) (m : ℕ)
     (k : m ≡ length t) (h : r ≡ next_answer s at m) where
-  told : Answered s at m
-  told = answered s at m (omega (arith, l.source, l.tree))
+  told-so : Answered s at m
+  told-so = answered s at m (omega (arith, l.source, l.tree))
 
   module _ {a e : ℕ} (q : r ≡ Entry a e) where
     pub found : Found s at a e
-    found = go told
+    found = go told-so
       where
         go : Answered s at m → Found s at a e
         go (ends p x) = let z : ◌≡◌ {A = ℕ} 0 1 = cc in absurd (omega arith)
@@ -74,38 +74,34 @@ module _ {s t ws ws' : List ℕ} {at n : ℕ} {r : Next} (l : Lent s t ws) (g : 
             }
 
     -- it is listed
-    pub going_next : Going s ws (set (set ws' (2 * n) a) (2 * n + 1) e) e (n + 1)
-    unfolding words_of
+    pub going_next : Going s ws (set ws' n (record { start = a; stop = e })) e (n + 1)
     going_next =
         let x : Extent = record { start = a; stop = e } in
         let d = g.done in
-        let w = words_of d in
-        let i : 2 * n ≡ 0 + length w = omega (arith, words-length d, g.count) in
-        let j : 2 * n + 1 ≡ suc (0 + length w) = omega (arith, words-length d, g.count) in
+        let i : n ≡ 0 + length (map told d) = omega (arith, length-told d, g.count) in
         record {
           inside = found.within;
           few = omega (arith, g.few, found.before, found.some);
           done = d ++ (x ∷ []);
           count = omega (arith, g.count, length-append d (x ∷ []));
           all = append_assoc d (x ∷ []) (entries_after s e) ∙ ap (λ xs. d ++ xs) (sym found.first) ∙ g.all;
-          words = ap (λ z. set (set z (2 * n) a) (2 * n + 1) e) g.words
-              ∙ ap₂ (λ u v. set (set (sets ws 0 w) u a) v e) i j ∙ sets-append ws 0 w (a ∷ e ∷ [])
-              ∙ ap (sets ws 0) (sym (words_append d (x ∷ [])));
+          listed = ap (λ z. set z n (told x)) g.listed ∙ ap (λ k. set (sets ws 0 (map told d)) k (told x)) i
+              ∙ push ws 0 (map told d) (told x) ∙ ap (sets ws 0) (sym (map-append told d (x ∷ [])));
         }
 
   -- no entry: all are listed
   pub going_end : ((a e : ℕ) → r ≡ Entry a e → ⊥) → Listed s ws ws' n
-  going_end o = go told
+  going_end o = go told-so
     where
       go : Answered s at m → Listed s ws ws' n
       go (ends p x) =
           let d = g.done in
           let all : d ≡ entries_of s = sym (append-nil d) ∙ ap (λ xs. d ++ xs) (sym x) ∙ g.all in
-          let i : length (words_of d) ≡ 2 * n = omega (arith, words-length d, g.count) in
-          let b : 2 * n ≤ length ws = omega (arith, g.few, g.inside, l.source, l.list) in
+          let i : 0 + length (map told d) ≡ n = omega (arith, length-told d, g.count) in
+          let b : 0 + length (map told d) ≤ length ws = omega (arith, g.few, g.inside, l.source, l.list) in
           record {
             count = g.count ∙ ap length all;
-            words = g.words ∙ sets_first ws (words_of d) (omega arith) ∙ ap₂ (λ u v. words_of u ++ drop v ws) all i;
-            within = omega (arith, going-long g);
+            entries = g.listed ∙ sets-eq (map told d) ws 0 b ∙ ap₂ (λ u v. map told u ++ drop v ws) all i;
+            within = omega (arith, going-long g, g.few, g.inside, l.source, l.list);
           }
       go (finds {a = b} {e = f} p x i j w) = absurd (o b f (h ∙ p))

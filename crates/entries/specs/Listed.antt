@@ -1,24 +1,24 @@
--- The entries of a source in words.
-use Rattle.std.specs.Prelude.{ℕ, ◌*◌, ◌≤◌, ◌≡◌, List, [], ◌∷◌, ◌++◌, length, drop}
+-- The entries of a source in a list.
+use Rattle.std.specs.Prelude.{ℕ, ◌≤◌, ◌≡◌, List, ◌++◌, length, drop, map}
 use Rattle.syntax.specs.Layout.{tree_layout}
 use Rattle.syntax.specs.Next.{Extent, entries_of}
+use Rattle.entries.specs.declared.Extent as Declared
 
 -- the longest source
 abbrev pub max_source : ℕ
 max_source = 4_000
 
-pub record Lent (s t ws : List ℕ) : Type 0 where
+pub record Lent (s t : List ℕ) (xs : List Declared.Extent) : Type 0 where
   pub source : length s ≤ max_source
   pub tree : tree_layout max_source ≤ length t
-  pub list : 2 * max_source ≤ length ws
+  pub list : max_source ≤ length xs
 
--- the start and the stop of each
-unfoldable pub words_of : List Extent → List ℕ
-words_of [] = []
-words_of (x ∷ xs) = x.start ∷ x.stop ∷ words_of xs
+-- an entry as the program lists it
+abbrev pub told : Extent → Declared.Extent
+told x = record { start = x.start; stop = x.stop }
 
 -- r entries were listed, all that there are; past them nothing has changed
-pub record Listed (s ws ws' : List ℕ) (r : ℕ) : Type 0 where
+pub record Listed (s : List ℕ) (xs xs' : List Declared.Extent) (r : ℕ) : Type 0 where
   pub count : r ≡ length (entries_of s)
-  pub words : ws' ≡ words_of (entries_of s) ++ drop (2 * r) ws
-  pub within : 2 * r ≤ length ws'
+  pub entries : xs' ≡ map told (entries_of s) ++ drop r xs
+  pub within : r ≤ length xs'
