@@ -82,10 +82,8 @@ fn replay_file<R: Read>(rt: &impl Print, path: &str, file: &mut R) -> io::Result
 
 // The system's text for an error, without the number that std puts behind it.
 fn without_code(text: &str) -> &str {
-    match text.split_once(" (os error ") {
-        Some((before, _)) => before,
-        None => text,
-    }
+    text.split_once(" (os error ")
+        .map_or(text, |(before, _)| before)
 }
 
 // Says why a file can't be opened.

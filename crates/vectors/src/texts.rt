@@ -14,9 +14,6 @@ use syntax::answer::Answer;
 // What an output holds before the call. No text has this byte by itself.
 const FILLING: u8 = 170;
 
-// The most words of a case's tree, and the most bytes of its text.
-const MOST: usize = 1_000_000;
-
 impl Stored<HEAD> for Written {
     ghost use Rattle.vectors.specs.declared.room.TheConstants.{LONGEST, LISTING_ROOM, TREE_ROOM, OUTPUT_ROOM};
 
@@ -32,8 +29,7 @@ impl Stored<HEAD> for Written {
             && self.output <= OUTPUT_ROOM
             && self.firsts <= self.middle
             && self.seconds <= self.tree - self.middle
-            && self.tree <= MOST
-            && self.text <= MOST
+            && self.text <= LISTING_ROOM
             && self.word_bytes() + self.text <= LISTING_ROOM
     }
 
