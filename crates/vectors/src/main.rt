@@ -3,7 +3,7 @@
 // name the files, which compare/vectors.py and compare/texts.py make.
 #![tactic(auto)]
 
-ghost use Rattle.std.specs.Prelude.{◌≤◌, ◌<◌, IfOk};
+ghost use Rattle.std.specs.Prelude.{◌≤◌, IfOk};
 
 mod compare;
 mod replay;
@@ -45,7 +45,6 @@ fn replay_all<const N: usize, C: Stored<N>, R: Read>(
     file: &mut R,
     room: &mut Room,
 ) -> io::Result<Tally>
-    requires { (1 ≤ N) × (N < 256) }
     ensures { IfOk result (λ tally. tally.different ≤ tally.cases) }
 {
     let mut different = 0;

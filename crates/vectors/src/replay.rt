@@ -52,11 +52,14 @@ impl From<[u8; HEAD]> for Case {
 }
 
 impl Stored<HEAD> for Case {
+    ghost use Rattle.std.proofs.Common.{rules};
     ghost use Rattle.vectors.specs.declared.room.TheConstants.{LONGEST, LISTING_ROOM, TREE_ROOM, ERROR_ROOM};
 
     ghost fits = { λ case. Fits case LONGEST LISTING_ROOM TREE_ROOM ERROR_ROOM };
 
     ghost replays = { λ case before after r. Replayed case before.source after.source before.listing r };
+
+    ghost head_size = { Prim.search rules };
 
     fn fits(self) -> bool {
         self.length <= LONGEST

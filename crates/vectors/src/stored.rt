@@ -36,6 +36,9 @@ pub trait Stored<const N: usize>: Copy + From<[u8; N]> {
     fn replay(self, room: &mut Room) -> bool
         requires { fits self }
         ensures { replays self room.old room.new result };
+
+    // A head has a byte, and is small.
+    ghost head_size: { (1 ≤ N) × (N < 256) };
 }
 
 // The number of two bytes.
@@ -83,9 +86,7 @@ fn read_head<const N: usize, R: Read>(file: &mut R) -> io::Result<Option<[u8; N]
 pub fn replay_next<const N: usize, C: Stored<N>, R: Read>(
     file: &mut R,
     room: &mut Room,
-) -> io::Result<Option<bool>>
-    requires { (1 ≤ N) × (N < 256) }
-{
+) -> io::Result<Option<bool>> {
     let Some(head) = read_head::<N, R>(file)? else {
         return Ok(None);
     };

@@ -15,11 +15,14 @@ use syntax::answer::Answer;
 const FILLING: u8 = 170;
 
 impl Stored<HEAD> for Written {
+    ghost use Rattle.std.proofs.Common.{rules};
     ghost use Rattle.vectors.specs.declared.room.TheConstants.{LONGEST, LISTING_ROOM, TREE_ROOM, OUTPUT_ROOM};
 
     ghost fits = { λ case. FitsText case LONGEST LISTING_ROOM TREE_ROOM OUTPUT_ROOM };
 
     ghost replays = { λ case before after r. Rewritten case before.source after.source before.listing r };
+
+    ghost head_size = { Prim.search rules };
 
     fn fits(self) -> bool {
         self.length <= LONGEST
