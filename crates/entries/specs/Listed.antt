@@ -1,5 +1,5 @@
--- The entries of a source in words.
-use Rattle.std.specs.Prelude.{ℕ, ◌*◌, ◌≤◌, ◌≡◌, List, [], ◌∷◌, ◌++◌, length, drop}
+-- The entries of a source in a list.
+use Rattle.std.specs.Prelude.{ℕ, ◌≤◌, ◌≡◌, List, ◌++◌, length, drop}
 use Rattle.syntax.specs.Layout.{tree_layout}
 use Rattle.syntax.specs.declared.next.Extent.{Extent}
 use Rattle.syntax.specs.Next.{entries_of}
@@ -8,18 +8,13 @@ use Rattle.syntax.specs.Next.{entries_of}
 abbrev pub max_source : ℕ
 max_source = 4_000
 
-pub record Lent (s t ws : List ℕ) : Type 0 where
+pub record Lent (s t : List ℕ) (xs : List Extent) : Type 0 where
   pub source : length s ≤ max_source
   pub tree : tree_layout max_source ≤ length t
-  pub list : 2 * max_source ≤ length ws
-
--- the start and the stop of each
-unfoldable pub words_of : List Extent → List ℕ
-words_of [] = []
-words_of (x ∷ xs) = x.start ∷ x.stop ∷ words_of xs
+  pub list : max_source ≤ length xs
 
 -- r entries were listed, all that there are; past them nothing has changed
-pub record Listed (s ws ws' : List ℕ) (r : ℕ) : Type 0 where
+pub record Listed (s : List ℕ) (xs xs' : List Extent) (r : ℕ) : Type 0 where
   pub count : r ≡ length (entries_of s)
-  pub words : ws' ≡ words_of (entries_of s) ++ drop (2 * r) ws
-  pub within : 2 * r ≤ length ws'
+  pub entries : xs' ≡ entries_of s ++ drop r xs
+  pub within : r ≤ length xs'

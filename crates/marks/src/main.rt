@@ -7,9 +7,9 @@ ghost use Rattle.marks.specs.Report.{max_source, Lent, Reported};
 mod listing;
 
 use crate::listing::{put_pair, put_reading};
+use input::{InputError, read_source};
 use parser::read::read;
 use std::io;
-use std::io::{Cursor, Read};
 use syntax::layout::{ERROR_WORDS_A_BYTE, SIZES, TREE_WORDS_A_BYTE};
 
 // The most bytes of a source.
@@ -43,13 +43,9 @@ fn print(rt: &impl Print, source: &[u8]) -> io::Result<()>
 fn main(rt: HostRuntime) -> io::Result<()> {
     // One byte more than a source may have, so that a longer one is not cut.
     let mut buffer = [0u8; MAX_SOURCE + 1];
-    let mut input = rt.stdin().take(MAX_SOURCE as u64 + 1);
-    let Ok(size) = io::copy(&mut input, &mut Cursor::new(&mut buffer[..])) else {
-        return eprintln!(rt; "marks: standard input cannot be read");
-    };
-    let length = size as usize;
-    if MAX_SOURCE < length {
-        return eprintln!(rt; "marks: more than 1,000 bytes");
+    match read_source(&mut rt.stdin(), &mut buffer) {
+        Ok(length) => print(&rt, &buffer[..length]),
+        Err(InputError::Unreadable) => eprintln!(rt; "marks: standard input cannot be read"),
+        Err(InputError::TooLong) => eprintln!(rt; "marks: more than 1,000 bytes"),
     }
-    print(&rt, &buffer[..length])
 }

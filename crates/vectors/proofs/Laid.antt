@@ -114,6 +114,14 @@ module _ (s : List ℕ) (a : Arrays) (f g : List ℕ) (st : Stores a f g) where
 
 -- the same of a slice that refusal 5 left
 module _ (s : List ℕ) (n : ℕ) where
+  pub zeroed-long : s ≡ replicate n 0 ++ drop n (filled (length s)) → n ≤ length s
+  zeroed-long e = let k = simp (length-append, length-replicate) at (ap length e) in omega arith
+
+  pub zeroed-first : s ≡ replicate n 0 ++ drop n (filled (length s)) → take n s ≡ replicate (length (take n s)) 0
+  zeroed-first e =
+      let p = first_part s (replicate n 0) (drop n (filled (length s))) n (length-replicate n 0) e in
+      p ∙ ap (λ i. replicate i 0) (sym (ap length p ∙ length-replicate n 0))
+
   pub zeroed_rest : s ≡ replicate n 0 ++ drop n (filled (length s))
       → between n (length s) s ≡ replicate (length (between n (length s) s)) filling
   unfolding filled

@@ -1,21 +1,21 @@
 -- Laws that the proofs share: on tests, and on lists of words and what is stored of them.
-use Prim.Native.Nat.{ℕ, zero, suc, ◌-◌, ◌*◌, ◌≤◌, ◌<◌}
+use Prim.Native.Nat.{ℕ, zero, suc, ◌+◌, ◌-◌, ◌*◌, ◌≤◌}
 use native.Mathlib.Omega.{arith}
-use native.Mathlib.Numerals.{add-one}
-use mathlib.Core.Path.{◌≡◌, refl, sym, ap, ◌∙◌}
+use mathlib.Core.Path.{◌≡◌, refl, sym, ap, ap₂, ◌∙◌}
 use mathlib.Core.Bool.{Bool, true, false}
-use mathlib.Core.List.{List, [], ◌∷◌, ◌++◌}
-use lib.ListN.{length, get_or, take, drop, replicate, length-append, length-replicate, get_or-replicate, take-append-drop, length-drop}
-use lib.Seq.{ext_get_or, take_all, take_at, drop_at}
+use mathlib.Core.List.{List, [], ◌∷◌, ◌++◌, map}
+use lib.Dec.{eqb}
+use Rattle.std.specs.List.{list_all}
+use Rattle.std.specs.Simd.{first_chunks}
+use Rattle.std.proofs.lemmas.Bool.{false≢true, and_parts, and_from, eqb-true, eq-eqb}
+use lib.ListN.{length, take, drop, replicate, length-append, length-replicate, take-append-drop, length-drop}
+use lib.Seq.{take_all, take_at, drop_at}
 use Rattle.syntax.specs.Layout.{array}
 use Rattle.vectors.specs.Stored.{short_at, shorts}
 use Rattle.vectors.specs.Agreement.{Tells}
 
-pub tells-yes : {P : Type 0} → P → Tells true P
-tells-yes p = record { yes = λ _. p; no = λ _. refl }
-
-pub tells-no : {P : Type 0} → (P → ⊥) → Tells false P
-tells-no h = record { yes = λ e. absurd (let z : ◌≡◌ {A = ℕ} 0 1 = cc in omega arith); no = λ p. absurd (h p) }
+pub tells-false : {r : Bool} {P : Type 0} → r ≡ false → (P → ⊥) → Tells r P
+tells-false e h = record { yes = λ q. absurd (false≢true (sym e ∙ q)); no = λ p. absurd (h p) }
 
 pub tells-same : {r : Bool} {P Q : Type 0} → (P → Q) → (Q → P) → Tells r P → Tells r Q
 tells-same f g t = record { yes = λ e. f (t.yes e); no = λ q. t.no (g q) }
@@ -24,16 +24,22 @@ pub tells-equal : {r : Bool} {A : Type 0} {x y z : A} → y ≡ z → Tells r (x
 tells-equal q t = tells-same (λ e. e ∙ q) (λ e. e ∙ sym q) t
 
 pub untold : {r : Bool} {P : Type 0} → Tells r P → r ≡ false → P → ⊥
-untold t e p = let q = t.no p in let z : ◌≡◌ {A = ℕ} 0 1 = cc in omega arith
+untold t e p = false≢true (sym e ∙ t.no p)
 
--- all words are v
-pub all_same : (words : List ℕ) (v i : ℕ) → length words ≤ i → ((k : ℕ) → k < i → get_or words k 0 ≡ v) → words ≡ replicate (length words) v
-all_same words v i h f =
-    ext_get_or 0 words (replicate (length words) v) (sym (length-replicate (length words) v))
-    (λ k l. f k (omega arith) ∙ sym (get_or-replicate (length words) k v 0 l))
+-- whether all words are v
+all-is : (v : ℕ) (words : List ℕ) → list_all (λ x. eqb x v) words ≡ true → words ≡ replicate (length words) v
+all-is v [] e = refl
+all-is v (x ∷ words) e = let b = and_parts (eqb x v) _ e in ap₂ (λ y ys. y ∷ ys) (eqb-true x v b.0) (all-is v words b.1)
 
-pub one_same : (words : List ℕ) (v i : ℕ) → i < length words → words ≡ replicate (length words) v → get_or words i 0 ≡ v
-one_same words v i l e = ap (λ x. get_or x i 0) e ∙ get_or-replicate (length words) i v 0 l
+is_all : (v : ℕ) (words : List ℕ) → words ≡ replicate (length words) v → list_all (λ x. eqb x v) words ≡ true
+is_all v [] e = refl
+is_all v (x ∷ words) e =
+    let x-v : x ≡ v = cc in
+    let same : words ≡ replicate (length words) v = cc in
+    and_from (eqb x v) _ (eq-eqb x v x-v) (is_all v words same)
+
+pub tells-all : (v : ℕ) (words : List ℕ) {r : Bool} → r ≡ list_all (λ x. eqb x v) words → Tells r (words ≡ replicate (length words) v)
+tells-all v words e = record { yes = λ q. all-is v words (sym e ∙ q); no = λ q. e ∙ is_all v words q }
 
 -- stored numbers
 pub length-shorts : (n : ℕ) (bytes : List ℕ) → length bytes ≡ 2 * n → length (shorts bytes) ≡ n
@@ -44,25 +50,14 @@ length-shorts zero (a ∷ bytes) e = absurd (omega arith)
 length-shorts (suc n) (a ∷ []) e = absurd (omega arith)
 length-shorts (suc n) (a ∷ b ∷ bytes) e = ap suc (length-shorts n bytes (omega arith))
 
-pub short-in : (n : ℕ) (bytes : List ℕ) → length bytes ≡ 2 * n → (i : ℕ) → i < n → get_or (shorts bytes) i 0 ≡ short_at bytes (2 * i)
+-- chunks of two bytes
+pub shorts-chunks : (n : ℕ) (bytes : List ℕ) → length bytes ≡ 2 * n → map (λ b. short_at b 0) (first_chunks 2 n bytes) ≡ shorts bytes
 unfolding shorts
-short-in n [] e i h = absurd (omega arith)
-short-in n (a ∷ []) e i h = absurd (omega arith)
-short-in n (a ∷ b ∷ bytes) e zero h = refl
-short-in zero (a ∷ b ∷ bytes) e (suc i) h = absurd (omega arith)
-short-in (suc n) (a ∷ b ∷ bytes) e (suc i) h =
-    let k : 2 * suc i ≡ suc (suc (2 * i)) = omega arith in
-    rw (k, add-one) (rw add-one at (short-in n bytes (omega arith) i (omega arith)))
-
-pub all-stored : (words bytes : List ℕ) (i : ℕ) → length bytes ≡ 2 * length words → length words ≤ i
-    → ((k : ℕ) → k < i → get_or words k 0 ≡ short_at bytes (2 * k)) → words ≡ shorts bytes
-all-stored words bytes i e h f =
-    ext_get_or 0 words (shorts bytes) (sym (length-shorts (length words) bytes e))
-    (λ k l. f k (omega arith) ∙ sym (short-in (length words) bytes e k l))
-
-pub one-stored : (words bytes : List ℕ) (i : ℕ) → length bytes ≡ 2 * length words → i < length words
-    → words ≡ shorts bytes → get_or words i 0 ≡ short_at bytes (2 * i)
-one-stored words bytes i e l q = ap (λ x. get_or x i 0) q ∙ short-in (length words) bytes e i l
+shorts-chunks zero [] e = refl
+shorts-chunks (suc n) [] e = absurd (omega arith)
+shorts-chunks zero (a ∷ bytes) e = absurd (omega arith)
+shorts-chunks (suc n) (a ∷ []) e = absurd (omega arith)
+shorts-chunks (suc n) (a ∷ b ∷ bytes) e = ap (λ r. (a + 256 * b) ∷ r) (shorts-chunks n bytes (omega arith))
 
 -- a list in two parts
 pub parts : (s x y : List ℕ) (n : ℕ) → take n s ≡ x → drop n s ≡ y → s ≡ x ++ y

@@ -1,12 +1,10 @@
 -- When the reading call agrees with a case.
-use Rattle.std.specs.Prelude.{ℕ, ◌+◌, ◌*◌, ◌≤◌, ◌≡◌, Bool, true, false, List, ◌∷◌, ◌++◌, length, replicate}
+use Rattle.std.specs.Prelude.{ℕ, ◌+◌, ◌*◌, ◌≤◌, ◌≡◌, Bool, true, List, ◌∷◌, ◌++◌, length, replicate}
 use Rattle.syntax.specs.Answer.{Answer, number_of, value_of, slice_after}
 use Rattle.syntax.specs.Layout.{array, tree_capacity, group_size}
 use Rattle.syntax.specs.Reading.{read_answer, tree_after, errors_after}
 use Rattle.vectors.specs.Stored.{between, shorts, Repeats}
-use Rattle.vectors.specs.declared.stored.Case.{Case}
-use Rattle.vectors.specs.declared.replay.Turn.{Turn}
-use Rattle.vectors.specs.declared.replay.Turn.TheVariants.{End, Same, Different, Unreadable}
+use Rattle.vectors.specs.declared.replay.Case.{Case}
 use Rattle.vectors.specs.declared.compare.Arrays.{Arrays}
 
 -- the answer of a test: whether P holds
@@ -105,16 +103,3 @@ pub record Fits (c : Case) (s l t e : ℕ) : Type 0 where
 pub record Replayed (c : Case) (before after listing : List ℕ) (r : Bool) : Type 0 where
   pub repeats : Repeats c.stored (between 0 c.length before) (between 0 c.length after)
   pub agrees : Tells r (Agrees c (between 0 c.length after) (between 0 (listed c) listing) c.tree c.errors)
-
--- whether a file is over, and how many cases differ in a turn
-abbrev pub over : Turn → Bool
-over End = true
-over Same = false
-over Different = false
-over Unreadable = true
-
-abbrev pub differing : Turn → ℕ
-differing End = 0
-differing Same = 0
-differing Different = 1
-differing Unreadable = 0

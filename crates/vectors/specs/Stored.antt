@@ -1,6 +1,6 @@
 -- What a file of cases holds: numbers, lowest byte first, and bytes.
 use Rattle.std.specs.Prelude.{ℕ, ◌+◌, ◌-◌, ◌*◌, ◌≤◌, ◌<◌, ◌≡◌, List, [], ◌∷◌, length, get_or, take, drop}
-use Rattle.vectors.specs.declared.stored.Case.{Case}
+use Rattle.vectors.specs.declared.replay.Case.{Case}
 
 -- what stands from one index to another
 abbrev pub between : ℕ → ℕ → List ℕ → List ℕ

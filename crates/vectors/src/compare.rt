@@ -1,5 +1,6 @@
-// Comparisons of every word of a slice with what a case has of it.
+// Comparisons of every word of a slice with what is stored of it.
 ghost use Rattle.std.specs.Prelude.{◌+◌, ◌*◌, ◌≤◌, ◌≡◌, ◌++◌, length, replicate, drop};
+ghost use Rattle.std.specs.List.{list_all};
 ghost use Rattle.syntax.specs.Layout.{array};
 ghost use Rattle.vectors.specs.Stored.{shorts};
 ghost use Rattle.vectors.specs.Agreement.{Tells, Stores, filled, laid, laid_length, left};
@@ -20,28 +21,11 @@ pub struct Arrays {
 // What a slice holds before the call; no reading of a short source gives this word.
 pub const FILLING: u32 = 2_863_311_530;
 
-pub fn fill(slice: &mut [u32], v: u32)
-    ensures { slice.new ≡ replicate (length slice.old) v }
+// Whether all items are this one.
+pub fn are_all<T: Copy + PartialEq>(items: &[T], item: T) -> bool
+    ensures { result ≡ list_all (λ x. T.eq x item) items.now }
 {
-    let mut i = 0;
-    while i < slice.len() {
-        slice[i] = v;
-        i += 1;
-    }
-}
-
-// Whether all words are v.
-fn are_all(words: &[u32], v: u32) -> bool
-    ensures { Tells result (words.now ≡ replicate (length words.now) v) }
-{
-    let mut i = 0;
-    while i < words.len() {
-        if words[i] != v {
-            return false;
-        }
-        i += 1;
-    }
-    true
+    items.iter().all(|&x| x == item)
 }
 
 // Whether these are the stored words.
@@ -49,14 +33,8 @@ fn are_stored(words: &[u32], stored: &[u8]) -> bool
     requires { length stored.now ≡ 2 * length words.now }
     ensures { Tells result (words.now ≡ shorts stored.now) }
 {
-    let mut i = 0;
-    while i < words.len() {
-        if words[i] != short(stored, SHORT * i) {
-            return false;
-        }
-        i += 1;
-    }
-    true
+    let stored = stored.as_chunks::<SHORT>().0.iter().map(short);
+    words.iter().zip(stored).all(|(&word, short)| word == short)
 }
 
 // Whether an array has the n stored words, and zeros behind them.
@@ -64,10 +42,8 @@ fn is_array(words: &[u32], stored: &[u8], n: usize) -> bool
     requires { (length stored.now ≡ 2 * n) × (n ≤ length words.now) }
     ensures { Tells result (words.now ≡ array (length words.now) (shorts stored.now)) }
 {
-    if !are_stored(&words[..n], stored) {
-        return false;
-    }
-    are_all(&words[n..], 0)
+    let (start, rest) = words.split_at(n);
+    are_stored(start, stored) && are_all(rest, 0)
 }
 
 // Whether a slice is as acceptance leaves it.
@@ -79,35 +55,19 @@ fn is_laid_out(slice: &[u32], a: Arrays, first: &[u8], second: &[u8]) -> bool
 {
     let middle = SIZES + a.capacity;
     let end = middle + a.size;
-    if slice.len() < end {
-        return false;
-    }
-    if slice[0] != a.count as u32 {
-        return false;
-    }
-    if slice[1] != a.capacity as u32 {
-        return false;
-    }
-    if !is_array(&slice[SIZES..middle], first, a.count) {
-        return false;
-    }
-    if !is_array(&slice[middle..end], second, a.used) {
-        return false;
-    }
-    are_all(&slice[end..], FILLING)
+    end <= slice.len()
+        && slice[0] == a.count as u32
+        && slice[1] == a.capacity as u32
+        && is_array(&slice[SIZES..middle], first, a.count)
+        && is_array(&slice[middle..end], second, a.used)
+        && are_all(&slice[end..], FILLING)
 }
 
 // Whether a slice is as refusal 5 leaves it, its layout being n words long.
 fn is_zeroed(slice: &[u32], n: usize) -> bool
     ensures { Tells result (slice.now ≡ replicate n 0 ++ drop n (filled (length slice.now))) }
 {
-    if slice.len() < n {
-        return false;
-    }
-    if !are_all(&slice[..n], 0) {
-        return false;
-    }
-    are_all(&slice[n..], FILLING)
+    n <= slice.len() && are_all(&slice[..n], 0) && are_all(&slice[n..], FILLING)
 }
 
 // Whether a slice that was filled is as the call that gave this answer leaves it.
@@ -118,6 +78,7 @@ pub fn is_left(answer: Answer, slice: &[u32], a: Arrays, first: &[u8], second: &
 {
     match answer {
         Ok(_) => is_laid_out(slice, a, first, second),
+        // A match of its own: past `Err(Refusal::TooDeep(_))` the proof knows nothing of the refusals that are left.
         Err(refusal) => match refusal {
             Refusal::TooDeep(_) => is_zeroed(slice, SIZES + a.capacity + a.size),
             _ => are_all(slice, FILLING),

@@ -3,55 +3,103 @@ ghost use Rattle.std.specs.Prelude.{◌≡◌, ◌++◌, length, drop};
 ghost use Rattle.vectors.specs.Agreement.{Tells};
 ghost use Rattle.vectors.specs.Written.{filled_bytes, Holds, WroteFilled, AgreesText, FitsText, Rewritten};
 
-use crate::replay::{Turn, fetch, is_answer, read_head};
-use crate::stored::{LONG, repeat};
-use crate::written::{HEAD, Written, lay_tree, written_of};
+use crate::compare::are_all;
+use crate::replay::is_answer;
+use crate::room::{LISTING_ROOM, LONGEST, OUTPUT_ROOM, Room, TREE_ROOM};
+use crate::stored::{Stored, repeat};
+use crate::written::{HEAD, Written};
 use serializer::write::write;
-use std::io::Read;
 use syntax::answer::Answer;
 
 // What an output holds before the call. No text has this byte by itself.
 const FILLING: u8 = 170;
 
-// The most words of a case's tree, and the most bytes of its text.
-const MOST: usize = 1_000_000;
+impl Stored<HEAD> for Written {
+    ghost use Rattle.std.proofs.Common.{rules};
+    ghost use Rattle.vectors.specs.declared.room.TheConstants.{LONGEST, LISTING_ROOM, TREE_ROOM, OUTPUT_ROOM};
 
-fn fill_bytes(output: &mut [u8])
-    ensures { output.new ≡ filled_bytes (length output.old) }
-{
-    let mut i = 0;
-    while i < output.len() {
-        output[i] = FILLING;
-        i += 1;
+    ghost fits = { λ case. FitsText case LONGEST LISTING_ROOM TREE_ROOM OUTPUT_ROOM };
+
+    ghost replays = { λ case before after r. Rewritten case before.source after.source before.listing r };
+
+    ghost head_size = { Prim.search rules };
+
+    fn fits(self) -> bool {
+        self.length <= LONGEST
+            && self.stored <= self.length
+            && self.tree <= TREE_ROOM
+            && self.middle <= self.tree
+            && self.output <= OUTPUT_ROOM
+            && self.firsts <= self.middle
+            && self.seconds <= self.tree - self.middle
+            && self.text <= LISTING_ROOM
+            && self.word_bytes() + self.text <= LISTING_ROOM
+    }
+
+    fn sizes(self) -> (usize, usize) {
+        (self.stored, self.word_bytes() + self.text)
+    }
+
+    fn replay(self, room: &mut Room) -> bool {
+        let Room {
+            source,
+            listing,
+            tree,
+            errors: _,
+            output,
+        } = room;
+        self.replay_in(source, listing, tree, output)
     }
 }
 
-// Whether all bytes are as they were filled.
-fn are_filled(bytes: &[u8]) -> bool
-    ensures { Tells result (bytes.now ≡ filled_bytes (length bytes.now)) }
-{
-    let mut i = 0;
-    while i < bytes.len() {
-        if bytes[i] != FILLING {
-            return false;
-        }
-        i += 1;
+impl Written {
+    // Writes the case's tree into an output that is filled first.
+    fn write_filled(
+        self,
+        source: &[u8],
+        listing: &[u8],
+        tree: &mut [u32],
+        output: &mut [u8],
+    ) -> Answer
+        requires { Holds self listing.now (length tree.old) }
+        ensures { WroteFilled self source.now listing.now (length output.old)
+            output.new result }
+    {
+        self.lay_tree(listing, tree);
+        output.fill(FILLING);
+        write(source, tree, output, self.junk)
     }
-    true
-}
 
-fn are_same(bytes: &[u8], text: &[u8]) -> bool
-    requires { length bytes.now ≡ length text.now }
-    ensures { Tells result (bytes.now ≡ text.now) }
-{
-    let mut i = 0;
-    while i < bytes.len() {
-        if bytes[i] != text[i] {
-            return false;
-        }
-        i += 1;
+    // Whether the writing call answers as the case has it, and leaves the output so.
+    fn agrees(self, source: &[u8], listing: &[u8], tree: &mut [u32], output: &mut [u8]) -> bool
+        requires { Holds self listing.now (length tree.old) }
+        ensures { Tells result (AgreesText self source.now listing.now (length output.old)) }
+    {
+        let answer = self.write_filled(source, listing, tree, output);
+        is_answer(answer, self.number, self.value) && is_text(output, &listing[self.word_bytes()..])
     }
-    true
+
+    // Replays the case, whose stored bytes, words and text stand at the start of what is lent. As in the reading call's cases it takes
+    // slices; that one and this promise different things of different slices, so they are two, as the two `agrees` are.
+    fn replay_in(
+        self,
+        source: &mut [u8],
+        listing: &[u8],
+        tree: &mut [u32],
+        output: &mut [u8],
+    ) -> bool
+        requires { FitsText self (length source.old) (length listing.now) (length tree.old) (length output.old) }
+        ensures { Rewritten self source.old source.new listing.now result }
+    {
+        let listed = self.word_bytes() + self.text;
+        repeat(&mut source[..self.length], self.stored);
+        self.agrees(
+            &source[..self.length],
+            &listing[..listed],
+            &mut tree[..self.tree],
+            &mut output[..self.output],
+        )
+    }
 }
 
 // Whether an output that was filled has this text, and is unchanged past it.
@@ -60,153 +108,5 @@ fn is_text(output: &[u8], text: &[u8]) -> bool
         (output.now ≡ text.now
         ++ drop (length text.now) (filled_bytes (length output.now))) }
 {
-    let n = text.len();
-    if output.len() < n {
-        return false;
-    }
-    if !are_same(&output[..n], text) {
-        return false;
-    }
-    are_filled(&output[n..])
-}
-
-// Writes a case's tree into an output that is filled first.
-fn write_filled(
-    case: Written,
-    source: &[u8],
-    listing: &[u8],
-    tree: &mut [u32],
-    output: &mut [u8],
-) -> Answer
-    requires { Holds case listing.now (length tree.old) }
-    ensures { WroteFilled case source.now listing.now (length output.old)
-        output.new result }
-{
-    lay_tree(case, listing, tree);
-    fill_bytes(output);
-    write(source, tree, output, case.junk)
-}
-
-// Whether the writing call answers as the case has it, and leaves the output so.
-fn agrees_text(
-    case: Written,
-    source: &[u8],
-    listing: &[u8],
-    tree: &mut [u32],
-    output: &mut [u8],
-) -> bool
-    requires { Holds case listing.now (length tree.old) }
-    ensures { Tells result (AgreesText case source.now listing.now (length output.old)) }
-{
-    let answer = write_filled(case, source, listing, tree, output);
-    if !is_answer(answer, case.number, case.value) {
-        return false;
-    }
-    let words = LONG * case.firsts + LONG * case.seconds;
-    is_text(output, &listing[words..])
-}
-
-// Whether what is lent has room for a case.
-fn has_room_for(case: Written, source: usize, listing: usize, tree: usize, output: usize) -> bool
-    ensures { Tells result (FitsText case source listing tree output) }
-{
-    let length = case.length;
-    let stored = case.stored;
-    let t = case.tree;
-    let middle = case.middle;
-    let o = case.output;
-    let firsts = case.firsts;
-    let seconds = case.seconds;
-    let text = case.text;
-    if length > source {
-        return false;
-    }
-    if stored > length {
-        return false;
-    }
-    if t > tree {
-        return false;
-    }
-    if middle > t {
-        return false;
-    }
-    if o > output {
-        return false;
-    }
-    if firsts > middle {
-        return false;
-    }
-    if seconds > t - middle {
-        return false;
-    }
-    if t > MOST {
-        return false;
-    }
-    if text > MOST {
-        return false;
-    }
-    if LONG * firsts + LONG * seconds + text > listing {
-        return false;
-    }
-    true
-}
-
-// Replays a case whose stored bytes, words and text stand at the start of what is lent.
-fn replay_text(
-    case: Written,
-    source: &mut [u8],
-    listing: &[u8],
-    tree: &mut [u32],
-    output: &mut [u8],
-) -> bool
-    requires { FitsText case (length source.old) (length listing.now) (length tree.old) (length output.old) }
-    ensures { Rewritten case source.old source.new listing.now result }
-{
-    let length = case.length;
-    let size = LONG * case.firsts + LONG * case.seconds + case.text;
-    let t = case.tree;
-    let o = case.output;
-    repeat(&mut source[0..length], case.stored);
-    agrees_text(
-        case,
-        &source[0..length],
-        &listing[0..size],
-        &mut tree[0..t],
-        &mut output[0..o],
-    )
-}
-
-// Reads the next case of a file and replays it.
-pub fn replay_next_text<R: Read>(
-    file: &mut R,
-    source: &mut [u8],
-    listing: &mut [u8],
-    tree: &mut [u32],
-    output: &mut [u8],
-) -> Turn {
-    let mut head = [0u8; HEAD];
-    match read_head(file, &mut head) {
-        Ok(true) => {}
-        Ok(false) => return Turn::End,
-        Err(_) => return Turn::Unreadable,
-    }
-    let case = written_of(&head);
-    if !has_room_for(case, source.len(), listing.len(), tree.len(), output.len()) {
-        return Turn::Unreadable;
-    }
-    if !fetch(file, source, case.stored) {
-        return Turn::Unreadable;
-    }
-    if !fetch(
-        file,
-        listing,
-        LONG * case.firsts + LONG * case.seconds + case.text,
-    ) {
-        return Turn::Unreadable;
-    }
-    if replay_text(case, source, listing, tree, output) {
-        Turn::Same
-    } else {
-        Turn::Different
-    }
+    output.starts_with(text) && are_all(&output[text.len()..], FILLING)
 }

@@ -1,10 +1,9 @@
-// A stored case of the writing call: eleven numbers of four bytes, the start of the source, words of the tree in numbers of four
-// bytes, and the text. The first byte of a number is its lowest.
-ghost use Rattle.std.specs.Prelude.{◌+◌, ◌*◌, ◌≤◌, ◌≡◌, length};
+// A stored case of the writing call: eleven numbers, the start of the source, words of the tree in numbers of four bytes, and the
+// text.
+ghost use Rattle.std.specs.Prelude.{◌+◌, ◌*◌, ◌^◌, ◌≤◌, ◌<◌, ◌≡◌, length};
 ghost use Rattle.syntax.specs.Layout.{array};
-ghost use Rattle.vectors.specs.Written.{written_in, longs, Holds, tree_in};
+ghost use Rattle.vectors.specs.Written.{written_in, longs, word_bytes, Holds, tree_in};
 
-use crate::compare::fill;
 use crate::stored::{LONG, long};
 
 // The bytes of the numbers that a case starts with.
@@ -27,21 +26,45 @@ pub struct Written {
     pub text: usize,
 }
 
-pub fn written_of(head: &[u8; HEAD]) -> Written
-    ensures { result ≡ written_in head.now }
-{
-    Written {
-        stored: long(head, 0) as usize,
-        length: long(head, 4) as usize,
-        tree: long(head, 8) as usize,
-        middle: long(head, 12) as usize,
-        output: long(head, 16) as usize,
-        junk: long(head, 20) == 1,
-        number: long(head, 24),
-        value: long(head, 28) as u64,
-        firsts: long(head, 32) as usize,
-        seconds: long(head, 36) as usize,
-        text: long(head, 40) as usize,
+impl From<[u8; HEAD]> for Written {
+    ghost from_gives = { λ head case. case ≡ written_in head };
+
+    fn from(head: [u8; HEAD]) -> Written {
+        Written {
+            stored: long(&head, 0) as usize,
+            length: long(&head, 4) as usize,
+            tree: long(&head, 8) as usize,
+            middle: long(&head, 12) as usize,
+            output: long(&head, 16) as usize,
+            junk: long(&head, 20) == 1,
+            number: long(&head, 24),
+            value: u64::from(long(&head, 28)),
+            firsts: long(&head, 32) as usize,
+            seconds: long(&head, 36) as usize,
+            text: long(&head, 40) as usize,
+        }
+    }
+}
+
+impl Written {
+    // The bytes of the stored words.
+    pub fn word_bytes(self) -> usize
+        requires { word_bytes self < 2 ^ 64 }
+        ensures { result ≡ word_bytes self }
+    {
+        LONG * self.firsts + LONG * self.seconds
+    }
+
+    // Makes the tree of the case.
+    pub fn lay_tree(self, listing: &[u8], tree: &mut [u32])
+        requires { Holds self listing.now (length tree.old) }
+        ensures { tree.new ≡ tree_in self listing.now }
+    {
+        let seconds = LONG * self.firsts;
+        let end = self.word_bytes();
+        let (first, second) = tree.split_at_mut(self.middle);
+        lay(first, &listing[..seconds], self.firsts);
+        lay(second, &listing[seconds..end], self.seconds);
     }
 }
 
@@ -50,10 +73,8 @@ fn copy(words: &mut [u32], stored: &[u8])
     requires { length stored.now ≡ 4 * length words.old }
     ensures { words.new ≡ longs stored.now }
 {
-    let mut i = 0;
-    while i < words.len() {
-        words[i] = long(stored, LONG * i);
-        i += 1;
+    for (i, bytes) in stored.as_chunks::<LONG>().0.iter().enumerate() {
+        words[i] = u32::from_le_bytes(*bytes);
     }
 }
 
@@ -62,18 +83,7 @@ fn lay(words: &mut [u32], stored: &[u8], n: usize)
     requires { (length stored.now ≡ 4 * n) × (n ≤ length words.old) }
     ensures { words.new ≡ array (length words.old) (longs stored.now) }
 {
-    copy(&mut words[0..n], stored);
-    fill(&mut words[n..], 0);
-}
-
-// Makes the tree of a case.
-pub fn lay_tree(case: Written, listing: &[u8], tree: &mut [u32])
-    requires { Holds case listing.now (length tree.old) }
-    ensures { tree.new ≡ tree_in case listing.now }
-{
-    let middle = case.middle;
-    let seconds = LONG * case.firsts;
-    let end = seconds + LONG * case.seconds;
-    lay(&mut tree[0..middle], &listing[0..seconds], case.firsts);
-    lay(&mut tree[middle..], &listing[seconds..end], case.seconds);
+    let (start, rest) = words.split_at_mut(n);
+    copy(start, stored);
+    rest.fill(0);
 }

@@ -1,12 +1,11 @@
 -- `list_entries` meets its contract: in the loop the entries so far are listed.
 use Prim.Native.Nat.{◌-◌}
-use mathlib.Core.Path.{◌≡◌}
 use lib.ListN.{length}
 use Rattle.entries.proofs.Going.{Going}
 use Rattle.entries.proofs.list_entries.Given as goal
 
 abbrev pub invariant-loop-extent : goal.invariant-loop-extent
-invariant-loop-extent l = (length l.tree ≡ length l.initial.tree) × Going l.source l.initial.list l.list l.at l.n
+invariant-loop-extent l = Going l.source l.initial.list l.list l.at l.n
 
 abbrev pub decreases-loop-extent : goal.decreases-loop-extent
 decreases-loop-extent l = length l.source - l.at

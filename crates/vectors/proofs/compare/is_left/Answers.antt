@@ -1,7 +1,7 @@
 -- `compare::is_left` meets its contract, by the answer.
 use mathlib.Core.Path.{sym}
 use Rattle.vectors.specs.Agreement.{filled}
-use Rattle.vectors.proofs.Rows.{tells-equal}
+use Rattle.vectors.proofs.Rows.{tells-equal, tells-all}
 use Rattle.vectors.proofs.Laid.{left_laid, left-zeroed, left-filled}
 use Rattle.vectors.proofs.compare.is_left.Goals as goal
 
@@ -13,4 +13,5 @@ returns-in-TooDeep c = rw (c.in-Err.is, c.in-TooDeep.is) (tells-equal (sym (left
 
 pub returns-in_default : goal.returns-in_default
 unfolding filled
-returns-in_default c = rw c.in-Err.is (tells-equal (sym (left-filled _ _ _ _ _ c.in_default.not-TooDeep)) c.are_all.ensures)
+returns-in_default c = rw c.in-Err.is
+    (tells-equal (sym (left-filled _ _ _ _ _ c.in_default.not-TooDeep)) (tells-all _ _ c.are_all.ensures))

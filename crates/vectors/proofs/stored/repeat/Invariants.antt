@@ -8,6 +8,3 @@ abbrev pub invariant-loop-i : goal.invariant-loop-i
 invariant-loop-i l =
     (l.n ≤ l.i) × (length l.source ≡ length l.initial.source) × (take l.n l.source ≡ take l.n l.initial.source)
     × ((k : ℕ) → l.n ≤ k → k < l.i → k < length l.source → get_or l.source k 0 ≡ get_or l.source (k - l.n) 0)
-
-abbrev pub decreases-loop-i : goal.decreases-loop-i
-decreases-loop-i l = length l.initial.source - l.i
