@@ -1,33 +1,126 @@
--- Lines of a comment at places of a source: a turn, and the loop over turns with marks.
-use Rattle.std.specs.Prelude.{◌≡◌, ℕ, ◌+◌, ◌-◌, ◌*◌, ◌<◌, ◌≤◌, Bool, true, false, not, ◌&&◌, ◌||◌, eqb, ltb, List, [], ◌∷◌, length, drop}
-use mathlib.Core.Path.{refl, sym, ap₂, ◌∙◌}
+-- Lines of a comment: a turn at places of a source, and the loop over turns with marks.
+use Rattle.std.specs.Prelude.{◌≡◌, ℕ, suc, ◌+◌, ◌-◌, ◌*◌, ◌<◌, ◌≤◌, Bool, true, false, not, ◌&&◌, ◌||◌, eqb, ltb, List, [], ◌∷◌, length, get_or, drop, Result, Ok, Err}
+use denote.Ref.{Bor}
+use mathlib.Core.Path.{refl, sym, ap, ap₂, ◌∙◌}
 use native.Mathlib.Nat.{not-suc-le-zero, add-zero}
+use native.Mathlib.Numerals.{add-one}
 use native.Mathlib.Omega.{arith}
 use lib.ListN.{length-drop, drop_of_length-le}
-use lib.Seq.{drop-drop}
+use lib.Seq.{drop-cons, drop-drop}
 use borrow.Author.Tests.{ne_eqb, ltb-true}
 use Rattle.syntax.specs.Byte as Byte
-use Rattle.syntax.specs.Bytes.{starts_with, eol}
+use Rattle.syntax.specs.Kind as Kind
+use Rattle.syntax.specs.Bytes.{starts_with, starts, run, eol}
 use Rattle.syntax.specs.declared.errors.ErrorKind.TheVariants.{ExpectedToken}
 use Rattle.syntax.specs.declared.errors.ParserError.{ParserError}
 use Rattle.syntax.specs.Errors.{fault_at, up_fault}
+use Rattle.syntax.specs.Helper.{take_byte_if, skip_eol}
 use Rattle.syntax.specs.Marks.{text_node}
-use Rattle.syntax.specs.Reader.{ok, after, fail, Turn, done, repeat}
+use Rattle.syntax.specs.Reader.{ok, bad, after, fail, Turn, again, done, repeat}
 use Rattle.syntax.specs.Comment.{line_length, level_of, line_end_used, line_read, line_turn, comment_turn, get_comment}
 use Rattle.laws.specs.Bytes.{by_case, clash}
 use Rattle.laws.specs.Loop.{turn-moves, repeat-done}
 use Rattle.laws.specs.Loop.Turns.{comment_turn-moves}
 use Rattle.laws.specs.Moving.{up_fault-twice}
-use Rattle.entry.specs.Place.{Passed, Tests, is_eol}
-use Rattle.entry.specs.Tree.{word, Step}
-use Rattle.entry.specs.Did.{Did, Entered}
-use Rattle.entry.specs.Entry.{commenting}
-use Rattle.entry.specs.declared.border.ReadEntry.{ReadEntry}
-use Rattle.entry.specs.declared.border.ReadEntry.TheVariants.{Comment, Bad}
-use Rattle.entry.specs.Line.{LineAt, EndAt, BadAt}
-use Rattle.entry.proofs.Tests.{by}
+use Rattle.entry.specs.declared.source.Source.{Source}
+use Rattle.entry.specs.declared.marks.Marks.{Marks}
+use Rattle.entry.specs.Place.{Passed, Went, Tests, is_eol}
+use Rattle.entry.specs.declared.errors.Stop.{Stop}
+use Rattle.entry.specs.declared.errors.Stop.TheVariants.{Error}
+use Rattle.entry.specs.declared.parser.Parser.{Parser}
+use Rattle.entry.specs.Marks.{Wrote}
+use Rattle.entry.specs.Did.{yes, no, told, Did}
+use Rattle.entry.specs.Reads.{rest, Counts, Goes, Entered, Frame, ReadsOf}
+use Rattle.entry.specs.Tree.{word}
+use Rattle.entry.proofs.Tests.{by, starts-at, test-starts}
 use Rattle.entry.proofs.Steps.{step-none}
+use Rattle.entry.proofs.Moves.{took, took_one, took-none}
+use Rattle.entry.proofs.Lines.{ended, line-ends}
+use Rattle.entry.proofs.Chains.{frame-none, frame-then}
 use Rattle.entry.proofs.Dids.{fault-here, words-none, text-placed, did-again}
+
+-- ---- the level
+
+abbrev is_hash : ℕ → Bool
+is_hash b = eqb b Byte.hash
+
+run_none : (p : ℕ → Bool) (x : List ℕ) → starts p x ≡ false → run p x ≡ 0
+unfolding run starts
+run_none p [] h = refl
+run_none p (b ∷ x) h = rw (h, run)
+
+run_more : (p : ℕ → Bool) (s : List ℕ) (i : ℕ) → i < length s → starts p (drop i s) ≡ true → run p (drop i s) ≡ suc (run p (drop (i + 1) s))
+unfolding run
+run_more p s i l h = let t : p (get_or s i 0) ≡ true = by (starts-at p s i l) h in rw (add-one, drop-cons s i 0 l, run, t)
+
+-- n '#' were passed
+pub record Hashes (s s' : Source) (n : ℕ) : Type 0 where
+  pub bytes : s'.bytes ≡ s.bytes
+  pub end : s'.ptr ≡ s.ptr + n
+  pub hashes : run is_hash (drop s.ptr s.bytes.now) ≡ n + run is_hash (drop s'.ptr s.bytes.now)
+
+pub hashes-none : (s : Source) → Hashes s s 0
+hashes-none s = record { bytes = refl; end = omega arith; hashes = omega arith }
+
+module _ {s s' s'' : Source} {n : ℕ} (h : Hashes s s' n) {r : Bool} (g : Goes s' s'' (take_byte_if Byte.hash (rest s')) r) where
+  step : Went s.bytes.now s'.ptr (take_byte_if Byte.hash (drop s'.ptr s.bytes.now)) r s''.ptr
+  step = rw h.bytes at g.went
+
+  pub hashes-more : r ≡ true → Hashes s s'' (n + 1)
+  hashes-more e =
+      let t = test-starts Byte.hash (took Byte.hash step) in
+      let o = took_one Byte.hash step e in
+      let m = run_more is_hash s.bytes.now s'.ptr (t.here e) (by t.is e) in
+      record { bytes = g.bytes ∙ h.bytes; end = omega (arith, h.end); hashes = h.hashes ∙ rw (m, o) (omega arith) }
+
+  pub hashes-end : r ≡ false → n ≤ 3 → Counts s s'' (level_of (rest s)) n
+  unfolding level_of
+  hashes-end e l =
+      let t = test-starts Byte.hash (took Byte.hash step) in
+      let o = took-none Byte.hash step e in
+      let m = run_none is_hash (drop s'.ptr s.bytes.now) (by t.is e) in
+      let k = h.hashes in
+      let i = s''.inside in
+      let b : length s''.bytes.now ≡ length s.bytes.now = ap (λ (x : Bor (List ℕ)). length x.now) (g.bytes ∙ h.bytes) in
+      record {
+        passes = record { bytes = g.bytes ∙ h.bytes; passed = record { end = omega (arith, h.end); within = omega arith } };
+        told = omega arith;
+      }
+
+pub hashes-three : {s s' : Source} → Hashes s s' 3 → Counts s s' (level_of (rest s)) 3
+unfolding level_of
+hashes-three {s} {s'} h =
+    let k = h.hashes in
+    let i = s'.inside in
+    let b : length s'.bytes.now ≡ length s.bytes.now = ap (λ (x : Bor (List ℕ)). length x.now) h.bytes in
+    record {
+      passes = record { bytes = h.bytes; passed = record { end = omega (arith, h.end); within = omega arith } };
+      told = omega arith;
+    }
+
+-- ---- a turn as places
+
+-- a line of the level l, whose text goes from a to e; the next may start at k
+pub record LineAt (s : List ℕ) (at : ℕ) (t : Turn ℕ ℕ) (l a e k : ℕ) : Type 0 where
+  pub turn : t ≡ again l (text_node Kind.comment_line (a - at) (e - at)) (k - at)
+  pub opens : at ≤ a
+  pub text : a ≤ e
+  pub onward : e ≤ k
+  pub within : k ≤ length s
+
+-- a comment of the level l ends at k
+pub record EndAt (s : List ℕ) (at : ℕ) (t : Turn ℕ ℕ) (l k : ℕ) : Type 0 where
+  pub turn : t ≡ done (ok l [] (k - at))
+  pub onward : at ≤ k
+  pub within : k ≤ length s
+
+-- it fails with the error f, and reading stopped at k
+pub record BadAt (s : List ℕ) (at : ℕ) (t : Turn ℕ ℕ) (f : ParserError) (k : ℕ) : Type 0 where
+  pub fault : ParserError
+  pub turn : t ≡ done (bad fault (k - at))
+  pub moved : f ≡ up_fault at fault
+  pub onward : at ≤ k
+  pub within : k ≤ length s
 
 -- ---- the end of a line
 
@@ -59,15 +152,18 @@ module _ (r : List ℕ) where
   used-other [] e l h = absurd (not-suc-le-zero l)
   used-other (b ∷ z) e l h = rw (e, line_end_used, h)
 
+pub line-over : {s : List ℕ} {at i : ℕ} {r : Bool} → Went s at (skip_eol (drop at s)) r i → Passed s at (eol (drop at s)) i
+line-over w = record { end = (ended w).end; within = w.within }
+
 -- where the line end ends at i
 module _ {s : List ℕ} {at i : ℕ} (p : Passed s at (eol (drop at s)) i) where
-  rest : drop (eol (drop at s)) (drop at s) ≡ drop i s
-  rest = let e = p.end in rw (drop-drop, e)
+  after-end : drop (eol (drop at s)) (drop at s) ≡ drop i s
+  after-end = let e = p.end in rw (drop-drop, e)
 
   pub used-last : i ≡ length s → Passed s at (line_end_used (drop at s)) i
   used-last h =
       let l : length s ≤ i = omega arith in
-      let e = used-end (drop at s) (rest ∙ drop_of_length-le s l) in
+      let e = used-end (drop at s) (after-end ∙ drop_of_length-le s l) in
       record { end = omega (arith, p.end); within = p.within }
 
   pub feed-some : is_eol (drop at s) ≡ true → at ≤ length s → (i ≡ length s → ⊥) → at < i
@@ -78,7 +174,7 @@ module _ {s : List ℕ} {at i : ℕ} (p : Passed s at (eol (drop at s)) i) where
 
   module _ {r : Bool} (t : Tests (starts_with Byte.hash) s i r) where
     pub used-comment : r ≡ true → Passed s at (line_end_used (drop at s)) i
-    used-comment h = let e = used-hash (drop at s) (drop i s) rest (by t.is h) in
+    used-comment h = let e = used-hash (drop at s) (drop i s) after-end (by t.is h) in
         record { end = omega (arith, p.end); within = p.within }
 
     pub used-feed : is_eol (drop at s) ≡ true → at ≤ length s → (i ≡ length s → ⊥) → r ≡ false
@@ -86,7 +182,7 @@ module _ {s : List ℕ} {at i : ℕ} (p : Passed s at (eol (drop at s)) i) where
     used-feed g a n h =
         let w = p.within in
         let some = feed-some g a n in
-        let e = used-other (drop at s) (drop i s) rest (omega (arith, length-drop i s)) (by t.is h) in
+        let e = used-other (drop at s) (drop i s) after-end (omega (arith, length-drop i s)) (by t.is h) in
         record { end = omega (arith, p.end); within = omega arith }
 
 -- ---- a line after its '#'
@@ -200,53 +296,124 @@ module _ {s : List ℕ} {at : ℕ} (level l : ℕ) (p : Passed s at (level_of (d
               let w = p.within in
               record { turn = goes ∙ line_other level l _ (by u e) (by v.is g) n ∙ rw z; onward = omega arith; within = omega arith }
 
+-- the turn at a source, where l '#' were passed
+module _ (s s₁ : Source) (level l : ℕ) (v : Counts s s₁ (level_of (rest s)) l) {r : Bool} (o : r ≡ over level l) where
+  start : s₁.ptr ≡ s.ptr + l
+  start = v.passes.passed.end ∙ ap (λ (k : ℕ). s.ptr + k) (sym v.told)
+
+  leveled : Passed s.bytes.now s.ptr (level_of (drop s.ptr s.bytes.now)) (s.ptr + l)
+  leveled = rw start at v.passes.passed
+
+  pub at-over : r ≡ true → EndAt s.bytes.now s.ptr (comment_turn level (drop s.ptr s.bytes.now)) level s.ptr
+  at-over h = turn-over level l leveled o h s.inside
+
+  module _ (h : r ≡ false) where
+    pub at-last : s₁.ptr ≡ length s₁.bytes.now → EndAt s.bytes.now s.ptr (comment_turn level (drop s.ptr s.bytes.now)) l s₁.ptr
+    at-last e =
+        let f : s.ptr + l ≡ length s.bytes.now = rw (start, v.passes.bytes) at e in
+        rw start (turn_last level l leveled o h f)
+
+    module _ {b : Bool} (u : b ≡ is_eol (rest s₁)) where
+      ending : b ≡ is_eol (drop (s.ptr + l) s.bytes.now)
+      ending = rw (start, v.passes.bytes) at u
+
+      pub at-empty : {e k : ℕ} → b ≡ true → (s₁.ptr ≡ length s₁.bytes.now → ⊥) → Passed s₁.bytes.now s₁.ptr (line_length (rest s₁)) e
+          → Passed s₁.bytes.now e (line_end_used (drop e s₁.bytes.now)) k
+          → LineAt s.bytes.now s.ptr (comment_turn level (drop s.ptr s.bytes.now)) l s₁.ptr e k
+      at-empty {e} {k} t n p q =
+          let z = line-ends (rest s₁) (by u t) in
+          let f : e ≡ s.ptr + l = p.end ∙ rw (z, start) (omega arith) in
+          let m : s.ptr + l ≡ length s.bytes.now → ⊥ = rw (start, v.passes.bytes) at n in
+          let q' : Passed s.bytes.now (s.ptr + l) (line_end_used (drop (s.ptr + l) s.bytes.now)) k = rw (f, v.passes.bytes) at q in
+          rw (f, start) (turn-empty level l leveled o h ending t m q')
+
+      module _ (s₂ : Source) {d : Bool} (f : b ≡ false) (g : Goes s₁ s₂ (take_byte_if Byte.space (rest s₁)) d) where
+        space : Went s.bytes.now (s.ptr + l) (take_byte_if Byte.space (drop (s.ptr + l) s.bytes.now)) d s₂.ptr
+        space = rw (start, v.passes.bytes) at g.went
+
+        pub at-text : {e k : ℕ} → d ≡ true → Passed s₂.bytes.now s₂.ptr (line_length (rest s₂)) e
+            → Passed s₂.bytes.now e (line_end_used (drop e s₂.bytes.now)) k
+            → LineAt s.bytes.now s.ptr (comment_turn level (drop s.ptr s.bytes.now)) l s₂.ptr e k
+        at-text {e} {k} t p q =
+            let a = took_one Byte.space space t in
+            let p' : Passed s.bytes.now (s.ptr + l + 1) (line_length (drop (s.ptr + l + 1) s.bytes.now)) e = rw (a, g.bytes, v.passes.bytes) at p in
+            let q' : Passed s.bytes.now e (line_end_used (drop e s.bytes.now)) k = rw (g.bytes, v.passes.bytes) at q in
+            rw a (turn-text level l leveled o h ending (took Byte.space space) f t p' q')
+
+        pub at-fails : d ≡ false → level ≡ 0
+            → BadAt s.bytes.now s.ptr (comment_turn level (drop s.ptr s.bytes.now)) (fault_at (ExpectedToken Byte.space) s₂.ptr) s₂.ptr
+        at-fails t n = rw (took-none Byte.space space t) (turn-fails level l leveled o h ending (took Byte.space space) f t n refl)
+
+        pub at-other : d ≡ false → (level ≡ 0 → ⊥) → EndAt s.bytes.now s.ptr (comment_turn level (drop s.ptr s.bytes.now)) level s.ptr
+        at-other t n = turn-other level l leveled o h ending (took Byte.space space) f t n
+
 -- ---- the loop: what is read from here on gives what was to be read from the start
 
-pub record Commenting (s : List ℕ) (at cap n : ℕ) (t₀ t : List ℕ) (level place m : ℕ) : Type 0 where
-  pub inside : place ≤ length s
-  pub spent : m ≤ 8 * place + 1
-  pub long : length t ≡ length t₀
-  pub rest : (t₂ : List ℕ) (r : ReadEntry) → Did commenting cap place m t t₂ r (repeat comment_turn level (drop place s))
-      → Did commenting cap at n t₀ t₂ r (get_comment (drop at s))
+pub record Commenting (p₀ p : Parser) (level : ℕ) : Type 0 where
+  pub frame : Frame p₀.source p.source p₀.tree.now p.tree.now
+  pub spent : p.tree.now.count ≤ 8 * p.source.ptr + 1
+  pub rest : (s₂ : Source) (m₂ : Marks) (r : Result ℕ Stop)
+      → ReadsOf (λ l. l) p.source s₂ p.tree.now m₂ r (repeat comment_turn level (drop p.source.ptr p.source.bytes.now))
+      → ReadsOf (λ l. l) p₀.source s₂ p₀.tree.now m₂ r (get_comment (drop p₀.source.ptr p₀.source.bytes.now))
 
-pub commenting-none : {s : List ℕ} {at cap n : ℕ} {t : List ℕ} → Entered s t cap at n → Commenting s at cap n t t 0 at n
+pub commenting-none : (p : Parser) → Entered p → Commenting p p 0
 unfolding get_comment
-commenting-none e = record { inside = e.inside; spent = e.spent; long = refl; rest = λ t₂ r d. d }
+commenting-none p e = record { frame = frame-none p.source p.tree.now; spent = e.spent; rest = λ s₂ m₂ r d. d }
 
-module _ {s : List ℕ} {at cap n : ℕ} {t₀ t : List ℕ} {level place m : ℕ} (g : Commenting s at cap n t₀ t level place m) where
-  module _ {l a e k : ℕ} (h : LineAt s place (comment_turn level (drop place s)) l a e k) where
-    pub line-moves : place < k
-    line-moves = let o = (turn-moves comment_turn-moves level (drop place s) h.turn).0 in omega arith
+module _ {p₀ p : Parser} {level : ℕ} (g : Commenting p₀ p level) where
+  pub commenting-line : {p' : Parser} {l a e : ℕ} → p'.source.bytes ≡ p.source.bytes
+      → LineAt p.source.bytes.now p.source.ptr (comment_turn level (drop p.source.ptr p.source.bytes.now)) l a e p'.source.ptr
+      → Wrote p.tree.now p'.tree.now (word Kind.comment_line a ∷ word (Kind.closing Kind.comment_line) e ∷ []) → Commenting p₀ p' l
+  unfolding text_node
+  commenting-line {p'} {l} {a} {e} b h z =
+      let s : List ℕ = p.source.bytes.now in
+      let at : ℕ = p.source.ptr in
+      let from : a ≡ at + (a - at) = omega (arith, h.opens) in
+      let till : e ≡ at + (e - at) = omega (arith, h.opens, h.text) in
+      let moved = (turn-moves comment_turn-moves level (drop at s) h.turn).0 in
+      let c = z.count in
+      record {
+        frame = frame-then g.frame (record { bytes = b; tree = z.same });
+        spent = omega (arith, g.spent);
+        rest =
+            λ s₂ m₂ r d.
+            let d' : Did (λ l. l) p.tree.now.capacity p'.source.ptr p'.tree.now.count p'.tree.now.words.now m₂.words.now (told r s₂.ptr m₂.count)
+            (repeat comment_turn l (drop p'.source.ptr s)) = rw (z.same.capacity, b) at d.did in
+            g.rest s₂ m₂ r
+            (record {
+              frame = frame-then (record { bytes = b; tree = z.same }) d.frame;
+              did =
+                  did-again comment_turn-moves s level h.turn (omega arith) c
+                  (rw (text-placed at a e _ _ Kind.comment_line from till) z.step) d';
+            });
+      }
 
-    pub commenting-line : {t' : List ℕ} {m' : ℕ} → Step cap m t t' (word 8 a ∷ word 108 e ∷ []) → m' ≡ m + 2
-        → Commenting s at cap n t₀ t' l k m'
-    unfolding text_node
-    commenting-line {t'} {m'} p c =
-        let from : a ≡ place + (a - place) = omega (arith, h.opens) in
-        let till : e ≡ place + (e - place) = omega (arith, h.opens, h.text) in
-        let moved = line-moves in
-        record {
-          inside = h.within;
-          spent = omega (arith, g.spent);
-          long = p.long ∙ g.long;
-          rest =
-              λ t₂ r d. g.rest t₂ r
-              (did-again comment_turn-moves s level h.turn (omega arith) c
-              (rw (text-placed place a e _ _ 8 from till) p) d);
-        }
+  module _ {s' : Source} {m' : Marks} (b : s'.bytes ≡ p.source.bytes) (t : m' ≡ p.tree.now) where
+    still : Frame p.source s' p.tree.now m'
+    still = record { bytes = b; tree = rw t (record { words = refl; capacity = refl }) }
 
-  pub commenting-end : {l k : ℕ} → EndAt s place (comment_turn level (drop place s)) l k
-      → Did commenting cap at n t₀ t (Comment l k m) (get_comment (drop at s))
-  commenting-end {l} {k} h =
-      let e : k ≡ place + (k - place) = omega (arith, h.onward) in
-      g.rest t (Comment l k m)
-      (rw (repeat-done comment_turn level (drop place s) h.turn)
-      (record { answers = ap₂ (Comment l) e (sym (add-zero m)); wrote = rw words-none (step-none cap m t) }))
+    pub commenting-end : {l : ℕ} → EndAt p.source.bytes.now p.source.ptr (comment_turn level (drop p.source.ptr p.source.bytes.now)) l s'.ptr
+        → ReadsOf (λ l. l) p₀.source s' p₀.tree.now m' (Ok l) (get_comment (drop p₀.source.ptr p₀.source.bytes.now))
+    commenting-end {l} h =
+        let at : ℕ = p.source.ptr in
+        let e : s'.ptr ≡ at + (s'.ptr - at) = omega (arith, h.onward) in
+        g.rest s' m' (Ok l)
+        (record {
+          frame = still;
+          did =
+              rw (t, repeat-done comment_turn level (drop at p.source.bytes.now) h.turn)
+              (record { answers = ap₂ (yes l) e (sym (add-zero p.tree.now.count)); wrote = rw words-none (step-none p.tree.now.capacity p.tree.now.count p.tree.now.words.now) });
+        })
 
-  pub commenting-bad : {f : ParserError} {k : ℕ} → BadAt s place (comment_turn level (drop place s)) f k
-      → Did commenting cap at n t₀ t (Bad f k) (get_comment (drop at s))
-  commenting-bad {f} {k} h =
-      let e : k ≡ place + (k - place) = omega (arith, h.onward) in
-      g.rest t (Bad f k)
-      (rw (repeat-done comment_turn level (drop place s) h.turn)
-      (record { answers = ap₂ Bad h.moved e; wrote = rw words-none (step-none cap m t) }))
+    pub commenting-bad : {f : ParserError} → BadAt p.source.bytes.now p.source.ptr (comment_turn level (drop p.source.ptr p.source.bytes.now)) f s'.ptr
+        → ReadsOf (λ l. l) p₀.source s' p₀.tree.now m' (Err (Error f)) (get_comment (drop p₀.source.ptr p₀.source.bytes.now))
+    commenting-bad {f} h =
+        let at : ℕ = p.source.ptr in
+        let e : s'.ptr ≡ at + (s'.ptr - at) = omega (arith, h.onward) in
+        g.rest s' m' (Err (Error f))
+        (record {
+          frame = still;
+          did =
+              rw (t, repeat-done comment_turn level (drop at p.source.bytes.now) h.turn)
+              (record { answers = ap₂ no h.moved e; wrote = rw words-none (step-none p.tree.now.capacity p.tree.now.count p.tree.now.words.now) });
+        })

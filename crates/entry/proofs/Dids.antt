@@ -1,14 +1,11 @@
 -- Readers at places of the source: one after the other, as the definitions have them.
 -- An answer of the code is taken apart into `Found`, `Lost` or `Far` of the definition's answer, and made of one.
-use Rattle.std.specs.Prelude.{◌≡◌, ℕ, ◌+◌, List, [], ◌∷◌, ◌++◌, map, length, drop}
+use Rattle.std.specs.Prelude.{◌≡◌, ℕ, ◌+◌, Err, List, [], ◌∷◌, ◌++◌, map, length, drop}
 use mathlib.Core.Path.{refl, sym, ap, ap₂, ◌∙◌}
-use mathlib.Core.Logic.{⊎_elim}
 use native.Mathlib.Nat.{add-zero, add_assoc}
 use native.Mathlib.Omega.{arith}
 use lib.ListN.{length-append, length-map}
 use lib.Seq.{drop-drop}
-use types.Run.{OneOf}
-use denote.Enum.Declared.{tag_of}
 use Rattle.syntax.specs.Kind.{closing}
 use Rattle.syntax.specs.declared.errors.ErrorKind.{ErrorKind}
 use Rattle.syntax.specs.declared.errors.ParserError.{ParserError}
@@ -18,10 +15,9 @@ use Rattle.syntax.specs.Reader.{Out, ok, bad, deep, Reader, after, next, ◌>>=�
 use Rattle.laws.specs.Loop.{Moves, repeat-again}
 use Rattle.laws.specs.Moving.{map-append, move_up-append, move_up-twice, after-after}
 use Rattle.entry.specs.Tree.{Word, word, word_of, words_at, Step}
-use Rattle.entry.specs.Did.{Says, reading, answer, marks_of, Did}
-use Rattle.entry.specs.declared.marks.Read.{Read}
-use Rattle.entry.specs.declared.marks.Read.TheVariants.{Ok}
-use Rattle.entry.specs.contracts.marks.Read.{the_type}
+use Rattle.entry.specs.declared.errors.Stop.{Stop}
+use Rattle.entry.specs.declared.errors.Stop.TheVariants.{Error, TooDeep}
+use Rattle.entry.specs.Did.{Told, yes, no, over, told, answer, marks_of, Did}
 use Rattle.entry.proofs.Steps.{step-none, step_cut, step_then}
 
 -- ---- moving up
@@ -52,22 +48,22 @@ pub words-none : (at : ℕ) → words_at at [] ≡ []
 unfolding words_at move_up
 words-none at = refl
 
-pub answer-after : {A R : Type 0} (w : Says A R) (at n k : ℕ) (ms : List Mark) (o : Out A)
+pub answer-after : {A T : Type 0} (w : A → T) (at n k : ℕ) (ms : List Mark) (o : Out A)
     → answer w at n (after ms k o) ≡ answer w (at + k) (n + length ms) o
 unfolding after
 answer-after w at n k ms (ok a ns j) =
-    ap₂ (w.yes a) (sym (add_assoc at k j))
+    ap₂ (yes (w a)) (sym (add_assoc at k j))
     (ap (λ (i : ℕ). n + i) (length-append ms (move_up k ns) ∙ ap (λ (i : ℕ). length ms + i) (moved_length k ns))
     ∙ sym (add_assoc n (length ms) (length ns)))
-answer-after w at n k ms (bad f j) = ap₂ w.no (fault-up at k f) (sym (add_assoc at k j))
-answer-after w at n k ms (deep j) = ap w.far (sym (add_assoc at k j))
+answer-after w at n k ms (bad f j) = ap₂ no (fault-up at k f) (sym (add_assoc at k j))
+answer-after w at n k ms (deep j) = ap over (sym (add_assoc at k j))
 
-pub did_after : {A R : Type 0} {w : Says A R} {cap at n : ℕ} {t t₁ t₂ : List ℕ} {r : R} (ms : List Mark) (k : ℕ)
+pub did_after : {A T : Type 0} {w : A → T} {cap at n : ℕ} {t t₁ t₂ : List ℕ} {r : Told T} (ms : List Mark) (k : ℕ)
     (o : Out A)
     → Step cap n t t₁ (words_at at ms) → Did w cap (at + k) (n + length ms) t₁ t₂ r o
     → Did w cap at n t t₂ r (after ms k o)
 unfolding after
-did_after {A} {R} {w} {cap} {at} {n} {t} {t₁} {t₂} {r} ms k o s d =
+did_after {A} {T} {w} {cap} {at} {n} {t} {t₁} {t₂} {r} ms k o s d =
     record { answers = d.answers ∙ sym (answer-after w at n k ms o); wrote = go o d.wrote }
   where
     len : n + length ms ≡ n + length (words_at at ms)
@@ -79,7 +75,7 @@ did_after {A} {R} {w} {cap} {at} {n} {t} {t₁} {t₂} {r} ms k o s d =
     go (deep j) v = rw words-none (step_cut (step_then s len v))
 
 -- a turn of a loop that goes on, then the loop from there
-pub did-again : {S A R : Type 0} {w : Says A R} {cap at n a n' : ℕ} {t t₁ t₂ : List ℕ} {r : R} {turn : S → List ℕ
+pub did-again : {S A T : Type 0} {w : A → T} {cap at n a n' : ℕ} {t t₁ t₂ : List ℕ} {r : Told T} {turn : S → List ℕ
     → Turn S A}
     (m : Moves turn) (s : List ℕ) (st : S) {st' : S} {ms : List Mark} {k : ℕ}
     → turn st (drop at s) ≡ again st' ms k → a ≡ at + k → n' ≡ n + length ms → Step cap n t t₁ (words_at at ms)
@@ -112,76 +108,59 @@ pub record Far {A : Type 0} (at j : ℕ) (o : Out A) : Type 0 where
   pub place : j ≡ at + k
 
 -- ---- made of what was found
-pub did-found : {A R : Type 0} (w : Says A R) {cap at n a n' : ℕ} {t t₁ : List ℕ} {o : Out A}
+pub did-found : {A T : Type 0} (w : A → T) {cap at n a n' : ℕ} {t t₁ : List ℕ} {o : Out A}
     (f : Found cap at n a n' t t₁ o)
-    → Did w cap at n t t₁ (w.yes f.value a n') o
-did-found w f = rw f.is (record { answers = ap₂ (w.yes f.value) f.place f.count; wrote = f.wrote })
+    → Did w cap at n t t₁ (yes (w f.value) a n') o
+did-found w f = rw f.is (record { answers = ap₂ (yes (w f.value)) f.place f.count; wrote = f.wrote })
 
-pub did-lost : {A R : Type 0} (w : Says A R) {cap at n j : ℕ} {t t₁ : List ℕ} {f : ParserError} {o : Out A}
-    → Lost at f j o → Step cap n t t₁ [] → Did w cap at n t t₁ (w.no f j) o
-did-lost w {at = at} l s = rw l.is (record { answers = ap₂ w.no l.moved l.place; wrote = rw words-none s })
+pub did-lost : {A T : Type 0} (w : A → T) {cap at n j : ℕ} {t t₁ : List ℕ} {f : ParserError} {o : Out A}
+    → Lost at f j o → Step cap n t t₁ [] → Did w cap at n t t₁ (no f j) o
+did-lost w {at = at} l s = rw l.is (record { answers = ap₂ no l.moved l.place; wrote = rw words-none s })
 
-pub did-far : {A R : Type 0} (w : Says A R) {cap at n j : ℕ} {t t₁ : List ℕ} {o : Out A} → Far at j o
-    → Step cap n t t₁ [] → Did w cap at n t t₁ (w.far j) o
-did-far w {at = at} l s = rw l.is (record { answers = ap w.far l.place; wrote = rw words-none s })
-
--- ---- a result type that tells the three apart
-pub record Clear {A R : Type 0} (w : Says A R) : Type 0 where
-  pub yes-no : (x : A) (p m : ℕ) (f : ParserError) (j : ℕ) → w.yes x p m ≡ w.no f j → ⊥
-  pub yes-far : (x : A) (p m j : ℕ) → w.yes x p m ≡ w.far j → ⊥
-  pub no-far : (f : ParserError) (i j : ℕ) → w.no f i ≡ w.far j → ⊥
-  pub no_same : (f g : ParserError) (i j : ℕ) → w.no f i ≡ w.no g j → (f ≡ g) × (i ≡ j)
-  pub far-same : (i j : ℕ) → w.far i ≡ w.far j → i ≡ j
-
-pub clear-reading : {A : Type 0} → Clear (reading {A = A})
-clear-reading = record {
-  yes-no = λ x p m f j e. let z : ◌≡◌ {A = ℕ} 0 1 = cc in omega arith;
-  yes-far = λ x p m j e. let z : ◌≡◌ {A = ℕ} 0 1 = cc in omega arith;
-  no-far = λ f i j e. let z : ◌≡◌ {A = ℕ} 0 1 = cc in omega arith;
-  no_same = λ f g i j e. (cc, cc);
-  far-same = λ i j e. cc;
-}
+pub did-far : {A T : Type 0} (w : A → T) {cap at n j : ℕ} {t t₁ : List ℕ} {o : Out A} → Far at j o
+    → Step cap n t t₁ [] → Did w cap at n t t₁ (over j) o
+did-far w {at = at} l s = rw l.is (record { answers = ap over l.place; wrote = rw words-none s })
 
 -- ---- taken apart
-pub lost : {A R : Type 0} {w : Says A R} {cap at n j : ℕ} {t t₁ : List ℕ} {r : R} {f : ParserError} → Clear w
-    → (o : Out A) → Did w cap at n t t₁ r o → r ≡ w.no f j → Lost at f j o
-lost {w = w} c (ok x ms k) d e = absurd (c.yes-no _ _ _ _ _ (sym d.answers ∙ e))
-lost {w = w} c (bad g k) d e =
-    let q = c.no_same _ _ _ _ (sym d.answers ∙ e) in
-    record { fault = g; k = k; is = refl; moved = sym q.0; place = sym q.1 }
-lost {w = w} c (deep k) d e = absurd (c.no-far _ _ _ (sym e ∙ d.answers))
+pub lost : {A T : Type 0} {w : A → T} {cap at n j : ℕ} {t t₁ : List ℕ} {r : Told T} {f : ParserError}
+    → (o : Out A) → Did w cap at n t t₁ r o → r ≡ no f j → Lost at f j o
+lost (ok x ms k) d e = let q = d.answers in let z : ◌≡◌ {A = ℕ} 0 1 = cc in absurd (omega arith)
+lost (bad g k) d e = let q = d.answers in record { fault = g; k = k; is = refl; moved = cc; place = cc }
+lost (deep k) d e = let q = d.answers in let z : ◌≡◌ {A = ℕ} 0 1 = cc in absurd (omega arith)
 
-pub far : {A R : Type 0} {w : Says A R} {cap at n j : ℕ} {t t₁ : List ℕ} {r : R} → Clear w → (o : Out A)
-    → Did w cap at n t t₁ r o → r ≡ w.far j → Far at j o
-far c (ok x ms k) d e = absurd (c.yes-far _ _ _ _ (sym d.answers ∙ e))
-far c (bad g k) d e = absurd (c.no-far _ _ _ (sym d.answers ∙ e))
-far c (deep k) d e = record { k = k; is = refl; place = sym (c.far-same _ _ (sym d.answers ∙ e)) }
+pub far : {A T : Type 0} {w : A → T} {cap at n j : ℕ} {t t₁ : List ℕ} {r : Told T} → (o : Out A)
+    → Did w cap at n t t₁ r o → r ≡ over j → Far at j o
+far (ok x ms k) d e = let q = d.answers in let z : ◌≡◌ {A = ℕ} 0 1 = cc in absurd (omega arith)
+far (bad g k) d e = let q = d.answers in let z : ◌≡◌ {A = ℕ} 0 1 = cc in absurd (omega arith)
+far (deep k) d e = let q = d.answers in record { k = k; is = refl; place = cc }
 
 -- what failed has no marks
-pub failed-wrote : {A R : Type 0} {w : Says A R} {cap at n : ℕ} {t t₁ : List ℕ} {r : R} {o : Out A}
+pub failed-wrote : {A T : Type 0} {w : A → T} {cap at n : ℕ} {t t₁ : List ℕ} {r : Told T} {o : Out A}
     → Did w cap at n t t₁ r o → Step cap n t t₁ []
 failed-wrote d = step_cut d.wrote
 
-pub found : {A : Type 0} {cap at n a n' : ℕ} {t t₁ : List ℕ} {r : Read} (o : Out A) → Did reading cap at n t t₁ r o
-    → r ≡ Ok a n' → Found cap at n a n' t t₁ o
-found (ok x ms k) d e =
+-- what was found, whose value the code tells as x
+pub record Valued {A T : Type 0} (w : A → T) (cap at n : ℕ) (x : T) (a n' : ℕ) (t t₁ : List ℕ) (o : Out A) : Type 0 where
+  pub found : Found cap at n a n' t t₁ o
+  pub told : x ≡ w found.value
+
+pub valued : {A T : Type 0} {w : A → T} {cap at n a n' : ℕ} {x : T} {t t₁ : List ℕ} {r : Told T} (o : Out A)
+    → Did w cap at n t t₁ r o → r ≡ yes x a n' → Valued w cap at n x a n' t t₁ o
+valued (ok y ms k) d e =
     let q = d.answers in
-    record { value = x; ms = ms; k = k; is = refl; place = cc; count = cc; wrote = d.wrote }
-found (bad f j) d e = let q = d.answers in let z : ◌≡◌ {A = ℕ} 0 1 = cc in absurd (omega arith)
-found (deep j) d e = let q = d.answers in let z : ◌≡◌ {A = ℕ} 0 1 = cc in absurd (omega arith)
+    record {
+      found = record { value = y; ms = ms; k = k; is = refl; place = cc; count = cc; wrote = d.wrote };
+      told = cc;
+    }
+valued (bad f j) d e = let q = d.answers in let z : ◌≡◌ {A = ℕ} 0 1 = cc in absurd (omega arith)
+valued (deep j) d e = let q = d.answers in let z : ◌≡◌ {A = ℕ} 0 1 = cc in absurd (omega arith)
 
--- an answer that the code took for no `Ok` is none
-pub not-ok : (r : Read) → OneOf (1 ∷ 2 ∷ []) (tag_of the_type r) → (a b : ℕ) → r ≡ Ok a b → ⊥
-not-ok r h a b e = ⊎_elim (λ p. zero_one (sym (ap (tag_of the_type) e) ∙ p)) (λ p. zero-two (sym (ap (tag_of the_type) e) ∙ p)) h
-  where
-    zero_one : ◌≡◌ {A = ℕ} 0 1 → ⊥
-    zero_one p = omega arith
-
-    zero-two : ◌≡◌ {A = ℕ} 0 2 → ⊥
-    zero-two p = omega arith
+pub found : {A T : Type 0} {w : A → T} {cap at n a n' : ℕ} {x : T} {t t₁ : List ℕ} {r : Told T} (o : Out A)
+    → Did w cap at n t t₁ r o → r ≡ yes x a n' → Found cap at n a n' t t₁ o
+found o d e = (valued o d e).found
 
 -- ---- sequences: what follows, what failed
-did-next : {A B R : Type 0} {w : Says B R} {cap at n a n' : ℕ} {t t₁ t₂ : List ℕ} {r : R} (s : List ℕ)
+pub did-next : {A B T : Type 0} {w : B → T} {cap at n a n' : ℕ} {t t₁ t₂ : List ℕ} {r : Told T} (s : List ℕ)
     (q : A → Reader B) {o : Out A} (f : Found cap at n a n' t t₁ o)
     → Did w cap a n' t₁ t₂ r (q f.value (drop a s))
     → Did w cap at n t t₂ r (next (drop at s) q o)
@@ -190,55 +169,27 @@ did-next {w = w} {cap} {at} {n} {a} {n'} {t} {t₁} {t₂} {r} s q f d =
     let d' : Did w cap (at + f.k) (n + length f.ms) t₁ t₂ r (q f.value (drop (at + f.k) s)) = rw (f.place, f.count) at d in
     rw (f.is, drop-drop) (did_after f.ms f.k (q f.value (drop (at + f.k) s)) f.wrote d')
 
-module _ {A B R : Type 0} {w : Says B R} {cap at n a n' : ℕ} {t t₁ t₂ : List ℕ} {r : R} (s : List ℕ) where
-  pub did-bind : (p : Reader A) (q : A → Reader B) (f : Found cap at n a n' t t₁ (p (drop at s)))
-      → Did w cap a n' t₁ t₂ r (q f.value (drop a s))
-      → Did w cap at n t t₂ r ((p >>= q) (drop at s))
-  unfolding ◌>>=◌
-  did-bind p q f d = did-next s q f d
-
-  pub did_then : (p : Reader A) (q : Reader B) → Found cap at n a n' t t₁ (p (drop at s)) → Did w cap a n' t₁ t₂ r (q (drop a s))
-      → Did w cap at n t t₂ r ((p >> q) (drop at s))
-  unfolding ◌>>◌
-  did_then p q f d = did-next s (λ _. q) f d
-
-module _ {A B : Type 0} {at j : ℕ} (x : List ℕ) where
-  pub lost-bind : {f : ParserError} (p : Reader A) (q : A → Reader B) → Lost at f j (p x) → Lost at f j ((p >>= q) x)
-  unfolding ◌>>=◌ next
-  lost-bind p q l = record { fault = l.fault; k = l.k; is = rw l.is; moved = l.moved; place = l.place }
-
-  pub lost-then : {f : ParserError} (p : Reader A) (q : Reader B) → Lost at f j (p x) → Lost at f j ((p >> q) x)
-  unfolding ◌>>◌ next
-  lost-then p q l = record { fault = l.fault; k = l.k; is = rw l.is; moved = l.moved; place = l.place }
-
-  pub far-bind : (p : Reader A) (q : A → Reader B) → Far at j (p x) → Far at j ((p >>= q) x)
-  unfolding ◌>>=◌ next
-  far-bind p q l = record { k = l.k; is = rw l.is; place = l.place }
-
--- the first reader failed, and so does the whole, with the same result
-module _ {A B : Type 0} {cap at n : ℕ} {t t₁ : List ℕ} {r : Read} (x : List ℕ) where
-  pub stop-bind : (p : Reader A) (q : A → Reader B) → Did reading cap at n t t₁ r (p x) → ((a b : ℕ) → r ≡ Ok a b → ⊥)
-      → Did reading cap at n t t₁ r ((p >>= q) x)
-  unfolding ◌>>=◌ next
-  stop-bind p q d h = go (p x) d
-    where
-      go : (o : Out A) → Did reading cap at n t t₁ r o → Did reading cap at n t t₁ r (next x q o)
-      go (ok a ms k) e = absurd (h _ _ e.answers)
-      go (bad f j) e = record { answers = e.answers; wrote = e.wrote }
-      go (deep j) e = record { answers = e.answers; wrote = e.wrote }
-
-  pub stop-then : (p : Reader A) (q : Reader B) → Did reading cap at n t t₁ r (p x) → ((a b : ℕ) → r ≡ Ok a b → ⊥)
-      → Did reading cap at n t t₁ r ((p >> q) x)
-  unfolding ◌>>◌ ◌>>=◌
-  stop-then p q d h = stop-bind p (λ _. q) d h
+-- the first reader failed, and so does the whole, with the same error
+pub stopped : {A B T U : Type 0} (w : A → T) (v : B → U) (cap at n j m m' : ℕ) (t t₁ : List ℕ) (e : Stop) (x : List ℕ)
+    (o : Out A) (q : A → Reader B)
+    → Did w cap at n t t₁ (told (Err e) j m) o → Did v cap at n t t₁ (told (Err e) j m') (next x q o)
+unfolding next
+stopped w v cap at n j m m' t t₁ (Error f) x (ok a ms k) q d = let h = d.answers in let z : ◌≡◌ {A = ℕ} 0 1 = cc in absurd (omega arith)
+stopped w v cap at n j m m' t t₁ (Error f) x (bad g k) q d = let h = d.answers in let e : f ≡ up_fault at g = cc in let i : j ≡ at + k = cc in
+    record { answers = λ y. no (e y) (i y); wrote = d.wrote }
+stopped w v cap at n j m m' t t₁ (Error f) x (deep k) q d = let h = d.answers in let z : ◌≡◌ {A = ℕ} 0 1 = cc in absurd (omega arith)
+stopped w v cap at n j m m' t t₁ TooDeep x (ok a ms k) q d = let h = d.answers in let z : ◌≡◌ {A = ℕ} 0 1 = cc in absurd (omega arith)
+stopped w v cap at n j m m' t t₁ TooDeep x (bad g k) q d = let h = d.answers in let z : ◌≡◌ {A = ℕ} 0 1 = cc in absurd (omega arith)
+stopped w v cap at n j m m' t t₁ TooDeep x (deep k) q d = let h = d.answers in let i : j ≡ at + k = cc in
+    record { answers = λ y. over (i y); wrote = d.wrote }
 
 -- ---- the plain readers
-pub did_pure : {A R : Type 0} {w : Says A R} {cap at n : ℕ} {t : List ℕ} (x : A) (s : List ℕ)
-    → Did w cap at n t t (w.yes x at n) (pure x s)
+pub did_pure : {A T : Type 0} {w : A → T} {cap at n : ℕ} {t : List ℕ} (x : A) (s : List ℕ)
+    → Did w cap at n t t (yes (w x) at n) (pure x s)
 unfolding pure
 did_pure {w = w} {cap} {at} {n} {t} x s =
     record {
-      answers = ap₂ (w.yes x) (sym (add-zero at)) (sym (add-zero n));
+      answers = ap₂ (yes (w x)) (sym (add-zero at)) (sym (add-zero n));
       wrote = rw words-none (step-none cap n t);
     }
 
@@ -256,20 +207,6 @@ lost-fail {at = at} {kind = kind} x u h =
 
 pub far-here : {A : Type 0} {at : ℕ} → Far {A = A} at at (deep 0)
 far-here {at = at} = record { k = 0; is = refl; place = sym (add-zero at) }
-
--- a reader without marks
-unfoldable pub quiet : {A : Type 0} {cap at n a : ℕ} {t : List ℕ} {o : Out A} {x : A} {k : ℕ} → o ≡ ok x [] k
-    → a ≡ at + k → Found cap at n a n t t o
-quiet {cap = cap} {at} {n} {t = t} {x = x} {k = k} e h =
-    record {
-      value = x;
-      ms = [];
-      k = k;
-      is = e;
-      place = h;
-      count = sym (add-zero n);
-      wrote = rw words-none (step-none cap n t);
-    }
 
 -- ---- texts and nodes
 pub text-placed : (at a e from till kind : ℕ) → a ≡ at + from → e ≡ at + till
@@ -315,10 +252,6 @@ found-wrap {cap = cap} {at} {n} {n₁} {m} {m'} {a} {t} {t₁} {t₂} {t₃} kin
       count = omega arith;
       wrote = rw (node-words at kind f.ms) u;
     }
-
-pub lost-wrap : {A : Type 0} {at j : ℕ} {f : ParserError} (kind : ℕ) {o : Out A} → Lost at f j o → Lost at f j (wrap kind o)
-unfolding wrap
-lost-wrap kind l = record { fault = l.fault; k = l.k; is = rw l.is; moved = l.moved; place = l.place }
 
 -- a failure after an opening mark leaves no mark
 pub step-failed : {cap n n₁ : ℕ} {t t₁ t₂ : List ℕ} {ws : List Word} → Step cap n t t₁ ws → n₁ ≡ n + length ws

@@ -1,8 +1,9 @@
 -- The marks of a pattern's elements, once settled and trimmed, are those that the definition gives.
-use Rattle.std.specs.Prelude.{◌≡◌, ℕ, zero, suc, ◌+◌, ◌-◌, ◌≤◌, min, true, false, List, [], ◌∷◌, ◌++◌, map, length, take, drop}
+use Rattle.std.specs.Prelude.{unwrap_or, ◌≡◌, ℕ, zero, suc, ◌+◌, ◌-◌, ◌≤◌, min, true, false, List, [], ◌∷◌, ◌++◌, map, length, take, drop}
 use mathlib.Core.Path.{refl, sym, ap, ap₂, ◌∙◌}
 use mathlib.Core.List.{append_assoc, append-nil}
 use mathlib.Core.Option.{Option, some, none}
+use Rattle.std.specs.Prelude.{Option as Maybe}
 use native.Mathlib.Nat.{add_assoc, min-eq_left}
 use native.Mathlib.Omega.{arith}
 use borrow.Author.Tests.{ne_eqb}
@@ -18,8 +19,9 @@ use Rattle.laws.specs.Moving.{map-append}
 use Rattle.laws.specs.Bounds.Pattern.{dedented-le}
 use Rattle.entry.specs.Tree.{Word, word, words_at}
 use Rattle.entry.specs.Settle.{settle_word, trimmed_end, trim_words, Within}
-use Rattle.entry.specs.Elements.{opening, provisional_of, provisional, Low, SoundOne, Sound, Common}
-use Rattle.entry.proofs.Dids.{words_append, words-length}
+use Rattle.entry.specs.Elements.{opening, provisional_of, provisional, Low, SoundOne, Sound}
+use Rattle.entry.specs.Texts.{option_of}
+use Rattle.entry.proofs.Dids.{words_append, words-length, node-words}
 use Rattle.entry.proofs.Settle.{line_word, other_word}
 
 pub provisional-append : (at : ℕ) (es fs : List Element) → provisional at (es ++ fs) ≡ provisional at es ++ provisional at fs
@@ -27,6 +29,15 @@ unfolding provisional
 provisional-append at [] fs = refl
 provisional-append at (e ∷ es) fs =
     rw (provisional-append at es fs) (sym (append_assoc (provisional_of at e) (provisional at es) (provisional at fs)))
+
+-- the common indent as a number: at least any indent if there is none
+abbrev pub Common : List ℕ → Option ℕ → ℕ → Type 0
+Common s none n = length s ≤ n
+Common s (some c) n = n ≡ c
+
+pub common-or : (s : List ℕ) (c : Option ℕ) (o : Maybe ℕ) → o ≡ option_of c → Common s c (unwrap_or o (length s))
+common-or s none o e = rw e (omega arith)
+common-or s (some c) o e = rw e refl
 
 -- ---- elements that are settled and not trimmed
 abbrev settled_of : Option ℕ → Element → List Mark
@@ -136,10 +147,6 @@ within-other s [] j p f = tt
 within-other s (word k a ∷ []) j p f = λ e. absurd (f e)
 within-other s (x ∷ y ∷ xs) j p f =
     (within-cons s x (y ∷ (xs ++ (word j p ∷ []))) (rw length-append (omega arith))).0 (within-other s (y ∷ xs) j p f)
-
-pub node-words : (at kind : ℕ) (ms : List Mark) → words_at at (node kind ms) ≡ (word kind 0 ∷ words_at at ms) ++ (word (100 + kind) 0 ∷ [])
-unfolding node words_at move_up
-node-words at kind ms = ap (λ (l : List Word). word kind 0 ∷ l) (words_append at ms (plain (100 + kind) ∷ []))
 
 two-words : (c : Option ℕ) (at : ℕ) (e : Element) (es : List Element) → 2 ≤ length (words_at at (settled c (e ∷ es)))
 two-words c at e es = rw (words-length, length-append) (go e)

@@ -1,24 +1,26 @@
 -- The end of a pattern: its marks are cut back to those that are kept, settled and trimmed, and are then the definition's.
-use Rattle.std.specs.Prelude.{◌≡◌, ℕ, zero, suc, ◌+◌, ◌-◌, ◌≤◌, true, List, [], ◌∷◌, ◌++◌, map, length, take, drop}
+use Rattle.std.specs.Prelude.{◌≡◌, ℕ, zero, suc, ◌+◌, ◌-◌, ◌<◌, ◌≤◌, true, false, Option, Some, None, unwrap_or, List, [], ◌∷◌, ◌++◌, map, length, take, drop}
 use mathlib.Core.Path.{refl, sym, ap, ap₂, ◌∙◌}
 use native.Mathlib.Nat.{add-zero}
 use native.Mathlib.Omega.{arith}
 use lib.Dec.{eqb-suc-zero}
 use lib.ListN.{length-append, length-drop, length-map, take-append-drop}
 use lib.Seq.{length-take-le}
-use Rattle.syntax.specs.Marks.{Mark, plain, node}
+use Rattle.syntax.specs.Marks.{Mark, plain as bare, node}
 use Rattle.syntax.specs.Pattern.{Element, placeable, text, State, element_marks, finish}
 use Rattle.syntax.specs.Reader.{ok}
-use Rattle.entry.specs.declared.marks.Read.TheVariants.{Ok}
+use Rattle.entry.specs.declared.source.Source.{Source}
+use Rattle.entry.specs.declared.parser.Parser.{Parser}
 use Rattle.entry.specs.declared.pattern.Reading.{Reading}
 use Rattle.entry.specs.Tree.{Word, word, words_at, marks_in, Step}
-use Rattle.entry.specs.Did.{reading, Did}
-use Rattle.entry.specs.Settle.{settle_word, trim_words, Within}
+use Rattle.entry.specs.Marks.{Wrote}
+use Rattle.entry.specs.Did.{plain, yes, Did}
+use Rattle.entry.specs.Settle.{settle_word, trim_words, Within, Settled, Trimmable, Trimmed}
 use Rattle.entry.specs.Elements.{provisional_of, provisional}
-use Rattle.entry.specs.Texts.{Holds, Ends, Ended}
+use Rattle.entry.specs.Texts.{Standing, last_of, Holds, Ends, Ended}
 use Rattle.entry.proofs.Steps.{step-prefix, step_cut, step_then, step-over, step-last}
-use Rattle.entry.proofs.Dids.{words-length, words-none}
-use Rattle.entry.proofs.Elements.{provisional-append, trim-append, trim-length, node-words, within-append, kept-marks, kept-within}
+use Rattle.entry.proofs.Dids.{words-length, words-none, node-words}
+use Rattle.entry.proofs.Elements.{provisional-append, trim-append, trim-length, within-append, Common, common-or, kept-marks, kept-within}
 
 -- ---- the last two marks of a step are trimmed
 module _ (s : List ℕ) {cap n : ℕ} (m : ℕ) {t t₁ : List ℕ} (u : Word) (ws : List Word) (two : 2 ≤ length ws)
@@ -60,124 +62,187 @@ unfolding provisional provisional_of
 some_words at (placeable ms) es = rw (length-append, words-length) (unfold node in (rw length-append (omega arith)))
 some_words at (text a e i l) es = omega arith
 
-kept-none : (at k : ℕ) (es : List Element) → k ≤ length es → length (provisional at (take k es)) ≡ 0 → k ≡ 0
-kept-none at zero es h e = refl
-kept-none at (suc k) [] h e = absurd (omega arith)
-kept-none at (suc k) (f ∷ es) h e = let w = some_words at f (take k es) in absurd (omega arith)
+kept-two : (at k : ℕ) (es : List Element) → 0 < k → k ≤ length es → 2 ≤ length (provisional at (take k es))
+kept-two at zero es f h = absurd (omega arith)
+kept-two at (suc k) [] f h = absurd (omega arith)
+kept-two at (suc k) (e ∷ es) f h = some_words at e (take k es)
 
-kept-two : (at k : ℕ) (es : List Element) → (length (provisional at (take k es)) ≡ 0 → ⊥) → 2 ≤ length (provisional at (take k es))
-kept-two at zero es f = absurd (f (unfold provisional in refl))
-kept-two at (suc k) [] f = absurd (f (unfold provisional in refl))
-kept-two at (suc k) (e ∷ es) f = some_words at e (take k es)
+last-none : (k m : ℕ) {o : Option ℕ} → o ≡ last_of k m → o ≡ None → k ≡ 0
+last-none zero m e h = refl
+last-none (suc k) m e h = let z : ◌≡◌ {A = ℕ} 0 1 = cc in absurd (omega arith)
+
+last-some : (k m : ℕ) {o : Option ℕ} {l : ℕ} → o ≡ last_of k m → o ≡ Some l → (0 < k) × (l ≡ m)
+last-some zero m e h = let z : ◌≡◌ {A = ℕ} 0 1 = cc in absurd (omega arith)
+last-some (suc k) m e h = (omega arith, cc)
 
 -- what settling and trimming do
-abbrev Settled : List ℕ → ℕ → ℕ → List ℕ → List ℕ → Reading → Type 0
-Settled s cap n t t₁ st =
-    Step cap (n + 1) t t₁
-    (map (settle_word s st.common_indent) (drop (n + 1) (marks_in cap st.last_non_blank t)))
+abbrev SettledTo : List ℕ → ℕ → ℕ → List ℕ → List ℕ → ℕ → ℕ → Type 0
+SettledTo s cap n t t₁ l c = Step cap (n + 1) t t₁ (map (settle_word s c) (drop (n + 1) (marks_in cap l t)))
 
-abbrev Trimmed : List ℕ → ℕ → List ℕ → List ℕ → Reading → Type 0
-Trimmed s cap t₁ t₂ st =
-    Step cap (st.last_non_blank - 2) t₁ t₂
-    (trim_words s (drop (st.last_non_blank - 2) (marks_in cap (st.last_non_blank - 2 + 2) t₁)))
+abbrev TrimmedTo : List ℕ → ℕ → List ℕ → List ℕ → ℕ → Type 0
+TrimmedTo s cap t₁ t₂ l = Step cap (l - 2) t₁ t₂ (trim_words s (drop (l - 2) (marks_in cap (l - 2 + 2) t₁)))
 
-module _ {s : List ℕ} {cap at n : ℕ} {t₀ t : List ℕ} {st : Reading} {d : State} (h : Holds s cap at n t₀ t st d) where
+-- no element is kept
+none-did : {s : List ℕ} {cap at n : ℕ} {t₀ t : List ℕ} {st : Standing} {d : State} {end : ℕ} → Holds s cap at n t₀ t st d
+    → st.last_non_blank ≡ None → at ≤ end → Did plain cap at n t₀ t (yes false end n) (finish (drop at s) (ok d [] (end - at)))
+unfolding finish
+none-did {s} {cap} {at} {n} {d = d} h e l =
+    let k : d.kept ≡ 0 = last-none d.kept _ h.kept e in
+    rw (finish, k) (record { answers = ap₂ (yes false) (omega arith) (sym (add-zero n)); wrote = rw words-none (step_cut h.wrote) })
+
+module _ {s : List ℕ} {cap at n : ℕ} {t₀ t : List ℕ} {st : Standing} {d : State} (h : Holds s cap at n t₀ t st d) {l : ℕ}
+    (el : st.last_non_blank ≡ Some l) where
   kept-split : provisional at d.elements ≡ provisional at (take d.kept d.elements) ++ provisional at (drop d.kept d.elements)
   kept-split = ap (provisional at) (sym (take-append-drop d.kept d.elements))
       ∙ provisional-append at (take d.kept d.elements) (drop d.kept d.elements)
 
-  pub last-le : (n + 1 ≤ st.last_non_blank) × (st.last_non_blank ≤ st.n)
-  last-le =
+  kept : (0 < d.kept) × (l ≡ n + 1 + length (provisional at (take d.kept d.elements)))
+  kept = last-some d.kept _ h.kept el
+
+  pub last-order : (n + 3 ≤ l) × (l ≤ st.n)
+  last-order =
       let e = ap length kept-split
-      ∙ length-append (provisional at (take d.kept d.elements))
-      (provisional at (drop d.kept d.elements)) in
-      (omega (arith, h.kept), omega (arith, h.kept, h.count))
+      ∙ length-append (provisional at (take d.kept d.elements)) (provisional at (drop d.kept d.elements)) in
+      let w = kept-two at d.kept d.elements kept.0 h.few in
+      (omega (arith, kept), omega (arith, kept, h.count))
 
   kept_step : Step cap n t₀ t (word 11 0 ∷ provisional at (take d.kept d.elements))
   kept_step =
       step-prefix (word 11 0 ∷ provisional at (take d.kept d.elements))
       (provisional at (drop d.kept d.elements)) (rw kept-split at h.wrote)
 
-  -- settled, and with no text trimmed yet
-  abbrev now-settled : List Word
-  now-settled = map (settle_word s st.common_indent) (provisional at (take d.kept d.elements))
+  module _ (c : ℕ) (ec : c ≡ unwrap_or st.common_indent (length s)) where
+    common : Common s d.common c
+    common = rw ec (common-or s d.common st.common_indent h.common)
 
-  settled-length : length now-settled ≡ length (provisional at (take d.kept d.elements))
-  settled-length = simp length-map
+    -- settled, and with no text trimmed yet
+    abbrev now-settled : List Word
+    now-settled = map (settle_word s c) (provisional at (take d.kept d.elements))
 
-  module _ {t₁ : List ℕ} (g : Settled s cap n t t₁ st) (some : st.last_non_blank ≡ n + 1 → ⊥) where
-    settled-step : Step cap n t₀ t₁ (word 11 0 ∷ now-settled)
-    settled-step =
-        let e = step-last (word 11 0 ∷ []) (provisional at (take d.kept d.elements)) kept_step refl h.kept in
-        step-over (word 11 0 ∷ []) (provisional at (take d.kept d.elements)) kept_step refl (rw e at g)
+    settled-length : length now-settled ≡ length (provisional at (take d.kept d.elements))
+    settled-length = simp length-map
 
-    two : 2 ≤ length now-settled
-    two = rw settled-length (kept-two at d.kept d.elements (λ e. some (omega (arith, h.kept))))
+    module _ {t₁ : List ℕ} (g : SettledTo s cap n t t₁ l c) where
+      settled-step : Step cap n t₀ t₁ (word 11 0 ∷ now-settled)
+      settled-step =
+          let e = step-last (word 11 0 ∷ []) (provisional at (take d.kept d.elements)) kept_step refl kept.1 in
+          step-over (word 11 0 ∷ []) (provisional at (take d.kept d.elements)) kept_step refl (rw e at g)
 
-    end_of : st.last_non_blank - 2 + 2 ≡ n + 1 + length now-settled
-    end_of = let w = two in omega (arith, h.kept, settled-length)
+      two : 2 ≤ length now-settled
+      two = rw settled-length (kept-two at d.kept d.elements kept.0 h.few)
 
-    pub trim-within : at ≤ length s → Within s (drop (st.last_non_blank - 2) (marks_in cap (st.last_non_blank - 2 + 2) t₁))
-    trim-within i =
-        last_within s (st.last_non_blank - 2) (word 11 0) now-settled two settled-step end_of
-        (kept-within s d.common st.common_indent at d.kept d.elements h.common h.sound i)
+      end_of : l - 2 + 2 ≡ n + 1 + length now-settled
+      end_of = let w = two in omega (arith, kept, settled-length)
 
-    -- the whole pattern
-    pattern-did : {t₂ t₃ : List ℕ} {m end : ℕ} (k : ℕ) → d.kept ≡ k → at ≤ end
-        → Trimmed s cap t₁ t₂ st
-        → (m ≡ st.last_non_blank + 1) × Step cap st.last_non_blank t₂ t₃ (word 111 0 ∷ [])
-        → Did reading cap at n t₀ t₃ (Ok end m) (finish (drop at s) (ok d [] (end - at)))
-    pattern-did zero ek l w p = absurd (some (h.kept ∙ none))
-      where
-        none : n + 1 + length (provisional at (take d.kept d.elements)) ≡ n + 1
-        none = rw ek (unfold provisional in (add-zero (n + 1)))
-    pattern-did {t₂} {t₃} {m} {end} (suc k) ek l w p =
-        rw finished
-        (record { answers = ap₂ Ok (omega arith) counted; wrote = rw (node-words at 11 marks) (step_then trimmed-step after p.1) })
-      where
-        marks : List Mark
-        marks = element_marks (drop at s) d.common (suc k) d.elements
+      pub trim-within : at ≤ length s → Within s (drop (l - 2) (marks_in cap (l - 2 + 2) t₁))
+      trim-within i =
+          last_within s (l - 2) (word 11 0) now-settled two settled-step end_of
+          (kept-within s d.common c at d.kept d.elements common h.sound i)
 
-        finished : finish (drop at s) (ok d [] (end - at)) ≡ ok true (node 11 marks) (end - at)
-        finished = unfold finish in (rw (finish, ek, eqb-suc-zero k) (rw ek))
+      -- the whole pattern
+      pub pattern-did : {t₂ t₃ : List ℕ} {m end : ℕ} → at ≤ end → TrimmedTo s cap t₁ t₂ l → m ≡ l + 1
+          → Step cap l t₂ t₃ (word 111 0 ∷ [])
+          → Did plain cap at n t₀ t₃ (yes true end m) (finish (drop at s) (ok d [] (end - at)))
+      pattern-did {t₂} {t₃} {m} {end} le w em p = go d.kept refl
+        where
+          go : (k : ℕ) → d.kept ≡ k → Did plain cap at n t₀ t₃ (yes true end m) (finish (drop at s) (ok d [] (end - at)))
+          go zero ek = absurd (omega (arith, kept))
+          go (suc k) ek =
+              rw finished
+              (record { answers = ap₂ (yes true) (omega arith) counted; wrote = rw (node-words at 11 marks) (step_then trimmed-step after p) })
+            where
+              marks : List Mark
+              marks = element_marks (drop at s) d.common (suc k) d.elements
 
-        trimmed-is : trim_words s now-settled ≡ words_at at marks
-        trimmed-is =
-            kept-marks s d.common st.common_indent at d.kept d.elements h.common h.sound h.few
-            ∙ ap (λ (j : ℕ). words_at at (element_marks (drop at s) d.common j d.elements)) ek
+              finished : finish (drop at s) (ok d [] (end - at)) ≡ ok true (node 11 marks) (end - at)
+              finished = unfold finish in (rw (finish, ek, eqb-suc-zero k) (rw ek))
 
-        trimmed-step : Step cap n t₀ t₂ (word 11 0 ∷ words_at at marks)
-        trimmed-step = rw (sym trimmed-is) (step-trim s (st.last_non_blank - 2) (word 11 0) now-settled two settled-step end_of w)
+              trimmed-is : trim_words s now-settled ≡ words_at at marks
+              trimmed-is =
+                  kept-marks s d.common c at d.kept d.elements common h.sound h.few
+                  ∙ ap (λ (j : ℕ). words_at at (element_marks (drop at s) d.common j d.elements)) ek
 
-        marks-length : length marks ≡ length (provisional at (take d.kept d.elements))
-        marks-length = sym (words-length at marks) ∙ ap length (sym trimmed-is) ∙ trim-length s now-settled ∙ settled-length
+              trimmed-step : Step cap n t₀ t₂ (word 11 0 ∷ words_at at marks)
+              trimmed-step = rw (sym trimmed-is) (step-trim s (l - 2) (word 11 0) now-settled two settled-step end_of w)
 
-        after : st.last_non_blank ≡ n + length (word 11 0 ∷ words_at at marks)
-        after = let q = marks-length in let z = words-length at marks in omega (arith, h.kept)
+              marks-length : length marks ≡ length (provisional at (take d.kept d.elements))
+              marks-length =
+                  sym (words-length at marks) ∙ ap length (sym trimmed-is) ∙ trim-length s now-settled ∙ settled-length
 
-        counted : m ≡ n + length (node 11 marks)
-        counted = unfold node in (let q = marks-length in let z = length-append marks (plain 111 ∷ []) in omega (arith, h.kept, p.0))
+              after : l ≡ n + length (word 11 0 ∷ words_at at marks)
+              after = let q = marks-length in let z = words-length at marks in omega (arith, kept)
 
-  none-did : {end : ℕ} → st.last_non_blank ≡ n + 1 → at ≤ end
-      → Did reading cap at n t₀ t (Ok end n) (finish (drop at s) (ok d [] (end - at)))
-  unfolding finish
-  none-did {end} e l =
-      let k : d.kept ≡ 0 = kept-none at d.kept d.elements h.few (omega (arith, h.kept)) in
-      rw (finish, k) (record { answers = ap₂ Ok (omega arith) (sym (add-zero n)); wrote = rw words-none (step_cut h.wrote) })
+              counted : m ≡ n + length (node 11 marks)
+              counted = unfold node in
+                  (let q = marks-length in let z = length-append marks (bare 111 ∷ []) in omega (arith, kept, em))
 
 -- ---- what the end of a pattern asks and does
-module _ {s t : List ℕ} {cap n : ℕ} {st : Reading} (ends : Ends s t cap n st) where
-  pub ends-order : (n + 1 ≤ st.last_non_blank) × (st.last_non_blank ≤ st.n)
-  ends-order = last-le ends.holds
+module _ {n : ℕ} {p : Parser} {st : Reading} (ends : Ends n p st) where
+  pub end_none : {p' : Parser} → p'.source ≡ p.source → p'.tree.now.words ≡ p.tree.now.words → p'.tree.now.capacity ≡ p.tree.now.capacity
+      → p'.tree.now.count ≡ n → st.last_non_blank ≡ None → Ended n p p' st false
+  end_none a b c e h =
+      record {
+        frame = record {
+          bytes = ap (λ (s : Source). s.bytes) a;
+          tree = record { words = rw b; capacity = c };
+        };
+        place = ap (λ (s : Source). s.ptr) a;
+        did = λ at from t₀ d l hd. rw (a, b, e) (none-did hd h l);
+      }
 
-  pub end_none : {end : ℕ} → st.last_non_blank ≡ n + 1 → Ended s cap n t t st end (Ok end n)
-  end_none e = record { did = λ at t₀ d l h. none-did h e l }
+  pub ends-order : {l : ℕ} → st.last_non_blank ≡ Some l → (n + 3 ≤ l) × (l ≤ p.tree.now.count) × (l + 1 ≤ p.tree.now.capacity)
+  ends-order el = let o = last-order ends.holds el in (o.0, o.1, omega (arith, ends.room, o))
 
-  module _ {t₁ : List ℕ} (g : Settled s cap n t t₁ st) (some : st.last_non_blank ≡ n + 1 → ⊥) where
-    pub ends-within : Within s (drop (st.last_non_blank - 2) (marks_in cap (st.last_non_blank - 2 + 2) t₁))
-    ends-within = trim-within ends.holds g some ends.inside
+  module _ {l : ℕ} (el : st.last_non_blank ≡ Some l) {p₀ : Parser} (source : p₀.source ≡ p.source) (words : p₀.tree.now.words ≡ p.tree.now.words)
+      (capacity : p₀.tree.now.capacity ≡ p.tree.now.capacity) (count : p₀.tree.now.count ≡ l) where
+    module _ {c : ℕ} (ec : c ≡ unwrap_or st.common_indent (length p.source.bytes.now)) {p₁ : Parser} (g : Settled (n + 1) c p₀ p₁) where
+      settled : SettledTo p.source.bytes.now p.tree.now.capacity n p.tree.now.words.now p₁.tree.now.words.now l c
+      settled = rw (source, words, capacity, count) at g.settled
 
-    pub end-some : {t₂ t₃ : List ℕ} {m end : ℕ}
-        → Trimmed s cap t₁ t₂ st
-        → (m ≡ st.last_non_blank + 1) × Step cap st.last_non_blank t₂ t₃ (word 111 0 ∷ []) → Ended s cap n t t₃ st end (Ok end m)
-    end-some w p = record { did = λ at t₀ d l h. pattern-did h g some d.kept refl l w p }
+      bytes₁ : p₁.source.bytes ≡ p.source.bytes
+      bytes₁ = g.kept.frame.bytes ∙ ap (λ (s : Source). s.bytes) source
+
+      capacity₁ : p₁.tree.now.capacity ≡ p.tree.now.capacity
+      capacity₁ = g.kept.frame.tree.capacity ∙ capacity
+
+      count₁ : p₁.tree.now.count ≡ l
+      count₁ = g.kept.count ∙ count
+
+      pub ends-trimmable : Trimmable p₁
+      ends-trimmable =
+          record {
+            some = omega (arith, ends-order el, count₁);
+            room = omega (arith, ends-order el, count₁, capacity₁);
+            within = rw (bytes₁, capacity₁, count₁) (trim-within ends.holds el c ec settled ends.inside);
+          }
+
+      module _ {p₂ : Parser} (w : Trimmed p₁ p₂) where
+        trimmed : TrimmedTo p.source.bytes.now p.tree.now.capacity p₁.tree.now.words.now p₂.tree.now.words.now l
+        trimmed = rw (bytes₁, capacity₁, count₁) at w.trimmed
+
+        capacity₂ : p₂.tree.now.capacity ≡ p.tree.now.capacity
+        capacity₂ = w.kept.frame.tree.capacity ∙ capacity₁
+
+        count₂ : p₂.tree.now.count ≡ l
+        count₂ = w.kept.count ∙ count₁
+
+        pub ends-room : p₂.tree.now.count + 1 ≤ p₂.tree.now.capacity
+        ends-room = omega (arith, ends-order el, count₂, capacity₂)
+
+        pub end-some : {p' : Parser} → p'.source ≡ p₂.source → Wrote p₂.tree.now p'.tree.now (word 111 0 ∷ []) → Ended n p p' st true
+        end-some {p'} a z =
+            let u : Step p.tree.now.capacity l p₂.tree.now.words.now p'.tree.now.words.now (word 111 0 ∷ []) = rw (capacity₂, count₂) at z.step in
+            let v : p'.source.ptr ≡ p.source.ptr =
+            ap (λ (s : Source). s.ptr) a ∙ w.kept.place ∙ g.kept.place ∙ ap (λ (s : Source). s.ptr) source in
+            let m : p'.tree.now.count ≡ l + 1 = omega (arith, z.count, count₂) in
+            record {
+              frame = record {
+                bytes = ap (λ (s : Source). s.bytes) a ∙ w.kept.frame.bytes ∙ bytes₁;
+                tree = record {
+                  words = z.same.words ∙ w.kept.frame.tree.words ∙ g.kept.frame.tree.words ∙ rw words;
+                  capacity = z.same.capacity ∙ capacity₂;
+                };
+              };
+              place = v;
+              did = λ at from t₀ d i hd. rw v (pattern-did hd el c ec settled i trimmed m u);
+            }

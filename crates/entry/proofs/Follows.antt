@@ -1,42 +1,37 @@
--- What follows an inline expression.
-use Rattle.std.specs.Prelude.{◌≡◌, ℕ, ◌+◌, ◌-◌, Bool, true, false, List, [], drop}
-use mathlib.Core.Path.{refl, sym, ap, ap₂, ◌∙◌}
-use native.Mathlib.Nat.{add-zero}
+-- What follows an inline expression, and the end of a placeable.
+use Rattle.std.specs.Prelude.{◌≡◌, ℕ, ◌+◌, Bool, true, false, ◌&&◌, eqb, Result, Ok, Err, List, drop}
+use mathlib.Core.Path.{refl, sym, ap, ◌∙◌}
+use mathlib.Core.Bool.{and-false}
 use native.Mathlib.Omega.{arith}
-use lib.Seq.{drop-drop}
-use Rattle.syntax.specs.declared.errors.ErrorKind.TheVariants.{TermAttributeAsPlaceable}
-use Rattle.syntax.specs.Errors.{up_fault, fault_at}
-use Rattle.syntax.specs.Marks.{move_up}
-use Rattle.syntax.specs.Reader.{Out, ok, Reader, after, next, ◌>>◌, pure, fail}
-use Rattle.syntax.specs.Helper.{skip_blank}
+use Rattle.syntax.specs.Byte as Byte
+use Rattle.syntax.specs.Bytes.{starts_with, second}
+use Rattle.syntax.specs.declared.errors.CharRange.TheVariants.{LineEnd}
+use Rattle.syntax.specs.declared.errors.ErrorKind.TheVariants.{TermAttributeAsPlaceable, ExpectedCharRange}
+use Rattle.syntax.specs.declared.errors.ErrorKind.TheVariants.{MessageAttributeAsSelector, MessageReferenceAsSelector}
+use Rattle.syntax.specs.declared.errors.ErrorKind.TheVariants.{TermReferenceAsSelector, ExpectedSimpleExpressionAsSelector}
+use Rattle.syntax.specs.Errors.{fault_at}
+use Rattle.syntax.specs.Reader.{Reader, ◌>>=◌, ◌>>◌, pure, fail}
+use Rattle.syntax.specs.Helper.{skip_blank, skip_blank_inline, skip_eol}
 use Rattle.syntax.specs.Pattern.{Inside}
-use Rattle.syntax.specs.Expression.{Inline, string, number, variable, function, inner, message, term, alone}
+use Rattle.syntax.specs.Expression.{Inline, string, number, variable, function, inner, message, term, selector, alone, needs_line_end}
 use Rattle.syntax.specs.Expression.{Expression as Content, inline, select, is_term_attribute, no_term_attribute}
 use Rattle.syntax.specs.Expression.{after_inline, select_from, get_variants}
-use Rattle.laws.specs.Bytes.{by_case}
-use Rattle.laws.specs.Moving.{after-after, move_up-nil}
-use Rattle.entry.specs.Place.{Went}
-use Rattle.entry.specs.Did.{reading, answer}
-use Rattle.entry.specs.Shape.{shape_at, content_at, is_attribute_of_term, is_arrow, alone_at, Followed, followed_by}
+use Rattle.entry.specs.declared.errors.Stop.{Stop}
+use Rattle.entry.specs.declared.errors.Stop.TheVariants.{Error, TooDeep}
+use Rattle.entry.specs.declared.source.Source.{Source}
 use Rattle.entry.specs.declared.expression.Expression.{Expression}
 use Rattle.entry.specs.declared.expression.Expression.TheVariants.{StringLiteral, NumberLiteral}
 use Rattle.entry.specs.declared.expression.Expression.TheVariants.{VariableReference, FunctionReference}
 use Rattle.entry.specs.declared.expression.Expression.TheVariants.{MessageReference, TermReference, Placeable}
 use Rattle.entry.specs.declared.expression.Expression.TheVariants.{Select}
-use Rattle.entry.specs.declared.expression.AfterInline.{AfterInline}
-use Rattle.entry.specs.declared.expression.AfterInline.TheVariants as follows
-use Rattle.entry.specs.declared.marks.Read.TheVariants.{Bad}
-use Rattle.entry.proofs.Dids.{fault-here, fault-up, answer-after}
+use Rattle.entry.specs.Place.{Tests}
+use Rattle.entry.specs.Reads.{rest, Goes, Finds}
+use Rattle.entry.specs.Shape.{shape_at, content_at, selector_at, is_attribute_of_term, refused_if, followed_by, Followed, Fails}
+use Rattle.entry.proofs.Tests.{starts-with, second-next}
+use Rattle.entry.proofs.Sources.{goes-then, goes-pure, finds-ok, finds-fail, finds-stop, finds-fails, finds-goes}
+use Rattle.entry.proofs.Sources.{Leads, leads-here, leads-then, leads-bind, leads-byte, leads-trans, fails-after}
 
--- by whether it is a term's attribute
-abbrev alone_by : Bool → Inline → Reader Content
-alone_by true i = fail TermAttributeAsPlaceable
-alone_by false i = pure (inline i)
-
-abbrev alone_as : Bool → ℕ → AfterInline
-alone_as true at = follows.Bad (fault_at TermAttributeAsPlaceable at) at
-alone_as false at = follows.Alone at
-
+-- ---- a term's attribute
 pub attribute-same : (b : ℕ) (c : Content) → is_attribute_of_term (content_at b c) ≡ is_term_attribute c
 unfolding is_term_attribute
 attribute-same b (inline string) = refl
@@ -48,95 +43,172 @@ attribute-same b (inline (message n a)) = refl
 attribute-same b (inline (term a)) = refl
 attribute-same b select = refl
 
-alone-by : (b : ℕ) (i : Inline) (y : List ℕ) → alone i y ≡ alone_by (is_attribute_of_term (shape_at b i)) i y
-unfolding alone ◌>>◌ next after move_up no_term_attribute fail pure
-alone-by b i y = rw (attribute-same b (inline i)) (go (is_term_attribute (inline i)))
-  where
-    go : (v : Bool) → next y (λ _. pure (inline i)) (no_term_attribute v y) ≡ alone_by v i y
-    go true = refl
-    go false = refl
+pub attribute-finds : (s : Source) (v : Bool) → Finds s s (no_term_attribute v (rest s)) (refused_if v s.ptr TermAttributeAsPlaceable)
+unfolding no_term_attribute
+attribute-finds s true = finds-fail s TermAttributeAsPlaceable refl
+attribute-finds s false = finds-ok s tt
 
-alone-as : (at : ℕ) (x : Expression) → alone_at at x ≡ alone_as (is_attribute_of_term x) at
-alone-as at StringLiteral = refl
-alone-as at NumberLiteral = refl
-alone-as at VariableReference = refl
-alone-as at FunctionReference = refl
-alone-as at (MessageReference e a) = refl
-alone-as at (TermReference true) = refl
-alone-as at (TermReference false) = refl
-alone-as at Placeable = refl
-alone-as at Select = refl
+-- ---- selectors
+pub selector-finds : (s : Source) (b : ℕ) (i : Inline) → Finds s s (selector i (rest s)) (selector_at s.ptr (shape_at b i))
+unfolding selector
+selector-finds s b string = finds-ok s tt
+selector-finds s b number = finds-ok s tt
+selector-finds s b variable = finds-ok s tt
+selector-finds s b function = finds-ok s tt
+selector-finds s b inner = finds-fail s ExpectedSimpleExpressionAsSelector refl
+selector-finds s b (message n true) = finds-fail s MessageAttributeAsSelector refl
+selector-finds s b (message n false) = finds-fail s MessageReferenceAsSelector refl
+selector-finds s b (term true) = finds-ok s tt
+selector-finds s b (term false) = finds-fail s TermReferenceAsSelector refl
 
-arrow : (sub : Inside) (i : Inline) (y : List ℕ) → is_arrow y ≡ true → after_inline sub i y ≡ select_from sub i y
-unfolding after_inline is_arrow
-arrow sub i y h = rw (h, after_inline)
+selector-shallow : (at : ℕ) (x : Expression) → selector_at at x ≡ Err TooDeep → ⊥
+selector-shallow at StringLiteral h = let z : ◌≡◌ {A = ℕ} 0 1 = cc in omega arith
+selector-shallow at NumberLiteral h = let z : ◌≡◌ {A = ℕ} 0 1 = cc in omega arith
+selector-shallow at VariableReference h = let z : ◌≡◌ {A = ℕ} 0 1 = cc in omega arith
+selector-shallow at FunctionReference h = let z : ◌≡◌ {A = ℕ} 0 1 = cc in omega arith
+selector-shallow at (MessageReference e true) h = let z : ◌≡◌ {A = ℕ} 0 1 = cc in omega arith
+selector-shallow at (MessageReference e false) h = let z : ◌≡◌ {A = ℕ} 0 1 = cc in omega arith
+selector-shallow at (TermReference true) h = let z : ◌≡◌ {A = ℕ} 0 1 = cc in omega arith
+selector-shallow at (TermReference false) h = let z : ◌≡◌ {A = ℕ} 0 1 = cc in omega arith
+selector-shallow at Placeable h = let z : ◌≡◌ {A = ℕ} 0 1 = cc in omega arith
+selector-shallow at Select h = let z : ◌≡◌ {A = ℕ} 0 1 = cc in omega arith
 
-ended : (i : Inline) (k j : ℕ) → after [] k (ok (inline i) [] j) ≡ ok (inline i) [] (k + j)
-unfolding after move_up
-ended i k j = refl
+-- ---- the arrow
+abbrev pub is_arrow : List ℕ → Bool
+is_arrow x = starts_with Byte.minus x && second (λ b. eqb b Byte.greater) x
 
-pub twice : {B : Type 0} (k j : ℕ) (o : Out B) → after [] k (after [] j o) ≡ after [] (k + j) o
-twice k j o = after-after [] k [] j o ∙ (unfold move_up in refl)
+greater_next : (s : List ℕ) (i : ℕ) → second (λ b. eqb b Byte.greater) (drop i s) ≡ starts_with Byte.greater (drop (i + 1) s)
+greater_next s i = second-next (λ b. eqb b Byte.greater) s i ∙ sym (starts-with Byte.greater (drop (i + 1) s))
 
-module _ {s : List ℕ} {at e : ℕ} (x : Expression) (w : Went s at (skip_blank (drop at s)) tt e) where
-  opened : (sub : Inside) (i : Inline) → followed_by sub i (drop at s) ≡ after [] (e - at) (after_inline sub i (drop e s))
-  unfolding followed_by ◌>>◌ next
-  opened sub i = let l = w.onward in let j : at + (e - at) ≡ e = omega arith in rw (w.answers, drop-drop, j)
+pub no-minus : (s : Source) {r : Bool} → Tests (starts_with Byte.minus) s.bytes.now s.ptr r → r ≡ false → is_arrow (rest s) ≡ false
+no-minus s t h = rw (sym t.is ∙ h)
 
-  here : is_arrow (drop e s) ≡ false → (sub : Inside) (b : ℕ) (i : Inline) → x ≡ shape_at b i
-      → followed_by sub i (drop at s) ≡ after [] (e - at) (alone_by (is_attribute_of_term x) i (drop e s))
-  unfolding after_inline is_arrow
-  here h sub b i q = opened sub i
-      ∙ ap (after [] (e - at))
-      ((rw (h, after_inline)) ∙ alone-by b i (drop e s)
-      ∙ ap (λ (y : Expression). alone_by (is_attribute_of_term y) i (drop e s)) (sym q))
+pub no-greater : (s : Source) {r : Bool} → Tests (starts_with Byte.greater) s.bytes.now (s.ptr + 1) r → r ≡ false → is_arrow (rest s) ≡ false
+no-greater s t h = rw (greater_next s.bytes.now s.ptr ∙ sym t.is ∙ h) (and-false _)
 
-  pub alone-followed : is_arrow (drop e s) ≡ false → Followed followed_by s at x (alone_at e x)
-  unfolding after pure fail
-  alone-followed h = rw (alone-as e x) (by_case (is_attribute_of_term x) yes no)
-    where
-      yes : is_attribute_of_term x ≡ true → Followed followed_by s at x (alone_as (is_attribute_of_term x) e)
-      yes t = rw t (
-        w.within,
-        λ sub b i q.
-            let o : followed_by sub i (drop at s) ≡ after [] (e - at) (fail TermAttributeAsPlaceable (drop e s)) =
-            here h sub b i q
-            ∙ (rw t) in
-            let j : at + (e - at) ≡ e = omega (arith, w.onward) in
-            let g : up_fault (at + (e - at)) (fault_at TermAttributeAsPlaceable 0) ≡ fault_at TermAttributeAsPlaceable e =
-            (rw j (fault-here TermAttributeAsPlaceable e refl)) in
-            ap (answer reading at 0) o ∙ ap₂ Bad (fault-up at (e - at) (fault_at TermAttributeAsPlaceable 0) ∙ g) (omega (arith, w.onward)),
-      )
+module _ {s s₁ : Source} (x : Expression) (w : Goes s s₁ (skip_blank (rest s)) tt) where
+  -- ---- alone
+  module _ (h : is_arrow (rest s₁) ≡ false) where
+    there : (sub : Inside) (b : ℕ) (i : Inline) → x ≡ shape_at b i
+        → after_inline sub i (rest s₁) ≡ (no_term_attribute (is_attribute_of_term x) >> pure (inline i)) (rest s₁)
+    unfolding after_inline alone
+    there sub b i q =
+        let v : is_attribute_of_term x ≡ is_term_attribute (inline i) = ap is_attribute_of_term q ∙ attribute-same b (inline i) in
+        rw (h, after_inline, v)
 
-      no : is_attribute_of_term x ≡ false → Followed followed_by s at x (alone_as (is_attribute_of_term x) e)
-      no t = rw t (w.onward, w.within, λ sub b i q. here h sub b i q ∙ (rw (t, move_up-nil, add-zero)))
+    pub followed-alone : {r : Result (Unit {0}) Stop} {u : Unit {0}} → r ≡ refused_if (is_attribute_of_term x) s₁.ptr TermAttributeAsPlaceable
+        → r ≡ Ok u → Followed s s₁ x (Ok false)
+    unfolding followed_by
+    followed-alone {r} {u} e f =
+        record {
+          bytes = w.bytes;
+          is =
+              λ sub b i q.
+              let d : Finds s₁ s₁ (no_term_attribute (is_attribute_of_term x) (rest s₁)) (Ok u) =
+              rw (sym e ∙ f) at (attribute-finds s₁ (is_attribute_of_term x)) in
+              let a : Goes s₁ s₁ (after_inline sub i (rest s₁)) (inline i) =
+              rw (there sub b i q)
+              (goes-then (no_term_attribute (is_attribute_of_term x)) (pure (inline i)) (finds-goes d) (goes-pure s₁ (inline i))) in
+              let z : Goes s s₁ (followed_by sub i (rest s)) (inline i) = goes-then skip_blank (after_inline sub i) w a in
+              z.went;
+        }
 
-  pub select-followed : is_arrow (drop e s) ≡ true → (r : AfterInline) → Followed select_from s e x r → Followed followed_by s at x r
-  select-followed h r f = go r f
-    where
-      j : at + (e - at) ≡ e
-      j = omega (arith, w.onward)
+    pub followed-attribute : {r : Result (Unit {0}) Stop} {e : Stop} → r ≡ refused_if (is_attribute_of_term x) s₁.ptr TermAttributeAsPlaceable
+        → r ≡ Err e → Followed s s₁ x (Err e)
+    unfolding followed_by
+    followed-attribute {r} {e} p f =
+        let d : Finds s₁ s₁ (no_term_attribute (is_attribute_of_term x) (rest s₁)) (Err e) =
+        rw (sym p ∙ f) at (attribute-finds s₁ (is_attribute_of_term x)) in
+        go e d
+      where
+        go : (e : Stop) → Finds s₁ s₁ (no_term_attribute (is_attribute_of_term x) (rest s₁)) (Err e) → Followed s s₁ x (Err e)
+        go (Error g) d =
+            record {
+              bytes = w.bytes;
+              is =
+                  λ sub b i q.
+                  let z : Fails s₁.ptr g s₁.ptr (after_inline sub i (rest s₁)) =
+                  rw (there sub b i q) (finds-fails (finds-stop (no_term_attribute (is_attribute_of_term x)) (pure (inline i)) d)) in
+                  fails-after (leads-then skip_blank (after_inline sub i) w (leads-here s₁.ptr (after_inline sub i (rest s₁)))) z;
+            }
+        go TooDeep d = absurd (d.shallow refl)
 
-      first : (sub : Inside) (i : Inline) → followed_by sub i (drop at s) ≡ after [] (e - at) (select_from sub i (drop e s))
-      first sub i = opened sub i ∙ ap (after [] (e - at)) (arrow sub i (drop e s) h)
+  -- ---- a select
+  module _ {r : Bool} (m : starts_with Byte.minus (rest s₁) ≡ true) (t : Tests (starts_with Byte.greater) s₁.bytes.now (s₁.ptr + 1) r)
+      (y : r ≡ true) where
+    chosen : (sub : Inside) (i : Inline) → after_inline sub i (rest s₁) ≡ select_from sub i (rest s₁)
+    unfolding after_inline
+    chosen sub i = rw (m, greater_next s₁.bytes.now s₁.ptr ∙ sym t.is ∙ y, after_inline)
 
-      go : (r : AfterInline) → Followed select_from s e x r → Followed followed_by s at x r
-      go (follows.Alone a) g =
-          let k : e - at + (a - e) ≡ a - at = omega (arith, w.onward, g.0) in (
-            omega (arith, w.onward, g.0),
-            g.1,
-            λ sub b i q. first sub i
-                ∙ ap (after [] (e - at)) (g.2 sub b i q) ∙ ended i (e - at) (a - e) ∙ ap (ok (inline i) []) k,
-          )
-      go (follows.Select a) g =
-          let k : e - at + (a - e) ≡ a - at = omega (arith, w.onward, g.0) in (
-            omega (arith, w.onward, g.0),
-            g.1,
-            λ sub b i q. first sub i ∙ ap (after [] (e - at)) (g.2 sub b i q)
-                ∙ twice (e - at) (a - e) _ ∙ ap (λ (n : ℕ). after [] n ((get_variants sub >> pure select) (drop a s))) k,
-          )
-      go (follows.Bad c k) g = (
-        g.0,
-        λ sub b i q. ap (answer reading at 0) (first sub i) ∙ answer-after reading at 0 (e - at) [] _
-            ∙ (rw (j, add-zero) (g.1 sub b i q)),
-      )
+    pub followed-selector : {c : Result (Unit {0}) Stop} {e : Stop} → c ≡ selector_at s₁.ptr x → c ≡ Err e → Followed s s₁ x (Err e)
+    unfolding followed_by select_from
+    followed-selector {c} {e} p f = go e (sym p ∙ f)
+      where
+        go : (e : Stop) → selector_at s₁.ptr x ≡ Err e → Followed s s₁ x (Err e)
+        go (Error g) h =
+            record {
+              bytes = w.bytes;
+              is =
+                  λ sub b i q.
+                  let d : Finds s₁ s₁ (selector i (rest s₁)) (Err (Error g)) =
+                  rw (ap (selector_at s₁.ptr) (sym q) ∙ h) at (selector-finds s₁ b i) in
+                  let z : Fails s₁.ptr g s₁.ptr (after_inline sub i (rest s₁)) =
+                  rw (chosen sub i) (finds-fails (finds-stop (selector i) _ d)) in
+                  fails-after (leads-then skip_blank (after_inline sub i) w (leads-here s₁.ptr (after_inline sub i (rest s₁)))) z;
+            }
+        go TooDeep h = absurd (selector-shallow s₁.ptr x h)
+
+    -- from the end of the line on
+    line_end : Inside → Reader Content
+    line_end sub = do
+      end ← skip_eol
+      needs_line_end end
+      skip_blank
+      get_variants sub
+      pure select
+
+    module _ {c : Result (Unit {0}) Stop} {u : Unit {0}} {s₂ s₃ : Source} {n : ℕ} (p : c ≡ selector_at s₁.ptr x) (f : c ≡ Ok u)
+        (sb : s₂.bytes ≡ s₁.bytes) (sp : s₂.ptr ≡ s₁.ptr + 2) (g : Goes s₂ s₃ (skip_blank_inline (rest s₂)) n) where
+      opened : (sub : Inside) (b : ℕ) (i : Inline) → x ≡ shape_at b i
+          → Leads s.ptr s₃.ptr (followed_by sub i (rest s)) (line_end sub (rest s₃))
+      unfolding followed_by select_from line_end
+      opened sub b i q =
+          let d : Finds s₁ s₁ (selector i (rest s₁)) (Ok u) = rw (ap (selector_at s₁.ptr) (sym q) ∙ sym p ∙ f) at (selector-finds s₁ b i) in
+          let blank : Leads s₂.ptr s₃.ptr ((skip_blank_inline >> line_end sub) (rest s₂)) (line_end sub (rest s₃)) =
+          leads-then skip_blank_inline (line_end sub) g (leads-here s₃.ptr _) in
+          let two : s₂.ptr ≡ s₁.ptr + 1 + 1 = omega (arith, sp) in
+          let next : Leads (s₁.ptr + 1 + 1) s₃.ptr ((skip_blank_inline >> line_end sub) (drop (s₁.ptr + 1 + 1) s₁.bytes.now)) (line_end sub (rest s₃)) =
+          rw (two, sb) at blank in
+          let greater : starts_with Byte.greater (drop (s₁.ptr + 1) s₁.bytes.now) ≡ true = sym t.is ∙ y in
+          leads-then skip_blank (after_inline sub i) w
+          (rw (chosen sub i)
+          (leads-then (selector i) _ (finds-goes d)
+          (leads-byte s₁.bytes.now s₁.ptr Byte.minus _ m (leads-byte s₁.bytes.now (s₁.ptr + 1) Byte.greater _ greater next))))
+
+      pub followed-unended : {s₄ : Source} → Goes s₃ s₄ (skip_eol (rest s₃)) false → Followed s s₄ x (Err (Error (fault_at (ExpectedCharRange LineEnd) s₄.ptr)))
+      unfolding line_end needs_line_end
+      followed-unended {s₄} e =
+          record {
+            bytes = e.bytes ∙ g.bytes ∙ sb ∙ w.bytes;
+            is =
+                λ sub b i q. fails-after (opened sub b i q)
+                (fails-after (leads-bind skip_eol _ e (leads-here s₄.ptr _))
+                (finds-fails (finds-stop (fail (ExpectedCharRange LineEnd)) _ (finds-fail s₄ (ExpectedCharRange LineEnd) refl))));
+          }
+
+      pub followed-select : {s₄ s₅ : Source} → Goes s₃ s₄ (skip_eol (rest s₃)) true → Goes s₄ s₅ (skip_blank (rest s₄)) tt
+          → Followed s s₅ x (Ok true)
+      unfolding line_end needs_line_end
+      followed-select {s₄} {s₅} e v =
+          record {
+            bytes = v.bytes ∙ e.bytes ∙ g.bytes ∙ sb ∙ w.bytes;
+            is = (
+              omega (arith, v.went.onward, e.went.onward, g.went.onward, sp, w.went.onward),
+              λ sub b i q.
+                  let z = (get_variants sub >> pure select) (rest s₅) in
+                  let l : Leads s₃.ptr s₅.ptr (line_end sub (rest s₃)) z =
+                  leads-bind skip_eol _ e
+                  (leads-then (pure tt) _ (goes-pure s₄ tt) (leads-then skip_blank _ v (leads-here s₅.ptr z))) in
+                  (leads-trans (opened sub b i q) l).is,
+            );
+          }

@@ -1,9 +1,9 @@
 -- The definition's state and the code's: what a text and a placeable make of them.
-use Rattle.std.specs.Prelude.{◌≡◌, ℕ, suc, ◌+◌, ◌≤◌, min, Bool, true, false, not, ◌&&◌, ◌||◌, ltb, List, [], ◌∷◌, ◌++◌, length, take, drop}
+use Rattle.std.specs.Prelude.{◌≡◌, ℕ, suc, ◌+◌, ◌-◌, ◌≤◌, Option, Some, Bool, true, false, not, ◌&&◌, ◌||◌, ltb, List, [], ◌∷◌, ◌++◌, length, take, drop}
 use mathlib.Core.Path.{refl, sym, ap, ap₂, ◌∙◌}
 use mathlib.Core.List.{append-nil}
-use mathlib.Core.Option.{Option, some, none}
-use native.Mathlib.Nat.{min-eq_left, zero-min}
+use mathlib.Core.Option as maybe
+use native.Mathlib.Nat.{zero-min}
 use native.Mathlib.Omega.{arith}
 use lib.ListN.{length-append, length-drop}
 use lib.Seq.{drop-drop, take-append-le, take_all}
@@ -13,18 +13,17 @@ use Rattle.syntax.specs.Pattern.{continuation, Slice, Element, placeable, text, 
 use Rattle.syntax.specs.Pattern.{role_after, least_indent, common_after, is_element}
 use Rattle.entry.specs.declared.text.TextElementTermination.{TextElementTermination}
 use Rattle.entry.specs.declared.text.TextElementTermination.TheVariants.{LineFeed, Crlf, PlaceableStart, Eof}
-use Rattle.entry.specs.declared.pattern.TextElementPosition.{TextElementPosition}
-use Rattle.entry.specs.declared.pattern.TextElementPosition.TheVariants.{InitialLineStart, LineStart, Continuation}
+use Rattle.entry.specs.declared.text.TextElementPosition.{TextElementPosition}
+use Rattle.entry.specs.declared.text.TextElementPosition.TheVariants.{InitialLineStart, LineStart, Continuation}
 use Rattle.entry.specs.declared.text.TextSlice.{TextSlice}
-use Rattle.entry.specs.declared.pattern.Reading.{Reading}
 use Rattle.entry.specs.Tree.{Word, word, words_at, Step}
-use Rattle.entry.specs.Elements.{provisional_of, provisional, Low, SoundOne, Sound, Common}
-use Rattle.entry.specs.Slice.{ending_of, slice_of, crlf_width, width_of}
-use Rattle.entry.specs.Texts.{role_of, starts_line, is_feed, position_after, least_of, is_part, part_words, count_after}
-use Rattle.entry.specs.Texts.{last_after, least_after, text_words, after_text, after_placeable, Holds}
+use Rattle.entry.specs.Elements.{provisional_of, provisional, Low, SoundOne, Sound}
+use Rattle.entry.specs.Slice.{ending_of, slice_of, crlf_width, width_of, is_feed, position_after}
+use Rattle.entry.specs.Texts.{role_of, starts_line, least_of, is_part, part_words, count_after, last_after, least_after}
+use Rattle.entry.specs.Texts.{Standing, option_of, text_words, after_text, Holds}
 use Rattle.entry.proofs.Steps.{step_then}
-use Rattle.entry.proofs.Dids.{words_up, words-length}
-use Rattle.entry.proofs.Elements.{provisional-append, node-words}
+use Rattle.entry.proofs.Dids.{words_up, words-length, node-words}
+use Rattle.entry.proofs.Elements.{provisional-append}
 
 -- ---- the enums of the code and those of the definition
 line_same : (p : TextElementPosition) → is_line_start (role_of p) ≡ starts_line p
@@ -55,28 +54,25 @@ unfolding is_element is_part
 part_same d p x e = ap₂ (λ (l f : Bool). ltb 0 x.size && (not l || (not x.blank || f))) (line-is d p e) (feed-same x.ending)
 
 -- ---- the common indent
-least : (s : List ℕ) (c : Option ℕ) (common i : ℕ) → i ≤ length s → Common s c common → Common s (least_indent c i) (min i common)
+least : (c : maybe.Option ℕ) (o : Option ℕ) (i : ℕ) → o ≡ option_of c → least_of true i o ≡ option_of (least_indent c i)
 unfolding least_indent
-least s none common i l h = min-eq_left (omega arith)
-least s (some c) common i l h = ap (min i) h
+least maybe.none o i e = rw e
+least (maybe.some c) o i e = rw e
 
-common-by : (s : List ℕ) (c : Option ℕ) (common i : ℕ) (z l b f : Bool) → i ≤ length s → Common s c common
-    → Common s (elim (z && (l && not b)) [ true ↦ least_indent c i | false ↦ c ]) (least_after (z && (not l || (not b || f))) b l i common)
-common-by s c common i false l true f h g = g
-common-by s c common i false l false f h g = g
-common-by s c common i true true true true h g = g
-common-by s c common i true true true false h g = g
-common-by s c common i true false true f h g = g
-common-by s c common i true true false f h g = least s c common i h g
-common-by s c common i true false false f h g = g
+common-by : (c : maybe.Option ℕ) (o : Option ℕ) (i : ℕ) (z l b f : Bool) → o ≡ option_of c
+    → least_after (z && (not l || (not b || f))) b l i o ≡ option_of (elim (z && (l && not b)) [ true ↦ least_indent c i | false ↦ c ])
+common-by c o i false l true f e = e
+common-by c o i false l false f e = e
+common-by c o i true true true true e = e
+common-by c o i true true true false e = e
+common-by c o i true false true f e = e
+common-by c o i true true false f e = least c o i e
+common-by c o i true false false f e = e
 
-common-same : (s : List ℕ) (d : State) (p : TextElementPosition) (common i : ℕ) (x : TextSlice) → d.role ≡ role_of p → i ≤ length s
-    → Common s d.common common
-    → Common s (common_after d i (slice_of x)) (least_after (is_part (starts_line p) x) x.blank (starts_line p) i common)
+common-same : (d : State) (p : TextElementPosition) (o : Option ℕ) (i : ℕ) (x : TextSlice) → d.role ≡ role_of p → o ≡ option_of d.common
+    → least_after (is_part (starts_line p) x) x.blank (starts_line p) i o ≡ option_of (common_after d i (slice_of x))
 unfolding common_after is_part
-common-same s d p common i x e h g =
-    rw (Common, line-is d p e)
-    (common-by s d.common common i (ltb 0 x.size) (starts_line p) x.blank (is_feed x.ending) h g)
+common-same d p o i x e g = rw (option_of, line-is d p e) (common-by d.common o i (ltb 0 x.size) (starts_line p) x.blank (is_feed x.ending) g)
 
 -- ---- one more element
 module _ (at : ℕ) (es : List Element) (e : Element) where
@@ -129,14 +125,14 @@ abbrev part_of : State → ℕ → TextSlice → Element
 part_of d i x = text d.used (d.used + i + x.size) i (is_line_start d.role)
 
 -- the two states after it, by whether it is an element and whether it is blank
-abbrev reading_by : Reading → ℕ → TextSlice → Bool → Bool → Reading
-reading_by st i x v b =
+abbrev standing_by : Standing → ℕ → TextSlice → Bool → Bool → Standing
+standing_by st a x v b =
     record {
-      at = st.at + i + x.size + crlf_width x.ending;
+      at = a + x.size + crlf_width x.ending;
       n = count_after v st.n;
       role = position_after x.ending;
       last_non_blank = last_after v b st.n st.last_non_blank;
-      common_indent = least_after v b (starts_line st.role) i st.common_indent;
+      common_indent = least_after v b (starts_line st.role) (a - st.at) st.common_indent;
     }
 
 abbrev state_by : State → ℕ → TextSlice → Bool → Bool → State
@@ -149,10 +145,13 @@ state_by d i x v b =
       used = d.used + (i + width_of x);
     }
 
-module _ {s : List ℕ} {cap at n : ℕ} {t t₁ : List ℕ} {st : Reading} {d : State} (i : ℕ) (x : TextSlice)
-    (h : Holds s cap at n t t₁ st d) (inside : st.at + i + x.size ≤ length s)
-    (spaced : starts_line st.role ≡ true → i ≡ spaces (drop st.at s)) where
-  part_sound : SoundOne (drop at s) (part_of d i x)
+module _ {s : List ℕ} {cap at n : ℕ} {t t₁ : List ℕ} {st : Standing} {d : State} (a : ℕ) (x : TextSlice)
+    (h : Holds s cap at n t t₁ st d) (order : st.at ≤ a) (inside : a + x.size ≤ length s)
+    (spaced : starts_line st.role ≡ true → a - st.at ≡ spaces (drop st.at s)) where
+  abbrev part : Element
+  part = part_of d (a - st.at) x
+
+  part_sound : SoundOne (drop at s) part
   part_sound =
       let z = length-drop at s in
       let p = h.place in (
@@ -162,16 +161,16 @@ module _ {s : List ℕ} {cap at n : ℕ} {t t₁ : List ℕ} {st : Reading} {d :
             ∙ ap (λ (k : ℕ). spaces (drop k s)) p ∙ ap spaces (sym (drop-drop d.used at s)),
       )
 
-  part-words : provisional_of at (part_of d i x) ≡ part_words true (starts_line st.role) st.at (st.at + i + x.size)
+  part-words : provisional_of at part ≡ part_words true (starts_line st.role) st.at (a + x.size)
   unfolding provisional_of
   part-words =
       let p = h.place in
-      let q : at + (d.used + i + x.size) ≡ st.at + i + x.size = omega arith in
+      let q : at + (d.used + (a - st.at) + x.size) ≡ a + x.size = omega arith in
       rw (line-is d st.role h.role, q, ← p)
 
-  text-by : {t₂ : List ℕ} (v b : Bool) → Step cap st.n t₁ t₂ (part_words v (starts_line st.role) st.at (st.at + i + x.size))
-      → Common s (common_after d i (slice_of x)) (least_after v b (starts_line st.role) i st.common_indent)
-      → Holds s cap at n t t₂ (reading_by st i x v b) (state_by d i x v b)
+  text-by : {t₂ : List ℕ} (v b : Bool) → Step cap st.n t₁ t₂ (part_words v (starts_line st.role) st.at (a + x.size))
+      → least_after v b (starts_line st.role) (a - st.at) st.common_indent ≡ option_of (common_after d (a - st.at) (slice_of x))
+      → Holds s cap at n t t₂ (standing_by st a x v b) (state_by d (a - st.at) x v b)
   text-by {t₂} false b w c =
       let p = h.place in
       record {
@@ -186,39 +185,39 @@ module _ {s : List ℕ} {cap at n : ℕ} {t t₁ : List ℕ} {st : Reading} {d :
       }
   text-by {t₂} true true w c =
       let p = h.place in
-      let g : Step cap st.n t₁ t₂ (provisional_of at (part_of d i x)) = rw part-words w in
-      let l : length (provisional_of at (part_of d i x)) ≡ 2 = rw part-words in
+      let g : Step cap st.n t₁ t₂ (provisional_of at part) = rw part-words w in
+      let l : length (provisional_of at part) ≡ 2 = rw part-words in
       record {
         role = role_same x.ending;
         place = omega arith;
-        count = rw l at (add-count at d.elements (part_of d i x) n h.count);
-        wrote = add-wrote at d.elements (part_of d i x) h.wrote h.count g;
-        kept = rw (add-old at d.elements (part_of d i x) d.kept h.few) h.kept;
-        few = omega (arith, h.few, add-few at d.elements (part_of d i x));
+        count = rw l at (add-count at d.elements part n h.count);
+        wrote = add-wrote at d.elements part h.wrote h.count g;
+        kept = rw (add-old at d.elements part d.kept h.few) h.kept;
+        few = omega (arith, h.few, add-few at d.elements part);
         common = c;
-        sound = sound-add (drop at s) d.elements (part_of d i x) h.sound part_sound;
+        sound = sound-add (drop at s) d.elements part h.sound part_sound;
       }
   text-by {t₂} true false w c =
       let p = h.place in
-      let g : Step cap st.n t₁ t₂ (provisional_of at (part_of d i x)) = rw part-words w in
-      let l : length (provisional_of at (part_of d i x)) ≡ 2 = rw part-words in
-      let q : st.n + 2 ≡ n + 1 + length (provisional at (d.elements ++ (part_of d i x ∷ []))) =
-      rw l at (add-count at d.elements (part_of d i x) n h.count) in
+      let g : Step cap st.n t₁ t₂ (provisional_of at part) = rw part-words w in
+      let l : length (provisional_of at part) ≡ 2 = rw part-words in
+      let q : st.n + 2 ≡ n + 1 + length (provisional at (d.elements ++ (part ∷ []))) =
+      rw l at (add-count at d.elements part n h.count) in
       record {
         role = role_same x.ending;
         place = omega arith;
         count = q;
-        wrote = add-wrote at d.elements (part_of d i x) h.wrote h.count g;
-        kept = rw (add-new at d.elements (part_of d i x)) q;
-        few = add-few at d.elements (part_of d i x);
+        wrote = add-wrote at d.elements part h.wrote h.count g;
+        kept = rw (add-new at d.elements part) (ap Some q);
+        few = add-few at d.elements part;
         common = c;
-        sound = sound-add (drop at s) d.elements (part_of d i x) h.sound part_sound;
+        sound = sound-add (drop at s) d.elements part h.sound part_sound;
       }
 
-  pub holds_text : {t₂ : List ℕ} → Step cap st.n t₁ t₂ (text_words st i x)
-      → Holds s cap at n t t₂ (after_text st i x) (text_state d i (slice_of x) (width_of x))
+  pub holds_text : {t₂ : List ℕ} → Step cap st.n t₁ t₂ (text_words st a x)
+      → Holds s cap at n t t₂ (after_text st a x) (text_state d (a - st.at) (slice_of x) (width_of x))
   holds_text w =
-      let c = common-same s d st.role st.common_indent i x h.role (omega arith) h.common in
+      let c = common-same d st.role st.common_indent (a - st.at) x h.role h.common in
       rw (part_same d st.role x h.role) (text-by (is_part (starts_line st.role) x) x.blank w c)
 
 -- ---- a placeable
@@ -235,16 +234,28 @@ placed_state d ms k =
       role = continuation;
       elements = d.elements ++ (placeable (move_up d.used ms) ∷ []);
       kept = suc (length d.elements);
-      common = elim (is_line_start d.role) [ true ↦ some 0 | false ↦ d.common ];
+      common = elim (is_line_start d.role) [ true ↦ maybe.some 0 | false ↦ d.common ];
       used = d.used + k;
     }
 
-common-placed : (s : List ℕ) (c : Option ℕ) (common : ℕ) (l : Bool) → Common s c common
-    → Common s (elim l [ true ↦ some 0 | false ↦ c ]) (least_of l 0 common)
-common-placed s c common true h = zero-min common
-common-placed s c common false h = h
+common-placed : (c : maybe.Option ℕ) (o : Option ℕ) (l : Bool) → o ≡ option_of c
+    → least_of l 0 o ≡ option_of (elim l [ true ↦ maybe.some 0 | false ↦ c ])
+common-placed maybe.none o true h = rw h
+common-placed (maybe.some c) o true h = rw h (ap Some (zero-min c))
+common-placed c o false h = h
 
-module _ {s : List ℕ} {cap at n : ℕ} {t t₁ t₂ : List ℕ} {st : Reading} {d : State} (h : Holds s cap at n t t₁ st d)
+-- the code's state after a placeable, which ends at e after m marks
+abbrev pub placed_standing : Standing → ℕ → ℕ → Standing
+placed_standing st e m =
+    record {
+      at = e;
+      n = m;
+      role = Continuation;
+      last_non_blank = Some m;
+      common_indent = least_of (starts_line st.role) 0 st.common_indent;
+    }
+
+module _ {s : List ℕ} {cap at n : ℕ} {t t₁ t₂ : List ℕ} {st : Standing} {d : State} (h : Holds s cap at n t t₁ st d)
     (ms : List Mark) (low : Low ms)
     (w : Step cap st.n t₁ t₂ ((word 13 0 ∷ words_at st.at ms) ++ (word 113 0 ∷ []))) where
   placed-words : provisional_of at (placeable (move_up d.used ms)) ≡ (word 13 0 ∷ words_at st.at ms) ++ (word 113 0 ∷ [])
@@ -255,7 +266,7 @@ module _ {s : List ℕ} {cap at n : ℕ} {t t₁ t₂ : List ℕ} {st : Reading}
       (words_up at d.used ms ∙ ap (λ (k : ℕ). words_at k ms) (sym h.place))
 
   pub holds-placeable : (k : ℕ) {e m : ℕ} → e ≡ st.at + k → m ≡ st.n + 2 + length ms
-      → Holds s cap at n t t₂ (after_placeable st e m) (placed_state d ms k)
+      → Holds s cap at n t t₂ (placed_standing st e m) (placed_state d ms k)
   holds-placeable k {e} {m} ee em =
       let p = h.place in
       let es = d.elements in
@@ -269,10 +280,9 @@ module _ {s : List ℕ} {cap at n : ℕ} {t t₁ t₂ : List ℕ} {st : Reading}
         place = omega arith;
         count = q;
         wrote = add-wrote at es o h.wrote h.count (rw placed-words w);
-        kept = rw (add-new at es o) q;
+        kept = rw (add-new at es o) (ap Some q);
         few = add-few at es o;
         common =
-            rw (Common, line-is d st.role h.role)
-            (common-placed s d.common st.common_indent (starts_line st.role) h.common);
+            rw (option_of, line-is d st.role h.role) (common-placed d.common st.common_indent (starts_line st.role) h.common);
         sound = sound-add (drop at s) es o h.sound (low_up d.used ms low);
       }

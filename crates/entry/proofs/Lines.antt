@@ -1,47 +1,45 @@
--- Line ends and blanks at places of a source.
-use Rattle.std.specs.Prelude.{◌≡◌, ℕ, suc, ◌+◌, ◌<◌, ◌≤◌, Bool, true, false, ltb, List, [], ◌∷◌, length, get_or, drop}
-use mathlib.Core.Path.{refl, sym, ◌∙◌}
+-- Line ends and the text of a line at places of a source.
+use Rattle.std.specs.Prelude.{◌≡◌, ℕ, suc, ◌+◌, ◌-◌, ◌<◌, ◌≤◌, Bool, true, false, ltb, List, [], ◌∷◌, length, get_or, take, drop}
+use mathlib.Core.Path.{refl, sym, ap, ◌∙◌}
 use native.Mathlib.Numerals.{add-one}
 use native.Mathlib.Omega.{arith}
-use lib.ListN.{drop_of_length-le}
-use lib.Seq.{drop-cons, drop-drop}
-use borrow.Author.Tests.{ltb-true, ltb-false, lt-ltb, le-ltb}
+use lib.ListN.{length-drop, drop_of_length-le}
+use lib.Seq.{drop-cons, drop-drop, take_all}
+use borrow.Author.Tests.{ltb-true, ltb-false}
 use Rattle.syntax.specs.Byte as Byte
 use Rattle.syntax.specs.Bytes.{starts_with, eol}
+use Rattle.syntax.specs.Reader.{ok}
 use Rattle.syntax.specs.Comment.{line_length}
-use Rattle.laws.specs.Bytes.{by_case, clash}
-use Rattle.entry.specs.Place.{Passed, is_eol, blank_width}
+use Rattle.syntax.specs.Helper.{skip_eol}
+use Rattle.laws.specs.Bytes.{by_case, clash, eol-le}
+use Rattle.entry.specs.Place.{Passed, Went, is_eol}
 
-pub eol-feed : (x : List ℕ) → starts_with Byte.line_feed x ≡ true → eol x ≡ 1
-unfolding eol starts_with
-eol-feed [] h = clash h refl
-eol-feed (b ∷ x) h = rw (h, eol)
+-- a line end was passed, or none
+pub passed-eol : {s : List ℕ} {at n : ℕ} → at ≤ length s → n ≡ eol (take (length s - at) (drop at s)) → Passed s at (eol (drop at s)) (at + n)
+passed-eol {s} {at} {n} l h =
+    let d : length (drop at s) ≡ length s - at = length-drop at s in
+    let q : length (drop at s) ≤ length s - at = omega arith in
+    let e : n ≡ eol (drop at s) = h ∙ ap eol (take_all (length s - at) (drop at s) q) in
+    let w = eol-le (drop at s) in
+    record { end = omega arith; within = omega arith }
 
-pub eol-none : (x : List ℕ) → starts_with Byte.line_feed x ≡ false → starts_with Byte.carriage_return x ≡ false → eol x ≡ 0
-unfolding eol starts_with
-eol-none [] h g = refl
-eol-none (b ∷ x) h g = rw (h, g, eol)
+-- ---- what skip_eol answered
 
-eol-return : (x : List ℕ) → starts_with Byte.line_feed x ≡ false → starts_with Byte.carriage_return x ≡ true
-    → eol x ≡ elim (starts_with Byte.line_feed (drop 1 x)) [ true ↦ 2 | false ↦ 0 ]
-unfolding eol starts_with
-eol-return [] h g = clash g refl
-eol-return (b ∷ x) h g = rw (h, g, eol)
+pub goes-eol : (x : List ℕ) {k : ℕ} → eol x ≡ k → skip_eol x ≡ ok (ltb 0 k) [] k
+unfolding skip_eol
+goes-eol x h = rw h refl
 
-module _ (s : List ℕ) (i : ℕ) (h : starts_with Byte.line_feed (drop i s) ≡ false) (g : starts_with Byte.carriage_return (drop i s) ≡ true) where
-  pub eol-crlf : starts_with Byte.line_feed (drop (i + 1) s) ≡ true → eol (drop i s) ≡ 2
-  eol-crlf f = eol-return (drop i s) h g ∙ rw (drop-drop, f)
+pub record Ended (s : List ℕ) (at : ℕ) (r : Bool) (i : ℕ) : Type 0 where
+  pub is : r ≡ ltb 0 (eol (drop at s))
+  pub end : i ≡ at + eol (drop at s)
 
-  pub eol-lone : starts_with Byte.line_feed (drop (i + 1) s) ≡ false → eol (drop i s) ≡ 0
-  eol-lone f = eol-return (drop i s) h g ∙ rw (drop-drop, f)
-
-pub blank-space : (x : List ℕ) → starts_with Byte.space x ≡ true → blank_width x ≡ 1
-unfolding blank_width
-blank-space x h = rw (h, blank_width)
-
-pub blank-eol : (x : List ℕ) → starts_with Byte.space x ≡ false → blank_width x ≡ eol x
-unfolding blank_width
-blank-eol x h = rw (h, blank_width)
+pub ended : {s : List ℕ} {at i : ℕ} {r : Bool} → Went s at (skip_eol (drop at s)) r i → Ended s at r i
+unfolding skip_eol
+ended {s} {at} {i} {r} w =
+    let h = w.answers in
+    let e : ltb 0 (eol (drop at s)) ≡ r = cc in
+    let k : eol (drop at s) ≡ i - at = cc in
+    record { is = sym e; end = omega (arith, w.onward) }
 
 -- ---- whether a line ends
 
@@ -49,16 +47,9 @@ pub ends-here : (s : List ℕ) (i : ℕ) → i ≡ length s → true ≡ is_eol 
 unfolding is_eol
 ends-here s i h = let l : length s ≤ i = omega arith in rw (drop_of_length-le s l)
 
-pub ends_by : (s : List ℕ) (i j : ℕ) → i < length s → j ≡ i + eol (drop i s) → ltb i j ≡ is_eol (drop i s)
-ends_by s i j l h =
-    by_case (ltb i j) (λ q. q ∙ sym (test (lt-ltb 0 (eol (drop i s)) (omega (arith, ltb-true i j q)))))
-    (λ q. q ∙ sym (test (le-ltb 0 (eol (drop i s)) (omega (arith, ltb-false i j q)))))
-  where
-    some : is_eol (drop i s) ≡ ltb 0 (eol (drop i s))
-    some = unfold is_eol in rw (drop-cons s i 0 l)
-
-    test : {t : Bool} → ltb 0 (eol (drop i s)) ≡ t → is_eol (drop i s) ≡ t
-    test q = some ∙ q
+pub ends_by : (s : List ℕ) (i : ℕ) (r : Bool) → i < length s → r ≡ ltb 0 (eol (drop i s)) → r ≡ is_eol (drop i s)
+unfolding is_eol
+ends_by s i r l h = h ∙ rw (drop-cons s i 0 l) refl
 
 -- ---- the text of a line
 
@@ -66,10 +57,7 @@ pub record Lining (s : List ℕ) (at i : ℕ) : Type 0 where
   pub inside : i ≤ length s
   pub sum : at + line_length (drop at s) ≡ i + line_length (drop i s)
 
-pub lining-none : (s : List ℕ) (at : ℕ) → at ≤ length s → Lining s at at
-lining-none s at l = record { inside = l; sum = refl }
-
-line-ends : (x : List ℕ) → is_eol x ≡ true → line_length x ≡ 0
+pub line-ends : (x : List ℕ) → is_eol x ≡ true → line_length x ≡ 0
 unfolding is_eol line_length
 line-ends [] h = refl
 line-ends (b ∷ x) h = rw (h, line_length)

@@ -1,6 +1,6 @@
 -- The named arguments whose marks stand in a tree: what a step makes of them, and a walk over their marks that looks for a name.
 use Rattle.std.specs.Prelude.{◌≡◌, ℕ, zero, suc, ◌+◌, ◌-◌, ◌*◌, ◌<◌, ◌≤◌, Bool, true, false, not, ◌&&◌, ◌||◌, eqb, ltb, List, [], ◌∷◌, ◌++◌, length, get_or, take, drop}
-use mathlib.Core.Path.{refl, sym, ap, subst, ◌∙◌}
+use mathlib.Core.Path.{refl, sym, ap, ap₂, subst, ◌∙◌}
 use mathlib.Core.List.{append_assoc, append-nil, reverse_aux}
 use native.Mathlib.Nat.{add-zero}
 use native.Mathlib.Numerals.{add-one, sub-one}
@@ -8,15 +8,20 @@ use native.Mathlib.Decide.{dec_lt}
 use native.Mathlib.Omega.{arith}
 use lib.ListN.{length-append, length-map}
 use lib.Seq.{drop-append-le, drop_at}
-use borrow.Author.Tests.{lt-ltb, le-ltb, ltb-true, ltb-false, ne_eqb}
+use borrow.Author.Tests.{lt-ltb, le-ltb, ltb-true, ltb-false, eq-eqb, ne_eqb, eqb-true, eqb-false}
+use Rattle.laws.specs.Bytes.{by_case}
 use Rattle.syntax.specs.Marks.{Mark, plain, placed, move_up}
 use Rattle.syntax.specs.Expression.{same_bytes, is_among, is_none}
 use Rattle.laws.specs.Balanced.{Levels, Opened}
 use Rattle.entry.specs.Tree.{Word, word, words_at, marks_in, marks_from, Step}
 use Rattle.entry.specs.Names.{Nested, named_words, NamedRow, none, more, Names, HasNames, name_at, HasName}
 use Rattle.entry.proofs.Steps.{marks-length, step_cut}
-use Rattle.entry.proofs.Insert.{marks-split, next-from}
-use Rattle.entry.proofs.Matching.{part}
+use lib.Pointwise.{pointwise}
+use Rattle.entry.proofs.MarksFrom.{marks-split, next-from}
+
+-- the bytes from a to b
+abbrev pub part : List ℕ → ℕ → ℕ → List ℕ
+part s a b = take (b - a) (drop a s)
 
 -- ---- marks in a tree
 
@@ -87,6 +92,23 @@ names-some {s} {t} {cap} {i} {n} g = go g.row refl
     go none e = rw (le-ltb i n (omega (arith, ap length e, long i (n - i))))
     go (more {ws = ws} a z inner h l b r) e =
         rw (lt-ltb i n (omega (arith, length-append ws (named_words a z inner), ap length e, long i (n - i))))
+
+-- ---- names that are the same
+eqb-swap : (a b : ℕ) → eqb a b ≡ eqb b a
+eqb-swap a b = by_case (eqb a b) (λ h. h ∙ sym (eq-eqb b a (sym (eqb-true a b h)))) (λ h. h ∙ sym (ne_eqb b a (λ e. eqb-false a b h (sym e))))
+
+pointwise-same : (x y : List ℕ) → pointwise eqb y x ≡ same_bytes x y
+unfolding same_bytes
+pointwise-same [] [] = refl
+pointwise-same [] (b ∷ y) = refl
+pointwise-same (a ∷ x) [] = refl
+pointwise-same (a ∷ x) (b ∷ y) = ap₂ (λ (u v : Bool). u && v) (eqb-swap b a) (pointwise-same x y)
+
+pub same-name : {r : Bool} {d : ℕ} (x y z : List ℕ) → d ≡ 0 → r ≡ pointwise eqb y x → y ≡ z → r ≡ eqb d 0 && same_bytes x z
+same-name {d = d} x y z h e q = e ∙ pointwise-same x y ∙ rw (eq-eqb d 0 h, q)
+
+pub no-name : {d : ℕ} (y : Bool) → (d ≡ 0 → ⊥) → false ≡ eqb d 0 && y
+no-name {d} y h = rw (ne_eqb d 0 h)
 
 -- ---- the walk
 

@@ -16,10 +16,11 @@ use Rattle.syntax.specs.Helper.{take_byte_if}
 use Rattle.syntax.specs.Pattern.{Inside}
 use Rattle.syntax.specs.Expression.{variant_turn, after_star, turn_after, variant_with, end_variants}
 use Rattle.laws.specs.Moving.{move_up-zero, after_none}
-use Rattle.entry.specs.Place.{Went, Tests}
-use Rattle.entry.specs.Shape.{Stops}
+use Rattle.entry.specs.Place.{Went}
+use Rattle.entry.specs.Next.{Stops}
 use Rattle.entry.proofs.Places.{take-yes, take_no}
 use Rattle.entry.proofs.Dids.{fault-here, fault-up}
+use Rattle.entry.proofs.Entries.{taken}
 
 turn-zero : {S A : Type 0} (t : Turn S A) → turn_after 0 t ≡ t
 unfolding turn_after
@@ -53,14 +54,13 @@ after-end sub d has y a b = rw (a, b, after_star)
 used : {x y : Bool} {k j : ℕ} (o : Out Bool) → o ≡ ok x [] k → o ≡ ok y [] j → k ≡ j
 used o p q = cc
 
-module _ {s : List ℕ} {at e : ℕ} {d : Bool} (sub : Inside) (has : Bool) (p : Tests (starts_with Byte.star) s at d)
-    (w : Went s at (take_byte_if Byte.star (drop at s)) (starts_with Byte.star (drop at s)) e) where
+module _ {s : List ℕ} {at e : ℕ} {d : Bool} (sub : Inside) (has : Bool) (w : Went s at (take_byte_if Byte.star (drop at s)) d e) where
   opened : variant_turn sub has (drop at s) ≡ turn_after (e - at) (after_star sub d has (drop e s))
   opened = go d refl
     where
       go : (v : Bool) → d ≡ v → variant_turn sub has (drop at s) ≡ turn_after (e - at) (after_star sub d has (drop e s))
       go true q =
-          let h : starts_with Byte.star (drop at s) ≡ true = sym p.is ∙ q in
+          let h : starts_with Byte.star (drop at s) ≡ true = taken Byte.star (drop at s) w.answers ∙ q in
           let k : e - at ≡ 1 = used _ w.answers (take-yes Byte.star (drop at s) h) in
           let i : at + 1 ≡ e = omega (arith, w.onward, k) in
           let y : drop 1 (drop at s) ≡ drop e s = drop-drop 1 at s ∙ ap (λ (n : ℕ). drop n s) i in
@@ -68,7 +68,7 @@ module _ {s : List ℕ} {at e : ℕ} {d : Bool} (sub : Inside) (has : Bool) (p :
           star-yes sub has (drop at s) h in
           z ∙ (rw (y, k, q))
       go false q =
-          let h : starts_with Byte.star (drop at s) ≡ false = sym p.is ∙ q in
+          let h : starts_with Byte.star (drop at s) ≡ false = taken Byte.star (drop at s) w.answers ∙ q in
           let k : e - at ≡ 0 = used _ w.answers (take_no Byte.star (drop at s) h) in
           let i : e ≡ at = omega (arith, w.onward, k) in
           let z : variant_turn sub has (drop at s) ≡ after_star sub false has (drop at s) = star-no sub has (drop at s) h in

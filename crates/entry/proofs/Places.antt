@@ -1,5 +1,5 @@
 -- Answers at places of the source.
-use Rattle.std.specs.Prelude.{◌≡◌, ℕ, ◌+◌, ◌-◌, ◌≤◌, true, false, List, [], length, drop}
+use Rattle.std.specs.Prelude.{◌≡◌, ℕ, ◌+◌, ◌≤◌, true, false, List, [], length, drop}
 use mathlib.Core.Path.{refl, sym, ap, ap₂, ◌∙◌}
 use native.Mathlib.Nat.{add-zero, add_assoc}
 use native.Mathlib.Omega.{arith}
@@ -10,15 +10,12 @@ use Rattle.syntax.specs.declared.errors.ParserError.{ParserError}
 use Rattle.syntax.specs.declared.errors.CharRange.TheVariants.{Letters, Digits}
 use Rattle.syntax.specs.declared.errors.ErrorKind.TheVariants.{ExpectedToken, ExpectedCharRange}
 use Rattle.syntax.specs.Errors.{up_kind, up_fault, fault_at}
-use Rattle.syntax.specs.Marks.{Mark, text_node}
+use Rattle.syntax.specs.Marks.{Mark, move_up, text_node}
 use Rattle.syntax.specs.Bytes.{starts_with, starts, run, is_digit, is_letter, is_name_part}
 use Rattle.syntax.specs.Reader.{Out, ok, bad, deep, Reader, after, next, fail}
-use Rattle.syntax.specs.Helper.{take_byte_if, expect_byte, skip_digits, number, as_text, get_number_literal, get_identifier}
-use Rattle.laws.specs.Bytes.{by_case}
+use Rattle.syntax.specs.Helper.{take_byte_if, expect_byte, skip_digits, get_identifier}
 use Rattle.laws.specs.Moving.{up_fault-twice}
-use Rattle.entry.specs.Place.{Passed, Went, Found, Shallow, placed}
-use Rattle.entry.specs.declared.helper.Place.{Place}
-use Rattle.entry.specs.declared.helper.Place.TheVariants.{At, Bad}
+use Rattle.entry.specs.Place.{Place, At, Bad, Passed, Went, Found, Bare, placed}
 
 pub passed : {s : List ℕ} {at k r : ℕ} (j : ℕ) → k ≡ j → r ≡ at + j → r ≤ length s → Passed s at k r
 passed j h e l = record { end = omega arith; within = l }
@@ -26,13 +23,13 @@ passed j h e l = record { end = omega arith; within = l }
 pub went-ok : {A : Type 0} {s : List ℕ} {at r k : ℕ} {o : Out A} {a : A} → o ≡ ok a [] k → r ≡ at + k → r ≤ length s → Went s at o a r
 went-ok {k = k} {a = a} h e l = record { answers = h ∙ ap (ok a []) (omega arith); onward = omega arith; within = l }
 
-pub found_ok : {A : Type 0} {s : List ℕ} {at r k : ℕ} {o : Out A} {a : A} {ms : List Mark} → o ≡ ok a ms k → r ≡ at + k
-    → r ≤ length s → Found s at o (At r)
-found_ok h e l = record { answers = rw h (ap At e); shallow = rw h tt; within = l }
+pub found_ok : {A : Type 0} {s : List ℕ} {at r k : ℕ} {o : Out A} {a : A} → o ≡ ok a [] k → r ≡ at + k → r ≤ length s
+    → Found s at o (At r)
+found_ok h e l = record { answers = rw h (ap At e); bare = rw h refl; within = l }
 
 pub found-fault : {A : Type 0} {s : List ℕ} {at j k : ℕ} {o : Out A} {e f : ParserError} → o ≡ bad f k → j ≡ at + k
     → j ≤ length s → e ≡ up_fault at f → Found s at o (Bad e j)
-found-fault q p l h = record { answers = rw q (ap₂ Bad h p); shallow = rw q tt; within = l }
+found-fault q p l h = record { answers = rw q (ap₂ Bad h p); bare = rw q tt; within = l }
 
 -- an error at the place itself, of a kind without a span
 pub found-fail : {A : Type 0} {s : List ℕ} {at : ℕ} {o : Out A} {e : ParserError} (x : List ℕ) (kind : ErrorKind)
@@ -40,7 +37,7 @@ pub found-fail : {A : Type 0} {s : List ℕ} {at : ℕ} {o : Out A} {e : ParserE
     → e ≡ fault_at kind at → Found s at o (Bad e at)
 unfolding fail
 found-fail {at = at} x kind q l u h =
-    record { answers = rw (q, u, add-zero) (ap (λ (f : ParserError). Bad f at) h); shallow = rw q tt; within = l }
+    record { answers = rw (q, u, add-zero) (ap (λ (f : ParserError). Bad f at) h); bare = rw q tt; within = l }
 
 -- what the definitions answer, by the first byte
 pub take-yes : (b : ℕ) (x : List ℕ) → starts_with b x ≡ true → take_byte_if b x ≡ ok (starts_with b x) [] 1
@@ -84,27 +81,25 @@ placed-after at k ms (ok a ns j) = rw add_assoc
 placed-after at k ms (bad f j) = ap₂ Bad (up_fault-twice at k f) (sym (add_assoc at k j))
 placed-after at k ms (deep j) = rw add_assoc
 
-shallow-after : {A : Type 0} (k : ℕ) (ms : List Mark) (o : Out A) → Shallow o → Shallow (after ms k o)
-unfolding after
-shallow-after k ms (ok a ns j) h = tt
-shallow-after k ms (bad f j) h = tt
-shallow-after k ms (deep j) h = h
+bare-after : {A : Type 0} (k : ℕ) (o : Out A) → Bare o → Bare (after [] k o)
+unfolding after move_up
+bare-after k (ok a ns j) h = rw h
+bare-after k (bad f j) h = tt
+bare-after k (deep j) h = h
 
-pub found_after : {A : Type 0} {s : List ℕ} {at i : ℕ} {r : Place} (k : ℕ) (ms : List Mark) (o : Out A) → i ≡ at + k
-    → Found s i o r → Found s at (after ms k o) r
-found_after {at = at} {i} k ms o e f =
+pub found_after : {A : Type 0} {s : List ℕ} {at i : ℕ} {r : Place} (k : ℕ) (o : Out A) → i ≡ at + k → Found s i o r
+    → Found s at (after [] k o) r
+found_after {at = at} {i} k o e f =
     record {
-      answers = f.answers ∙ rw e (sym (placed-after at k ms o));
-      shallow = shallow-after k ms o f.shallow;
+      answers = f.answers ∙ rw e (sym (placed-after at k [] o));
+      bare = bare-after k o f.bare;
       within = f.within;
     }
 
-pub found-next : {A B : Type 0} {s : List ℕ} {at i k : ℕ} {r : Place} {o : Out A} {a : A} {ms : List Mark}
-    (q : A → Reader B)
-    → o ≡ ok a ms k → i ≡ at + k → Found s i (q a (drop i s)) r
+pub found-next : {A B : Type 0} {s : List ℕ} {at i k : ℕ} {r : Place} {o : Out A} {a : A} (q : A → Reader B) → o ≡ ok a [] k → i ≡ at + k → Found s i (q a (drop i s)) r
     → Found s at (next (drop at s) q o) r
 unfolding next
-found-next {s = s} {at} {i} {k} {a = a} {ms} q h e f = rw (h, drop-drop) (found_after k ms (q a (drop (at + k) s)) refl (rw e at f))
+found-next {s = s} {at} {i} {k} {a = a} q h e f = rw (h, drop-drop) (found_after k (q a (drop (at + k) s)) refl (rw e at f))
 
 pub went-next : {A B : Type 0} {s : List ℕ} {at i : ℕ} {r : Place} {o : Out A} {a : A} (q : A → Reader B)
     → Went s at o a i → Found s i (q a (drop i s)) r → Found s at (next (drop at s) q o) r
@@ -117,12 +112,12 @@ pub found-stop : {A B : Type 0} {s : List ℕ} {at j : ℕ} {r : Place} {e : Par
 unfolding next
 found-stop {A} {s = s} {at} {r = r} {o = o} x q f h =
     record {
-      answers = (go o f.answers f.shallow).0;
-      shallow = (go o f.answers f.shallow).1;
+      answers = (go o f.answers f.bare).0;
+      bare = (go o f.answers f.bare).1;
       within = f.within;
     }
   where
-    go : (o : Out A) → r ≡ placed at o → Shallow o → (r ≡ placed at (next x q o)) × Shallow (next x q o)
+    go : (o : Out A) → r ≡ placed at o → Bare o → (r ≡ placed at (next x q o)) × Bare (next x q o)
     go (ok a ms k) p u = let z : ◌≡◌ {A = ℕ} 0 1 = cc in absurd (omega arith)
     go (bad b i) p u = (p, tt)
     go (deep i) p u = absurd u
@@ -130,16 +125,15 @@ found-stop {A} {s = s} {at} {r = r} {o = o} x q f h =
 -- the definition's answer, where the code's is a place
 pub record Read {A : Type 0} (at i : ℕ) (o : Out A) : Type 0 where
   pub a : A
-  pub ms : List Mark
   pub k : ℕ
-  pub is : o ≡ ok a ms k
+  pub is : o ≡ ok a [] k
   pub place : i ≡ at + k
 
 pub found_at : {A : Type 0} {s : List ℕ} {at i : ℕ} {r : Place} {o : Out A} → Found s at o r → r ≡ At i → Read at i o
-found_at {A} {at = at} {i} {r} {o} f h = go o f.answers f.shallow
+found_at {A} {at = at} {i} {r} {o} f h = go o f.answers f.bare
   where
-    go : (o : Out A) → r ≡ placed at o → Shallow o → Read at i o
-    go (ok a ms k) p u = record { a = a; ms = ms; k = k; is = refl; place = cc }
+    go : (o : Out A) → r ≡ placed at o → Bare o → Read at i o
+    go (ok a ms k) p u = record { a = a; k = k; is = ap (λ l. ok a l k) u; place = cc }
     go (bad b j) p u = let z : ◌≡◌ {A = ℕ} 0 1 = cc in absurd (omega arith)
     go (deep j) p u = absurd u
 
@@ -153,36 +147,9 @@ pub record Failed {A : Type 0} (at : ℕ) (e : ParserError) (j : ℕ) (o : Out A
 
 pub found-bad : {A : Type 0} {s : List ℕ} {at j : ℕ} {r : Place} {e : ParserError} {o : Out A} → Found s at o r
     → r ≡ Bad e j → Failed at e j o
-found-bad {A} {at = at} {j} {r} {e} {o} f h = go o f.answers f.shallow
+found-bad {A} {at = at} {j} {r} {e} {o} f h = go o f.answers f.bare
   where
-    go : (o : Out A) → r ≡ placed at o → Shallow o → Failed at e j o
+    go : (o : Out A) → r ≡ placed at o → Bare o → Failed at e j o
     go (ok a ms k) p u = let z : ◌≡◌ {A = ℕ} 0 1 = cc in absurd (omega arith)
     go (bad b i) p u = record { f = b; k = i; is = refl; error = cc; place = cc }
     go (deep i) p u = absurd u
-
-pub found_within : {A : Type 0} {s : List ℕ} {at i : ℕ} {r : Place} {o : Out A} → Found s at o r → r ≡ At i → i ≤ length s
-found_within f h = rw h at f.within
-
--- ---- texts: the definition's answer, with its marks, where the code found an end
-
-pub identifier-read : {s : List ℕ} {at i : ℕ} {r : Place} (kind : ℕ) → Found s at (get_identifier kind (drop at s)) r → r ≡ At i
-    → get_identifier kind (drop at s) ≡ ok (i - at) (text_node kind 0 (i - at)) (i - at)
-identifier-read {s} {at} {i} kind f h = by_case (starts is_letter (drop at s)) some none
-  where
-    e : Read at i (get_identifier kind (drop at s))
-    e = found_at f h
-
-    some : starts is_letter (drop at s) ≡ true → get_identifier kind (drop at s) ≡ ok (i - at) (text_node kind 0 (i - at)) (i - at)
-    some q =
-        let n : ℕ = run is_name_part (drop at s) in
-        let p : n ≡ e.k = cc (identifier-some kind (drop at s) q, e.is) in
-        let d : n ≡ i - at = omega (arith, p, e.place) in
-        identifier-some kind (drop at s) q ∙ rw d
-
-    none : starts is_letter (drop at s) ≡ false → get_identifier kind (drop at s) ≡ ok (i - at) (text_node kind 0 (i - at)) (i - at)
-    none q = unfold fail in (let z : ◌≡◌ {A = ℕ} 0 1 = cc (identifier-none kind (drop at s) q, e.is) in absurd (omega arith))
-
-pub number_read : {s : List ℕ} {at i : ℕ} {r : Place} (kind : ℕ) → Found s at (number (drop at s)) r → r ≡ At i
-    → get_number_literal kind (drop at s) ≡ ok (i - at) (text_node kind 0 (i - at)) (i - at)
-unfolding get_number_literal as_text
-number_read {at = at} {i} kind f h = let e = found_at f h in let d : e.k ≡ i - at = omega (arith, e.place) in rw (e.is, d)

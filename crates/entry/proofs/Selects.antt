@@ -1,159 +1,248 @@
--- An inline expression alone, or with the variants of a select after it.
-use Rattle.std.specs.Prelude.{◌≡◌, ℕ, suc, ◌+◌, ◌-◌, ◌≤◌, false, List, [], ◌∷◌, ◌++◌, length, drop}
-use mathlib.Core.Path.{refl, sym, ap, ap₂, ◌∙◌}
+-- What stands in braces: an inline expression alone, or with the variants of a select after it.
+use Rattle.std.specs.Prelude.{◌≡◌, ℕ, suc, ◌+◌, ◌-◌, false, true, Result, Ok, Err, List, [], ◌∷◌, ◌++◌, length, drop}
+use mathlib.Core.Path.{refl, sym, ap, subst, ◌∙◌}
 use mathlib.Core.List.{append-nil, append_assoc}
 use native.Mathlib.Nat.{add-zero}
 use native.Mathlib.Omega.{arith}
 use lib.ListN.{length-append}
 use lib.Seq.{drop-drop}
+use Rattle.std.proofs.Common.{Bor}
 use Rattle.syntax.specs.declared.errors.ParserError.{ParserError}
 use Rattle.syntax.specs.Errors.{up_fault}
 use Rattle.syntax.specs.Marks.{Mark, plain, move_up, node}
-use Rattle.syntax.specs.Reader.{Out, ok, bad, deep, after, next, ◌>>=◌, ◌>>◌, pure}
+use Rattle.syntax.specs.Reader.{Out, ok, bad, deep, Reader, after, next, ◌>>=◌, ◌>>◌, pure}
 use Rattle.syntax.specs.Pattern.{Inside}
-use Rattle.syntax.specs.Expression.{Inline, inline, select, get_inline_expression, inline_or_select, in_select, get_expression}
+use Rattle.syntax.specs.Expression.{Inline, string, number, variable, function, inner, message, term, inline, select}
+use Rattle.syntax.specs.Expression.{get_inline_expression, inline_or_select, in_select, get_expression, is_term_attribute}
 use Rattle.syntax.specs.Expression.{get_variants, Expression as Content}
 use Rattle.laws.specs.Moving.{after-after, move_up-nil, move_up-length}
-use Rattle.entry.specs.Tree.{word, Step, Inserted, words_at}
-use Rattle.entry.specs.Did.{reading, answer, Did, ClosedAs, Closed}
-use types.Run.{OneOf}
-use denote.Enum.Declared.{tag_of}
-use mathlib.Core.Logic.{⊎_elim}
-use Rattle.entry.specs.contracts.expression.ReadExpression.{the_type}
+use Rattle.entry.specs.declared.errors.Stop.{Stop}
+use Rattle.entry.specs.declared.errors.Stop.TheVariants.{Error, TooDeep}
+use Rattle.entry.specs.declared.source.Source.{Source}
+use Rattle.entry.specs.declared.marks.Marks.{Marks}
 use Rattle.entry.specs.declared.expression.Expression.{Expression}
 use Rattle.entry.specs.declared.expression.Expression.TheVariants.{Select}
-use Rattle.entry.specs.declared.expression.ReadExpression.{ReadExpression}
-use Rattle.entry.specs.declared.expression.ReadExpression.TheVariants as expressions
-use Rattle.entry.specs.Shape.{followed_by, shape_at, content_at, telling, expressing, with_shape}
-use Rattle.entry.specs.declared.marks.Read.{Read}
-use Rattle.entry.specs.declared.marks.Read.TheVariants.{Ok, Bad, Deep}
-use Rattle.entry.proofs.Steps.{step-none, step_cut, step_then}
-use Rattle.entry.proofs.Insert.{inserted-step}
-use Rattle.entry.proofs.Dids.{Found, Lost, did-bind, did-lost, words-none, words_up, words_append}
+use Rattle.entry.specs.Tree.{word, Step, Inserted, words_at}
+use Rattle.entry.specs.Marks.{Wrote, Put}
+use Rattle.entry.specs.Did.{silent}
+use Rattle.entry.specs.Reads.{rest, Goes, Finds, Frame, ReadsOf}
+use Rattle.entry.specs.Shape.{shape_at, content_at, is_attribute_of_term, followed_by, Followed, placeable_end}
+use Rattle.entry.proofs.Steps.{step_cut, step_then}
+use Rattle.entry.proofs.MarksFrom.{inserted-step}
+use Rattle.entry.proofs.Dids.{Found, valued, lost, far, did-found, did-lost, did-far, failed-wrote, words_up, words_append}
 use Rattle.entry.proofs.Dids.{words-length, node-words, fault-up}
+use Rattle.entry.proofs.Chains.{frame-then, reads-bind, reads-map, reads-goes, reads-finds, stop-bind}
+use Rattle.entry.proofs.Cycle.{err-not-ok, reads-fails}
+use Rattle.entry.proofs.Follows.{attribute-same}
 
--- what fails is no select
-select-stop : (b : ℕ) {cap at n : ℕ} {t t₁ : List ℕ} {r : ReadExpression} (o : Out Content)
-    → Did (telling (content_at b)) cap at n t t₁ r o → ((x : Expression) (a m : ℕ) → r ≡ expressions.Ok x a m → ⊥)
-    → Did (telling (content_at b)) cap at n t t₁ r (in_select o)
+-- ---- the end of a placeable, by what stands in it
+pub reads-placeable : {s s₁ s₂ : Source} {m m₁ : Marks} {x : Expression} {r : Result (Unit {0}) Stop} (b : ℕ) (p : Reader Content)
+    → ReadsOf (content_at b) s s₁ m m₁ (Ok x) (p (rest s)) → Finds s₁ s₂ (placeable_end (is_attribute_of_term x) (rest s₁)) r
+    → ReadsOf silent s s₂ m m₁ r ((p >>= λ c. placeable_end (is_term_attribute c)) (rest s))
+reads-placeable {s} {s₁} {s₂} {x = x} {r} b p d g =
+    let v = valued (p (rest s)) d.did refl in
+    let e : is_attribute_of_term x ≡ is_term_attribute v.found.value = ap is_attribute_of_term v.told ∙ attribute-same b v.found.value in
+    let h : Finds s₁ s₂ (placeable_end (is_term_attribute v.found.value) (rest s₁)) r = rw e at g in
+    reads-bind p (λ c. placeable_end (is_term_attribute c)) d (reads-finds h)
+
+-- ---- what is no select
+no-select : (b : ℕ) (i : Inline) → shape_at b i ≡ Select → ⊥
+no-select b string h = let z : ◌≡◌ {A = ℕ} 0 1 = cc in omega arith
+no-select b number h = let z : ◌≡◌ {A = ℕ} 0 1 = cc in omega arith
+no-select b variable h = let z : ◌≡◌ {A = ℕ} 0 1 = cc in omega arith
+no-select b function h = let z : ◌≡◌ {A = ℕ} 0 1 = cc in omega arith
+no-select b inner h = let z : ◌≡◌ {A = ℕ} 0 1 = cc in omega arith
+no-select b (message n a) h = let z : ◌≡◌ {A = ℕ} 0 1 = cc in omega arith
+no-select b (term a) h = let z : ◌≡◌ {A = ℕ} 0 1 = cc in omega arith
+
+in-inline : {s s₁ : Source} {m m₁ : Marks} {x : Expression} (b : ℕ) (i : Inline) (o : Out Content)
+    → ReadsOf (content_at b) s s₁ m m₁ (Ok x) o → x ≡ shape_at b i → in_select o ≡ o
 unfolding in_select
-select-stop b (ok c ms k) d h = absurd (h _ _ _ d.answers)
-select-stop b (bad f k) d h = record { answers = d.answers; wrote = d.wrote }
-select-stop b (deep k) d h = record { answers = d.answers; wrote = d.wrote }
+in-inline b i (ok (inline j) ms k) d e = refl
+in-inline {x = x} b i (ok select ms k) d e =
+    let q = d.did.answers in let z : x ≡ Select = cc in absurd (no-select b i (sym e ∙ z))
+in-inline b i (bad f k) d e = refl
+in-inline b i (deep k) d e = refl
 
-told-lost : {A : Type 0} {a j : ℕ} {f : ParserError} (o : Out A) → answer reading a 0 o ≡ Bad f j → Lost a f j o
-told-lost (ok v ms k) e = let z : ◌≡◌ {A = ℕ} 0 1 = cc in absurd (omega arith)
-told-lost (bad g k) e = record { fault = g; k = k; is = refl; moved = cc; place = cc }
-told-lost (deep k) e = let z : ◌≡◌ {A = ℕ} 0 1 = cc in absurd (omega arith)
+select-stop : {s s₁ : Source} {m m₁ : Marks} {e : Stop} (b : ℕ) (o : Out Content) → ReadsOf (content_at b) s s₁ m m₁ (Err e) o
+    → ReadsOf (content_at b) s s₁ m m₁ (Err e) (in_select o)
+unfolding in_select
+select-stop b (ok (inline i) ms k) d = d
+select-stop b (ok select ms k) d = absurd (err-not-ok d)
+select-stop b (bad f k) d = d
+select-stop b (deep k) d = d
 
-module _ {cap at n a m : ℕ} {t t₁ : List ℕ} (sub : Inside) (s : List ℕ)
-    (f : Found cap at n a m t t₁ (get_inline_expression sub false (drop at s))) where
-  opened : inline_or_select sub (drop at s) ≡ after f.ms f.k (followed_by sub f.value (drop a s))
-  unfolding inline_or_select ◌>>=◌ next followed_by
-  opened = let p : at + f.k ≡ a = sym f.place in rw (f.is, drop-drop, p)
+pub expression-stop : {s s₁ : Source} {m m₁ : Marks} {e : Stop} (b : ℕ) (sub : Inside)
+    → ReadsOf (shape_at b) s s₁ m m₁ (Err e) (get_inline_expression sub false (rest s))
+    → ReadsOf (content_at b) s s₁ m m₁ (Err e) (get_expression sub (rest s))
+unfolding get_expression inline_or_select followed_by
+expression-stop b sub d = select-stop b _ (stop-bind (get_inline_expression sub false) (followed_by sub) d)
 
-  pub did-alone : (b : ℕ) {e : ℕ} {x : Expression} → x ≡ shape_at b f.value → a ≤ e
-      → followed_by sub f.value (drop a s) ≡ ok (inline f.value) [] (e - a)
-      → Did (telling (content_at b)) cap at n t t₁ (expressions.Ok x e m) (get_expression sub (drop at s))
-  unfolding get_expression in_select after
-  did-alone b {e} q l h =
-      let z : inline_or_select sub (drop at s) ≡ ok (inline f.value) f.ms (f.k + (e - a)) = opened
-      ∙ (rw (h, move_up-nil, append-nil)) in
-      let i : e ≡ at + (f.k + (e - a)) = omega (arith, f.place) in
-      rw (z, q) (record { answers = ap₂ (expressions.Ok (shape_at b f.value)) i f.count; wrote = f.wrote })
+alone-reads : {s s₁ : Source} {m : Marks} {x : Expression} {o : Out Content} (b : ℕ) (i : Inline) → x ≡ shape_at b i
+    → Goes s s₁ o (inline i) → ReadsOf (content_at b) s s₁ m m (Ok x) o
+alone-reads b i e g = rw e (reads-map (content_at b) (reads-goes g))
 
-  pub did-refused : (b : ℕ) {j : ℕ} {e : ParserError} → answer reading a 0 (followed_by sub f.value (drop a s)) ≡ Bad e j
-      → Did (telling (content_at b)) cap at n t t₁ (expressions.Bad e j) (get_expression sub (drop at s))
+module _ {s s₁ s₂ : Source} {m m₁ : Marks} {x : Expression} (b : ℕ) (sub : Inside)
+    (d : ReadsOf (shape_at b) s s₁ m m₁ (Ok x) (get_inline_expression sub false (rest s))) where
+  pub expression-refused : {e : Stop} → Followed s₁ s₂ x (Err e) → ReadsOf (content_at b) s s₂ m m₁ (Err e) (get_expression sub (rest s))
   unfolding get_expression inline_or_select followed_by
-  did-refused b h =
-      (select-stop _ _
-      (did-bind s (get_inline_expression sub false) (followed_by sub) f
-      (did-lost (telling (content_at b)) (told-lost _ h) (step-none cap m t₁)))
-      (λ x c d q. let z : ◌≡◌ {A = ℕ} 0 1 = cc in omega arith))
-
-  pub did-select : (b : ℕ) {e : ℕ} {t₂ t₃ t₄ : List ℕ} {r x : Read} → a ≤ e
-      → followed_by sub f.value (drop a s) ≡ after [] (e - a) ((get_variants sub >> pure select) (drop e s))
-      → Inserted cap n m t₁ t₂ (word 14 0)
-      → Did reading cap e (m + 1) t₂ t₃ r (get_variants sub (drop e s)) → Closed cap 14 t₃ t₄ r x
-      → Did (telling (content_at b)) cap at n t t₄ (with_shape Select x) (get_expression sub (drop at s))
-  unfolding get_expression in_select ◌>>◌ next after pure node
-  did-select b {e} {t₂} {t₃} {t₄} {r} {x} l h ins d z = go (get_variants sub (drop e s)) refl d
+  expression-refused {e} g = go e g
     where
-      k : ℕ
-      k = f.k + (e - a)
+      go : (e : Stop) → Followed s₁ s₂ x (Err e) → ReadsOf (content_at b) s s₂ m m₁ (Err e) (get_expression sub (rest s))
+      go (Error f) g =
+          let v = valued (get_inline_expression sub false (rest s)) d.did refl in
+          select-stop b _
+          (reads-bind (get_inline_expression sub false) (followed_by sub) d
+          (reads-fails g.bytes (g.is sub b v.found.value v.told)))
+      go TooDeep g = absurd g.is
 
-      place : e ≡ at + k
-      place = omega (arith, f.place, l)
+  alone-whole : Followed s₁ s₂ x (Ok false) → ReadsOf (content_at b) s s₂ m m₁ (Ok x) (inline_or_select sub (rest s))
+  unfolding inline_or_select followed_by
+  alone-whole g =
+      let v = valued (get_inline_expression sub false (rest s)) d.did refl in
+      reads-bind (get_inline_expression sub false) (followed_by sub) d
+      (alone-reads b v.found.value v.told (record { bytes = g.bytes; went = g.is sub b v.found.value v.told }))
 
-      whole : inline_or_select sub (drop at s) ≡ after f.ms k ((get_variants sub >> pure select) (drop e s))
-      whole = opened ∙ ap (after f.ms f.k) h ∙ after-after f.ms f.k [] (e - a) ((get_variants sub >> pure select) (drop e s))
-          ∙ ap (λ (l : List Mark). after l k ((get_variants sub >> pure select) (drop e s)))
-          (ap (λ (l : List Mark). f.ms ++ l) (move_up-nil f.k) ∙ append-nil f.ms)
+  pub expression-alone : Followed s₁ s₂ x (Ok false) → ReadsOf (content_at b) s s₂ m m₁ (Ok x) (get_expression sub (rest s))
+  unfolding get_expression
+  expression-alone g =
+      let v = valued (get_inline_expression sub false (rest s)) d.did refl in
+      rw (in-inline b v.found.value (inline_or_select sub (rest s)) (alone-whole g) v.told) (alone-whole g)
 
-      first : Step cap n t t₂ (word 14 0 ∷ words_at at f.ms)
-      first = inserted-step f.wrote (f.count ∙ ap (λ (i : ℕ). n + i) (sym (words-length at f.ms))) ins
+-- ---- a select
+node-long : (ms : List Mark) → length (node 14 ms) ≡ suc (length ms + 1)
+unfolding node
+node-long ms = ap suc (length-append ms (plain 114 ∷ []))
 
-      count : m + 1 ≡ n + length (word 14 0 ∷ words_at at f.ms)
-      count = omega (arith, f.count, words-length at f.ms)
+select-is : (sub : Inside) (x : List ℕ) {ms : List Mark} {k : ℕ} → inline_or_select sub x ≡ ok select ms k
+    → get_expression sub x ≡ ok select (node 14 ms) k
+unfolding get_expression in_select
+select-is sub x e = rw e
 
-      go : (o : Out (Unit {0})) → get_variants sub (drop e s) ≡ o → Did reading cap e (m + 1) t₂ t₃ r o
-          → Did (telling (content_at b)) cap at n t t₄ (with_shape Select x) (get_expression sub (drop at s))
-      go (ok u vs j) p g =
-          let w : inline_or_select sub (drop at s) ≡ ok select (f.ms ++ move_up k vs) (k + j) = whole
-          ∙ (rw (p, move_up-nil, append-nil, add-zero)) in
-          let y : ClosedAs cap 14 t₃ t₄ (Ok (e + j) (m + 1 + length vs)) x = rw g.answers at z.holds in
-          let b : m + 1 + length vs ≡ m + 1 + length (words_at e vs) = ap (λ (i : ℕ). m + 1 + i) (sym (words-length e vs)) in
-          let v = step_then first count (step_then g.wrote b y.1) in
-          let eq : words_at at (node 14 (f.ms ++ move_up k vs)) ≡ (word 14 0 ∷ words_at at f.ms)
-          ++ (words_at e vs ++ (word 114 0 ∷ [])) = node-words at 14 (f.ms ++ move_up k vs)
-          ∙ (rw (words_append, words_up, ← place, append_assoc)) in
-          let len : length (node 14 (f.ms ++ move_up k vs)) ≡ length f.ms + length vs + 2 =
-          ap suc (length-append (f.ms ++ move_up k vs) (plain 114 ∷ []))
-          ∙ (rw (length-append, move_up-length) (omega arith)) in
-          rw w
-          (record {
-            answers =
-                ap (with_shape Select) (y.0 ∙ ap₂ Ok (omega (arith, place)) (omega (arith, len, f.count)));
-            wrote = rw eq v;
-          })
-      go (bad b j) p g =
-          let w : inline_or_select sub (drop at s) ≡ bad (up_fault k b) (k + j) = whole ∙ (rw p) in
-          let y : ClosedAs cap 14 t₃ t₄ (Bad (up_fault e b) (e + j)) x = rw g.answers at z.holds in
-          let q : up_fault e b ≡ up_fault at (up_fault k b) = ap (λ (i : ℕ). up_fault i b) place ∙ sym (fault-up at k b) in
-          rw w
-          (record {
-            answers = ap (with_shape Select) (y.0 ∙ ap₂ Bad q (omega (arith, place)));
-            wrote = rw (y.1, words-none) (step_cut (step_then first count g.wrote));
-          })
-      go (deep j) p g =
-          let w : inline_or_select sub (drop at s) ≡ deep (k + j) = whole ∙ (rw p) in
-          let y : ClosedAs cap 14 t₃ t₄ (Deep (e + j)) x = rw g.answers at z.holds in
-          rw w
-          (record {
-            answers = ap (with_shape Select) (y.0 ∙ ap Deep (omega (arith, place)));
-            wrote = rw (y.1, words-none) (step_cut (step_then first count g.wrote));
-          })
+bad-is : (sub : Inside) (x : List ℕ) {f : ParserError} {k : ℕ} → inline_or_select sub x ≡ bad f k → get_expression sub x ≡ bad f k
+unfolding get_expression in_select
+bad-is sub x e = rw e
 
--- ---- results
-pub not-expression : (r : ReadExpression) → OneOf (1 ∷ 2 ∷ []) (tag_of the_type r) → (x : Expression) (a m : ℕ)
-    → r ≡ expressions.Ok x a m → ⊥
-not-expression r h x a m e = ⊎_elim (λ p. zero_one (sym (ap (tag_of the_type) e) ∙ p)) (λ p. zero-two (sym (ap (tag_of the_type) e) ∙ p)) h
-  where
-    zero_one : ◌≡◌ {A = ℕ} 0 1 → ⊥
-    zero_one p = omega arith
+deep-is : (sub : Inside) (x : List ℕ) {k : ℕ} → inline_or_select sub x ≡ deep k → get_expression sub x ≡ deep k
+unfolding get_expression in_select
+deep-is sub x e = rw e
 
-    zero-two : ◌≡◌ {A = ℕ} 0 2 → ⊥
-    zero-two p = omega arith
+module _ {s s₁ s₂ : Source} {m m₁ m₂ : Marks} {x : Expression} (b : ℕ) (sub : Inside)
+    (d : ReadsOf (shape_at b) s s₁ m m₁ (Ok x) (get_inline_expression sub false (rest s))) (g : Followed s₁ s₂ x (Ok true))
+    (p : Put m.count 14 m₁ m₂) where
+  abbrev f : Found m.capacity s.ptr m.count s₁.ptr m₁.count m.words.now m₁.words.now (get_inline_expression sub false (rest s))
+  f = (valued (get_inline_expression sub false (rest s)) d.did refl).found
 
-pub expression-stop : (b : ℕ) {cap at n : ℕ} {t t₁ : List ℕ} {r : ReadExpression} (sub : Inside) (y : List ℕ)
-    → Did (expressing b) cap at n t t₁ r (get_inline_expression sub false y)
-    → ((x : Expression) (a m : ℕ) → r ≡ expressions.Ok x a m → ⊥)
-    → Did (telling (content_at b)) cap at n t t₁ r (get_expression sub y)
-unfolding get_expression inline_or_select ◌>>=◌ next in_select
-expression-stop b {cap} {at} {n} {t} {t₁} {r} sub y d h = go (get_inline_expression sub false y) refl d
-  where
-    go : (o : Out Inline) → get_inline_expression sub false y ≡ o → Did (expressing b) cap at n t t₁ r o
-        → Did (telling (content_at b)) cap at n t t₁ r (get_expression sub y)
-    go (ok i ms k) e g = absurd (h _ _ _ g.answers)
-    go (bad f k) e g = rw e (record { answers = g.answers; wrote = g.wrote })
-    go (deep k) e g = rw e (record { answers = g.answers; wrote = g.wrote })
+  abbrev k : ℕ
+  k = f.k + (s₂.ptr - s₁.ptr)
+
+  place : s₂.ptr ≡ s.ptr + k
+  place = omega (arith, f.place, g.is.0)
+
+  there : drop f.k (rest s) ≡ rest s₁
+  there =
+      drop-drop f.k s.ptr s.bytes.now ∙ ap (λ (i : ℕ). drop i s.bytes.now) (sym f.place)
+      ∙ ap (λ (y : Bor (List ℕ)). drop s₁.ptr y.now) (sym d.frame.bytes)
+
+  opened : inline_or_select sub (rest s) ≡ after f.ms f.k (followed_by sub f.value (rest s₁))
+  unfolding inline_or_select ◌>>=◌ next followed_by
+  opened = rw (f.is, there)
+
+  whole : inline_or_select sub (rest s) ≡ after f.ms k ((get_variants sub >> pure select) (rest s₂))
+  whole =
+      let o = (get_variants sub >> pure select) (rest s₂) in
+      let told = (valued (get_inline_expression sub false (rest s)) d.did refl).told in
+      opened ∙ ap (after f.ms f.k) (g.is.1 sub b f.value told) ∙ after-after f.ms f.k [] (s₂.ptr - s₁.ptr) o
+      ∙ ap (λ (l : List Mark). after l k o) (ap (λ (l : List Mark). f.ms ++ l) (move_up-nil f.k) ∙ append-nil f.ms)
+
+  whole-ok : {u : Unit {0}} {ms : List Mark} {j : ℕ} → get_variants sub (rest s₂) ≡ ok u ms j
+      → inline_or_select sub (rest s) ≡ ok select (f.ms ++ move_up k ms) (k + j)
+  unfolding ◌>>◌ next after pure
+  whole-ok e = whole ∙ (rw (e, move_up-nil, append-nil, add-zero))
+
+  whole-bad : {x : ParserError} {j : ℕ} → get_variants sub (rest s₂) ≡ bad x j → inline_or_select sub (rest s) ≡ bad (up_fault k x) (k + j)
+  unfolding ◌>>◌ next after
+  whole-bad e = whole ∙ (rw e)
+
+  whole-deep : {j : ℕ} → get_variants sub (rest s₂) ≡ deep j → inline_or_select sub (rest s) ≡ deep (k + j)
+  unfolding ◌>>◌ next after
+  whole-deep e = whole ∙ (rw e)
+
+  cap : m₂.capacity ≡ m.capacity
+  cap = p.same.capacity ∙ d.frame.tree.capacity
+
+  frame : Frame s s₂ m m₂
+  frame = frame-then d.frame (record { bytes = g.bytes; tree = p.same })
+
+  first : Step m.capacity m.count m.words.now m₂.words.now (word 14 0 ∷ words_at s.ptr f.ms)
+  first =
+      let i : Inserted m.capacity m.count m₁.count m₁.words.now m₂.words.now (word 14 0) = rw d.frame.tree.capacity at p.inserted in
+      inserted-step f.wrote (f.count ∙ ap (λ (i : ℕ). m.count + i) (sym (words-length s.ptr f.ms))) i
+
+  count : m₂.count ≡ m.count + length (word 14 0 ∷ words_at s.ptr f.ms)
+  count = omega (arith, p.count, f.count, words-length s.ptr f.ms)
+
+  module _ {s₃ : Source} {m₃ : Marks} where
+    pub reads-select : {m₄ : Marks} {u : Unit {0}} → ReadsOf silent s₂ s₃ m₂ m₃ (Ok u) (get_variants sub (rest s₂))
+        → Wrote m₃ m₄ (word 114 0 ∷ []) → ReadsOf (content_at b) s s₃ m m₄ (Ok Select) (get_expression sub (rest s))
+    reads-select {m₄} e z =
+        let v = (valued (get_variants sub (rest s₂)) e.did refl).found in
+        let a : Step m.capacity m₂.count m₂.words.now m₃.words.now (words_at s₂.ptr v.ms) =
+        subst (λ (c : ℕ). Step c m₂.count m₂.words.now m₃.words.now (words_at s₂.ptr v.ms)) cap v.wrote in
+        let c : Step m.capacity m₃.count m₃.words.now m₄.words.now (word 114 0 ∷ []) = rw (e.frame.tree.capacity, cap) at z.step in
+        let y = step_then first count (step_then a (v.count ∙ ap (λ (i : ℕ). m₂.count + i) (sym (words-length s₂.ptr v.ms))) c) in
+        let eq : words_at s.ptr (node 14 (f.ms ++ move_up k v.ms)) ≡ (word 14 0 ∷ words_at s.ptr f.ms)
+        ++ (words_at s₂.ptr v.ms ++ (word 114 0 ∷ [])) = node-words s.ptr 14 (f.ms ++ move_up k v.ms)
+        ∙ (rw (words_append, words_up, ← place, append_assoc)) in
+        let len : length (node 14 (f.ms ++ move_up k v.ms)) ≡ length f.ms + length v.ms + 2 =
+        node-long (f.ms ++ move_up k v.ms) ∙ (rw (length-append, move_up-length) (omega arith)) in
+        record {
+          frame = frame-then (frame-then frame e.frame) (record { bytes = refl; tree = z.same });
+          did =
+              did-found (content_at b)
+              (record {
+                value = select;
+                ms = node 14 (f.ms ++ move_up k v.ms);
+                k = k + v.k;
+                is = select-is sub (rest s) (whole-ok v.is);
+                place = omega (arith, place, v.place);
+                count = omega (arith, len, f.count, p.count, v.count, z.count);
+                wrote = rw eq y;
+              });
+        }
+
+    pub stop-select : {e : Stop} → ReadsOf silent s₂ s₃ m₂ m₃ (Err e) (get_variants sub (rest s₂))
+        → ReadsOf (content_at b) s s₃ m m₃ (Err e) (get_expression sub (rest s))
+    stop-select {e} v = go e v
+      where
+        cut : {e : Stop} → ReadsOf silent s₂ s₃ m₂ m₃ (Err e) (get_variants sub (rest s₂)) → Step m.capacity m.count m.words.now m₃.words.now []
+        cut v =
+            let a : Step m.capacity m₂.count m₂.words.now m₃.words.now [] =
+            subst (λ (c : ℕ). Step c m₂.count m₂.words.now m₃.words.now []) cap (failed-wrote v.did) in
+            step_cut (step_then first count a)
+
+        go : (e : Stop) → ReadsOf silent s₂ s₃ m₂ m₃ (Err e) (get_variants sub (rest s₂))
+            → ReadsOf (content_at b) s s₃ m m₃ (Err e) (get_expression sub (rest s))
+        go (Error x) v =
+            let l = lost (get_variants sub (rest s₂)) v.did refl in
+            record {
+              frame = frame-then frame v.frame;
+              did =
+                  did-lost (content_at b)
+                  (record {
+                    fault = up_fault k l.fault;
+                    k = k + l.k;
+                    is = bad-is sub (rest s) (whole-bad l.is);
+                    moved = l.moved ∙ ap (λ (i : ℕ). up_fault i l.fault) place ∙ sym (fault-up s.ptr k l.fault);
+                    place = omega (arith, place, l.place);
+                  }) (cut v);
+            }
+        go TooDeep v =
+            let l = far (get_variants sub (rest s₂)) v.did refl in
+            record {
+              frame = frame-then frame v.frame;
+              did =
+                  did-far (content_at b)
+                  (record { k = k + l.k; is = deep-is sub (rest s) (whole-deep l.is); place = omega (arith, place, l.place) })
+                  (cut v);
+            }

@@ -1,74 +1,69 @@
 -- Settling the marks of a pattern: the indent at a place, the marks that are passed, and the end of a text that is trimmed.
-use Rattle.std.specs.Prelude.{◌≡◌, ℕ, suc, ◌+◌, ◌-◌, ◌*◌, ◌^◌, ◌<◌, ◌≤◌, min, Bool, true, false, ◌&&◌, eqb, List, [], ◌∷◌, ◌++◌, map, length, get_or, take, drop, set}
-use mathlib.Core.Path.{refl, sym, ap, ◌∙◌}
+use Rattle.std.specs.Prelude.{◌≡◌, ℕ, suc, Option, Some, is_some, IfSome, ◌⊎◌, zero, not, ◌+◌, ◌-◌, ◌*◌, ◌^◌, ◌<◌, ◌≤◌, min, Bool, true, false, ◌&&◌, eqb, ltb, List, [], ◌∷◌, ◌++◌, map, length, get_or, take, drop, set}
+use mathlib.Core.Path.{refl, sym, ap, ap₂, ◌∙◌}
+use mathlib.Core.Logic.{⊎_elim}
 use mathlib.Core.List.{append_assoc}
-use native.Mathlib.Nat.{add-zero, zero-add, add_assoc, min-eq_left, min-eq_right, min-le_left}
-use native.Mathlib.Numerals.{add-one}
+use native.Mathlib.Nat.{min-le_left}
 use native.Mathlib.Decide.{dec_le}
 use native.Mathlib.Omega.{arith}
-use borrow.Author.Tests.{eq-eqb, ne_eqb}
-use lib.Dec.{eqb-suc-zero}
+use borrow.Author.Tests.{eq-eqb, ne_eqb, ltb-true, not-true, not-false}
+use denote.Bor.{Bor}
+use Rattle.std.proofs.Common.{All}
+use Rattle.std.proofs.lemmas.List.Elements.{All-get_or}
+use Rattle.std.specs.List.{prefix_len, take_while}
+use Rattle.std.proofs.lemmas.List.Folds.{length-prefix_len}
+use Rattle.std.proofs.lemmas.Grind.{get_or_default_zero}
 use lib.ListN.{length-drop, length-map, drop_of_length-le}
-use lib.Seq.{drop-cons, drop-append-le, get_or-set_other, get_or-drop, take-suc, length-take-le, drop_at, set-get_or}
+use lib.Seq.{drop-append-le, get_or-set_other, take_all, length-take-le, drop_at, set-get_or}
 use Rattle.syntax.specs.Bytes.{run, spaces}
-use Rattle.syntax.specs.Pattern.{trimmed}
+use Rattle.syntax.specs.Pattern.{trimmed, is_continuation, goes_on}
 use Rattle.entry.specs.Tree.{Word, word, marks_in, Step}
-use Rattle.entry.specs.Settle.{settle_word, is_trimmed, trim_words, trimmed_end, Within}
-use Rattle.laws.specs.Bytes.{spaces-le}
+use Rattle.entry.specs.declared.source.Source.{Source}
+use Rattle.entry.specs.declared.parser.Parser.{Parser}
+use Rattle.entry.specs.Settle.{settle_word, is_trimmed, trim_words, trimmed_end, Within, Remarks, Settled, Trimmable, Trimmed}
+use Rattle.laws.specs.Bytes.{by_case, spaces-le}
 use Rattle.laws.specs.Moving.{map-append}
 use Rattle.laws.specs.Bounds.Pattern.{trimmed-le}
+use Rattle.entry.proofs.Run.{run_take}
 use Rattle.entry.proofs.Steps.{step-put, step_then, step-none, step_same, marks-length, marks-next}
 
 -- ---- the spaces at a place
-spaces-yes : (s : List ℕ) (i : ℕ) → i < length s → get_or s i 0 ≡ 32 → spaces (drop i s) ≡ suc (spaces (drop (i + 1) s))
-unfolding spaces run
-spaces-yes s i h e = rw (add-one, drop-cons s i 0 h, run, eq-eqb (get_or s i 0) 32 e)
-
-spaces-no : (s : List ℕ) (i : ℕ) → i < length s → (get_or s i 0 ≡ 32 → ⊥) → spaces (drop i s) ≡ 0
-unfolding spaces run
-spaces-no s i h e = rw (drop-cons s i 0 h, run, ne_eqb (get_or s i 0) 32 e)
-
-pub spaces-end : (s : List ℕ) (i : ℕ) → length s ≤ i → spaces (drop i s) ≡ 0
+spaces-end : (s : List ℕ) (i : ℕ) → length s ≤ i → spaces (drop i s) ≡ 0
 unfolding spaces run
 spaces-end s i h = rw (drop_of_length-le s h)
 
--- n spaces have been passed
-pub record Indenting (s : List ℕ) (at most n : ℕ) : Type 0 where
-  pub order : n ≤ most
-  pub short : n ≤ length s
-  pub sum : spaces (drop at s) ≡ n + spaces (drop (at + n) s)
+run-prefix : (p : ℕ → Bool) (x : List ℕ) → prefix_len p x ≡ run p x
+unfolding run
+run-prefix p [] = refl
+run-prefix p (b ∷ x) = by_case (p b) (λ q. rw (q, run) (let e = run-prefix p x in omega arith)) (λ q. rw (q, run) refl)
 
-pub indent-none : (s : List ℕ) (at most : ℕ) → Indenting s at most 0
-indent-none s at most = record { order = omega arith; short = omega arith; sum = rw (add-zero, zero-add) }
-
-pub indent-more : (s : List ℕ) (at most n : ℕ) → Indenting s at most n → n < most → at + n < length s
-    → get_or s (at + n) 0 ≡ 32 → Indenting s at most (n + 1)
-indent-more s at most n g h l e =
-    let q = spaces-yes s (at + n) l e in
-    let w = g.sum in
-    record { order = omega arith; short = omega arith; sum = rw (← add_assoc) (omega arith) }
-
-indent-at : (s : List ℕ) (at most n : ℕ) → Indenting s at most n → spaces (drop (at + n) s) ≡ 0 → n ≡ min (spaces (drop at s)) most
-indent-at s at most n g e =
-    let w = g.sum in
-    let q : spaces (drop at s) ≡ n = omega arith in
-    rw q (sym (min-eq_left g.order))
-
-pub indent-end : (s : List ℕ) (at most n : ℕ) → Indenting s at most n → length s ≤ at + n → n ≡ min (spaces (drop at s)) most
-indent-end s at most n g h = indent-at s at most n g (spaces-end s (at + n) h)
-
-pub indent-other : (s : List ℕ) (at most n : ℕ) → Indenting s at most n → at + n < length s
-    → (get_or s (at + n) 0 ≡ 32 → ⊥) → n ≡ min (spaces (drop at s)) most
-indent-other s at most n g h f = indent-at s at most n g (spaces-no s (at + n) h f)
-
-pub indent-full : (s : List ℕ) (at most n : ℕ) → Indenting s at most n → most ≤ n → n ≡ min (spaces (drop at s)) most
-indent-full s at most n g h =
-    let w = g.sum in
-    let o = g.order in
-    let q : most ≤ spaces (drop at s) = omega arith in
-    let e = min-eq_right q in
+-- the spaces that the code counted
+pub indent-counted : (s : List ℕ) (at most n : ℕ) (x : List ℕ) → x ≡ take (length s - at) (drop at s)
+    → n ≡ length (take_while (λ b. eqb b 32) (take most x)) → n ≡ min (spaces (drop at s)) most
+unfolding spaces
+indent-counted s at most n x e h =
+    let z = length-drop at s in
+    let y : x ≡ drop at s = e ∙ take_all (length s - at) (drop at s) (omega arith) in
+    let k : n ≡ run (λ b. eqb b 32) (take most x) = h ∙ length-prefix_len (λ b. eqb b 32) (take most x) ∙ run-prefix (λ b. eqb b 32) (take most x) in
+    let t : run (λ b. eqb b 32) (take most x) ≡ min most (run (λ b. eqb b 32) (drop at s)) = rw y (run_take (λ b. eqb b 32) most (drop at s)) in
     omega arith
 
+pub indent-outside : (s : List ℕ) (at most : ℕ) → (length s < at) ⊎ (length s < length s) → 0 ≡ min (spaces (drop at s)) most
+indent-outside s at most h =
+    let l : length s ≤ at = ⊎_elim (λ q. omega arith) (λ q. absurd (omega arith)) h in
+    let e = spaces-end s at l in
+    omega arith
+
+-- ---- what the code looked up at a place
+pub byte-got : (s : List ℕ) (i : ℕ) (r : Option (Bor ℕ)) (x : Bor ℕ) → is_some r ≡ ltb i (length s)
+    → IfSome r (λ x. x.now ≡ get_or s i x.now) → r ≡ Some x → (i < length s) × (x.now ≡ get_or s i 0)
+byte-got s i r x k f e =
+    let k' : true ≡ ltb i (length s) = rw e at k in
+    let f' : x.now ≡ get_or s i x.now = rw e at f in
+    let l : i < length s = ltb-true i (length s) (sym k') in
+    (l, f' ∙ get_or_default_zero s i x.now l)
+
+-- ---- the marks of a settled text
 -- a place keeps its width when the spaces there are passed
 pub indent-fits : (s : List ℕ) (p most n : ℕ) → p < 2 ^ 32 → length s < 2 ^ 32 → n ≡ min (spaces (drop p s)) most → p + n < 2 ^ 32
 indent-fits s p most n h l e = go (dec_le p (length s))
@@ -157,64 +152,34 @@ pub settle-end : (s : List ℕ) (cap from to common : ℕ) (t t' : List ℕ) (i 
     → Step cap from t t' (map (settle_word s common) (drop from (marks_in cap to t)))
 settle-end s cap from to common t t' i g h = let e : i ≡ to = omega (arith, g.order) in rw e at g.done
 
--- ---- trimming: the last byte decides
-trimmed-yes : (x : List ℕ) (b : ℕ) → is_trimmed b ≡ true → trimmed (x ++ (b ∷ [])) ≡ trimmed x
+-- ---- trimming: the last byte that is not trimmed decides
+trimmed-none : (x : List ℕ) → ((k : ℕ) → k < length x → not (is_trimmed (get_or x k 0)) ≡ false) → trimmed x ≡ 0
 unfolding trimmed
-trimmed-yes [] b e = rw (trimmed, e)
-trimmed-yes (a ∷ x) b e = ap (λ (n : ℕ). elim (is_trimmed a && eqb n 0) [ true ↦ 0 | false ↦ suc n ]) (trimmed-yes x b e)
+trimmed-none [] f = refl
+trimmed-none (b ∷ x) f =
+    ap₂ (λ (v : Bool) (n : ℕ). elim (v && eqb n 0) [ true ↦ 0 | false ↦ suc n ]) (not-false (is_trimmed b) (f zero (omega arith)))
+    (trimmed-none x (λ k h. f (suc k) (omega arith)))
 
-trimmed-no : (x : List ℕ) (b : ℕ) → is_trimmed b ≡ false → trimmed (x ++ (b ∷ [])) ≡ suc (length x)
+trimmed-step : (v : Bool) (n : ℕ) → 0 < n → elim (v && eqb n 0) [ true ↦ 0 | false ↦ suc n ] ≡ suc n
+trimmed-step true n h = rw (ne_eqb n 0 (λ e. omega arith))
+trimmed-step false n h = refl
+
+pub trimmed-at : (x : List ℕ) (i : ℕ) → i < length x → not (is_trimmed (get_or x i 0)) ≡ true
+    → ((k : ℕ) → i + 1 ≤ k → k < length x → not (is_trimmed (get_or x k 0)) ≡ false) → i + 1 ≡ trimmed x
 unfolding trimmed
-trimmed-no [] b e = rw (trimmed, e)
-trimmed-no (a ∷ x) b e = ap (λ (n : ℕ). elim (is_trimmed a && eqb n 0) [ true ↦ 0 | false ↦ suc n ]) (trimmed-no x b e) ∙ go (is_trimmed a)
-  where
-    go : (v : Bool) → elim (v && eqb (suc (length x)) 0) [ true ↦ 0 | false ↦ suc (suc (length x)) ] ≡ suc (suc (length x))
-    go true = rw (eqb-suc-zero (length x))
-    go false = refl
+trimmed-at [] i h e f = absurd (omega arith)
+trimmed-at (b ∷ x) zero h e f =
+    let q : trimmed (b ∷ x) ≡ 1 =
+    ap₂ (λ (v : Bool) (n : ℕ). elim (v && eqb n 0) [ true ↦ 0 | false ↦ suc n ]) (not-true (is_trimmed b) e)
+    (trimmed-none x (λ k l. f (suc k) (omega arith) (omega arith))) in
+    omega arith
+trimmed-at (b ∷ x) (suc i) h e f =
+    let q = trimmed-at x i (omega arith) e (λ k l m. f (suc k) (omega arith) (omega arith)) in
+    let r : trimmed (b ∷ x) ≡ suc (trimmed x) = trimmed-step (is_trimmed b) (trimmed x) (omega arith) in
+    omega arith
 
--- a text without its last byte
-shorter : (s : List ℕ) (a e : ℕ) → a < e → e ≤ length s → take (e - a) (drop a s) ≡ take (e - 1 - a) (drop a s) ++ (get_or s (e - 1) 0 ∷ [])
-shorter s a e h l =
-    let q : e - a ≡ suc (e - 1 - a) = omega arith in
-    let r : a + (e - 1 - a) ≡ e - 1 = omega arith in
-    let z = length-drop a s in
-    rw (q, take-suc (drop a s) (e - 1 - a) 0 (omega arith), get_or-drop a s (e - 1 - a) 0, r)
-
-pub record Trimming (s : List ℕ) (start end e : ℕ) : Type 0 where
-  pub order : (start ≤ e) × (e ≤ end)
-  pub same : trimmed_end s start end ≡ trimmed_end s start e
-
-pub trim-none : (s : List ℕ) (start end : ℕ) → start ≤ end → Trimming s start end end
-trim-none s start end h = record { order = (h, omega arith); same = refl }
-
-pub trim-more : (s : List ℕ) (start end e : ℕ) → end ≤ length s → Trimming s start end e → start < e → is_trimmed (get_or s (e - 1) 0) ≡ true
-    → Trimming s start end (e - 1)
-unfolding trimmed_end
-trim-more s start end e l g h q =
-    record {
-      order = omega (arith, g.order);
-      same = g.same
-          ∙ rw (
-            shorter s start e h (omega (arith, g.order)),
-            trimmed-yes (take (e - 1 - start) (drop start s)) (get_or s (e - 1) 0) q,
-          );
-    }
-
-pub trim-stop : (s : List ℕ) (start end e : ℕ) → end ≤ length s → Trimming s start end e → start < e → is_trimmed (get_or s (e - 1) 0) ≡ false
-    → e ≡ trimmed_end s start end
-unfolding trimmed_end
-trim-stop s start end e l g h q =
-    let m : e ≤ length s = omega (arith, g.order) in
-    let z = length-drop start s in
-    let n : length (take (e - 1 - start) (drop start s)) ≡ e - 1 - start = length-take-le (e - 1 - start) (drop start s) (omega arith) in
-    rw (g.same, shorter s start e h m, trimmed-no (take (e - 1 - start) (drop start s)) (get_or s (e - 1) 0) q, n) (omega arith)
-
-pub trim-all : (s : List ℕ) (start end e : ℕ) → Trimming s start end e → e ≤ start → e ≡ trimmed_end s start end
-unfolding trimmed_end trimmed
-trim-all s start end e g h =
-    let q : e ≡ start = omega (arith, g.order) in
-    let r : start - start ≡ 0 = omega arith in
-    rw (g.same, q, r, add-zero)
+pub trimmed-all : (x : List ℕ) → All (λ b. not (is_trimmed b) ≡ false) x → 0 ≡ trimmed x
+trimmed-all x h = sym (trimmed-none x (λ k l. All-get_or (λ b. not (is_trimmed b) ≡ false) x k 0 l h))
 
 two-marks : (cap n : ℕ) (t : List ℕ)
     → drop n (marks_in cap (n + 2) t) ≡ word (get_or t (n + 2) 0) (get_or t (cap + n + 2) 0)
@@ -246,15 +211,153 @@ pub within : (s : List ℕ) (cap n : ℕ) (t : List ℕ) → Within s (drop n (m
 unfolding Within
 within s cap n t w e = (rw (two-marks cap n t) at w) e
 
-pub trimmed-fits : (s : List ℕ) (cap n : ℕ) (t : List ℕ) {r : ℕ} → Within s (drop n (marks_in cap (n + 2) t)) → get_or t (n + 1 + 2) 0 ≡ 112
-    → r ≡ trimmed_end s (get_or t (cap + n + 2) 0) (get_or t (cap + (n + 1) + 2) 0)
-    → length s < 2 ^ 32 → r < 2 ^ 32
-unfolding trimmed_end
-trimmed-fits s cap n t w e q h =
-    let a : ℕ = get_or t (cap + n + 2) 0 in
-    let b : ℕ = get_or t (cap + (n + 1) + 2) 0 in
-    let o = within s cap n t w e in
-    let l = trimmed-le (take (b - a) (drop a s)) in
-    let z = length-drop a s in
-    let v = length-take-le (b - a) (drop a s) (omega arith) in
-    omega arith
+-- ---- whether a line goes on
+pub goes-cr : (i b : ℕ) → i ≡ 0 → b ≡ 13 → eqb b 13 ≡ goes_on i b
+unfolding goes_on
+goes-cr i b e h = rw (goes_on, eq-eqb i 0 e, eq-eqb b 13 h)
+
+pub goes-lf : (i b : ℕ) → i ≡ 0 → (b ≡ 13 → ⊥) → eqb b 10 ≡ goes_on i b
+unfolding goes_on
+goes-lf i b e h = rw (goes_on, eq-eqb i 0 e, ne_eqb b 13 h)
+
+pub goes-byte : (i b : ℕ) {v : Bool} → (i ≡ 0 → ⊥) → v ≡ is_continuation b → v ≡ goes_on i b
+unfolding goes_on
+goes-byte i b e h = rw (goes_on, ne_eqb i 0 e) h
+
+-- ---- the parser's marks
+pub still : {p p' : Parser} → p'.source ≡ p.source → p'.tree.now.words.ghost_name ≡ p.tree.now.words.ghost_name
+    → p'.tree.now.capacity ≡ p.tree.now.capacity → p'.tree.now.count ≡ p.tree.now.count → Remarks p p'
+still s w c n =
+    record {
+      frame = record { bytes = ap (λ (x : Source). x.bytes) s; tree = record { words = w; capacity = c } };
+      place = ap (λ (x : Source). x.ptr) s;
+      count = n;
+    }
+
+pub then-still : {p p₁ p₂ : Parser} → Remarks p p₁ → Remarks p₁ p₂ → Remarks p p₂
+then-still a b =
+    record {
+      frame = record {
+        bytes = b.frame.bytes ∙ a.frame.bytes;
+        tree = record {
+          words = b.frame.tree.words ∙ a.frame.tree.words;
+          capacity = b.frame.tree.capacity ∙ a.frame.tree.capacity;
+        };
+      };
+      place = b.place ∙ a.place;
+      count = b.count ∙ a.count;
+    }
+
+-- the loop of `settle`
+pub record Going (p p' : Parser) (from common i : ℕ) : Type 0 where
+  pub kept : Remarks p p'
+  pub marks : Settling p.source.bytes.now p.tree.now.capacity from p.tree.now.count common p.tree.now.words.now p'.tree.now.words.now i
+
+pub going-start : (p : Parser) (from common : ℕ) → from ≤ p.tree.now.count → Going p p from common from
+going-start p from common h =
+    record {
+      kept = still refl refl refl refl;
+      marks = settle-none p.source.bytes.now p.tree.now.capacity from p.tree.now.count common p.tree.now.words.now h;
+    }
+
+module _ {p p' : Parser} {from common i : ℕ} (g : Going p p' from common i) (h : i < p.tree.now.count) {k q : ℕ} (ek : k ≡ 2 + i)
+    (eq : q ≡ 2 + p'.tree.now.capacity + i) where
+  kind-place : k ≡ i + 2
+  kind-place = omega arith
+
+  pub going-other : (get_or p'.tree.now.words.now k 0 ≡ 200 → ⊥) → Going p p' from common (i + 1)
+  going-other f =
+      record {
+        kept = g.kept;
+        marks =
+            settle_other p.source.bytes.now p.tree.now.capacity from p.tree.now.count common p.tree.now.words.now p'.tree.now.words.now i g.marks h
+            (rw kind-place at f);
+      }
+
+  pub going-line : {p'' : Parser} {n : ℕ} → p.tree.now.count ≤ p.tree.now.capacity → Remarks p' p'' → get_or p'.tree.now.words.now k 0 ≡ 200
+      → n ≡ min (spaces (drop (get_or p'.tree.now.words.now q 0) p'.source.bytes.now)) common
+      → p''.tree.now.words.now ≡ set (set p'.tree.now.words.now k 12) q (get_or p'.tree.now.words.now q 0 + n)
+      → Going p p'' from common (i + 1)
+  going-line {p''} {n} m r w e u =
+      let c : q ≡ p.tree.now.capacity + i + 2 = omega (arith, g.kept.frame.tree.capacity) in
+      let v : get_or p'.tree.now.words.now (i + 2) 0 ≡ 200 = rw kind-place at w in
+      let b : n ≡ min (spaces (drop (get_or p'.tree.now.words.now (p.tree.now.capacity + i + 2) 0) p.source.bytes.now)) common =
+      rw (c, g.kept.frame.bytes) at e in
+      let o = p.tree.now.layout in
+      record {
+        kept = then-still g.kept r;
+        marks =
+            rw (u, kind-place, c)
+            (settle-line p.source.bytes.now p.tree.now.capacity from p.tree.now.count common p.tree.now.words.now p'.tree.now.words.now i n m o
+            g.marks h v b);
+      }
+
+  pub going-fits : get_or p'.tree.now.words.now q 0 < 2 ^ 32 → {n : ℕ}
+      → n ≡ min (spaces (drop (get_or p'.tree.now.words.now q 0) p'.source.bytes.now)) common
+      → get_or p'.tree.now.words.now q 0 + n < 2 ^ 32
+  going-fits l {n} e =
+      indent-fits p'.source.bytes.now (get_or p'.tree.now.words.now q 0) common n l (omega (arith, p'.source.short)) e
+
+pub going-end : {p p' : Parser} {from common i : ℕ} → Going p p' from common i → p.tree.now.count ≤ i → Settled from common p p'
+going-end {p} {p'} {from} {common} {i} g h =
+    record {
+      kept = g.kept;
+      settled =
+          settle-end p.source.bytes.now p.tree.now.capacity from p.tree.now.count common p.tree.now.words.now p'.tree.now.words.now i g.marks h;
+    }
+
+-- the last text
+module _ {p : Parser} (t : Trimmable p) {k a b : ℕ} (ek : k ≡ 2 + (p.tree.now.count - 1))
+    (ea : a ≡ 2 + p.tree.now.capacity + (p.tree.now.count - 1) - 1) (eb : b ≡ 2 + p.tree.now.capacity + (p.tree.now.count - 1)) where
+  kind-at : k ≡ p.tree.now.count - 2 + 1 + 2
+  kind-at = omega (arith, t.some)
+
+  start-at : a ≡ p.tree.now.capacity + (p.tree.now.count - 2) + 2
+  start-at = omega (arith, t.some)
+
+  end-at : b ≡ p.tree.now.capacity + (p.tree.now.count - 2 + 1) + 2
+  end-at = omega (arith, t.some)
+
+  pub text-within : get_or p.tree.now.words.now k 0 ≡ 112
+      → (get_or p.tree.now.words.now a 0 ≤ get_or p.tree.now.words.now b 0) × (get_or p.tree.now.words.now b 0 ≤ length p.source.bytes.now)
+  text-within h =
+      rw (start-at, end-at)
+      (within p.source.bytes.now p.tree.now.capacity (p.tree.now.count - 2) p.tree.now.words.now t.within (rw kind-at at h))
+
+  module _ (h : get_or p.tree.now.words.now k 0 ≡ 112) {n : ℕ}
+      (e : n ≡ trimmed (take (get_or p.tree.now.words.now b 0 - get_or p.tree.now.words.now a 0) (drop (get_or p.tree.now.words.now a 0) p.source.bytes.now))) where
+    pub trim-fits : get_or p.tree.now.words.now a 0 + n ≤ 1000000
+    trim-fits =
+        let s = p.source.bytes.now in
+        let i = get_or p.tree.now.words.now a 0 in
+        let j = get_or p.tree.now.words.now b 0 in
+        let o = text-within h in
+        let l = trimmed-le (take (j - i) (drop i s)) in
+        let z = length-drop i s in
+        let v = length-take-le (j - i) (drop i s) (omega arith) in
+        omega (arith, p.source.short)
+
+    pub trim-text : {p' : Parser} → Remarks p p' → p'.tree.now.words.now ≡ set p.tree.now.words.now b (get_or p.tree.now.words.now a 0 + n) → Trimmed p p'
+    unfolding trimmed_end
+    trim-text {p'} r u =
+        let w : List ℕ = p.tree.now.words.now in
+        let g : get_or w a 0 + n ≡ trimmed_end p.source.bytes.now (get_or w a 0) (get_or w b 0) = ap (λ (i : ℕ). get_or w a 0 + i) e in
+        let f : get_or w a 0 + n
+        ≡ trimmed_end p.source.bytes.now (get_or w (p.tree.now.capacity + (p.tree.now.count - 2) + 2) 0)
+        (get_or w (p.tree.now.capacity + (p.tree.now.count - 2 + 1) + 2) 0) =
+        g
+        ∙ ap₂ (λ (i j : ℕ). trimmed_end p.source.bytes.now (get_or w i 0) (get_or w j 0)) start-at end-at in
+        record {
+          kept = r;
+          trimmed =
+              rw (u, end-at)
+              (trim-yes p.source.bytes.now p.tree.now.capacity (p.tree.now.count - 2) w (get_or w a 0 + n) (omega (arith, t.some, t.room))
+              p.tree.now.layout (rw kind-at at h) f);
+        }
+
+  pub trim-none-text : (get_or p.tree.now.words.now k 0 ≡ 112 → ⊥) → Trimmed p p
+  trim-none-text f =
+      record {
+        kept = still refl refl refl refl;
+        trimmed = trim-no p.source.bytes.now p.tree.now.capacity (p.tree.now.count - 2) p.tree.now.words.now (rw kind-at at f);
+      }

@@ -1,56 +1,61 @@
 -- What an inline expression starts with.
-use Rattle.std.specs.Prelude.{◌≡◌, ℕ, ◌+◌, ◌<◌, ◌≤◌, Bool, true, false, eqb, List, [], ◌∷◌, length, get_or, drop}
+use Rattle.std.specs.Prelude.{◌≡◌, ℕ, ◌+◌, Bool, true, false, Option, Some, Result, Ok, Err, eqb, ltb, List, [], ◌∷◌, length, get_or, drop}
 use mathlib.Core.Path.{refl, sym, ap, subst, ◌∙◌}
-use lib.ListN.{drop_of_length-le}
-use lib.Seq.{drop-cons}
-use native.Mathlib.Numerals.{add-one}
+use native.Mathlib.Omega.{arith}
 use Rattle.syntax.specs.Byte as Byte
 use Rattle.syntax.specs.Bytes.{starts_with, starts, is_letter, is_digit}
-use Rattle.syntax.specs.Reader.{Out, deep}
+use Rattle.syntax.specs.declared.errors.ErrorKind.{ErrorKind}
+use Rattle.syntax.specs.declared.errors.ErrorKind.TheVariants.{ExpectedLiteral, ExpectedInlineExpression}
+use Rattle.syntax.specs.Errors.{up_kind, fault_at}
+use borrow.Author.Tests.{eq-eqb, ne_eqb}
+use Rattle.syntax.specs.Reader.{Out, deep, fail}
 use Rattle.syntax.specs.Pattern.{Inside}
 use Rattle.syntax.specs.Expression.{Inline, as_string, string_literal, number_literal, as_inline, reference, term_reference}
 use Rattle.syntax.specs.Expression.{variable_reference, nested_placeable, no_inline, non_literal, get_inline_expression}
+use Rattle.std.specs.Option.{is_some, IfSome}
+use Rattle.std.proofs.Common.{Bor}
 use Rattle.laws.specs.Bytes.{by_case}
-use Rattle.entry.specs.Shape.{start_of, non_literal_start}
+use Rattle.entry.specs.declared.errors.Stop.{Stop}
+use Rattle.entry.specs.declared.errors.Stop.TheVariants.{Error}
+use Rattle.entry.proofs.Tests.{Got, got-rest}
+use Rattle.entry.specs.Shape.{start_of, start_at, non_literal_start, no_start}
 use Rattle.entry.specs.declared.expression.Start.{Start}
-use Rattle.entry.specs.declared.expression.Start.TheVariants.{String, Number, Reference, Term, Variable, Placeable, Literal, Nothing}
+use Rattle.entry.specs.declared.expression.Start.TheVariants.{String, Number, Reference, Term, Variable, Placeable}
 
-abbrev pub inline_by : Inside → List ℕ → Start → Out Inline
-inline_by sub s String = as_string (string_literal s)
-inline_by sub s Number = number_literal s
-inline_by sub s Reference = as_inline (reference sub s)
-inline_by sub s Term = as_inline (term_reference sub s)
-inline_by sub s Variable = as_inline (variable_reference s)
-inline_by sub s Placeable = as_inline (nested_placeable sub s)
-inline_by sub s Literal = no_inline true s
-inline_by sub s Nothing = no_inline false s
+abbrev pub inline_by : Inside → List ℕ → Result Start ErrorKind → Out Inline
+inline_by sub s (Ok String) = as_string (string_literal s)
+inline_by sub s (Ok Number) = number_literal s
+inline_by sub s (Ok Reference) = as_inline (reference sub s)
+inline_by sub s (Ok Term) = as_inline (term_reference sub s)
+inline_by sub s (Ok Variable) = as_inline (variable_reference s)
+inline_by sub s (Ok Placeable) = as_inline (nested_placeable sub s)
+inline_by sub s (Err kind) = fail kind s
 
 -- what stands where it starts
-abbrev pub Opens : Start → List ℕ → Type 0
-Opens String s = Unit {0}
-Opens Number s = Unit {0}
-Opens Reference s = starts is_letter s ≡ true
-Opens Term s = (starts_with Byte.minus s ≡ true) × (starts is_letter (drop 1 s) ≡ true)
-Opens Variable s = starts_with Byte.dollar s ≡ true
-Opens Placeable s = starts_with Byte.open_brace s ≡ true
-Opens Literal s = Unit {0}
-Opens Nothing s = Unit {0}
+abbrev pub Opens : Result Start ErrorKind → List ℕ → Type 0
+Opens (Ok String) s = Unit {0}
+Opens (Ok Number) s = Unit {0}
+Opens (Ok Reference) s = starts is_letter s ≡ true
+Opens (Ok Term) s = starts_with Byte.minus s ≡ true
+Opens (Ok Variable) s = starts_with Byte.dollar s ≡ true
+Opens (Ok Placeable) s = starts_with Byte.open_brace s ≡ true
+Opens (Err kind) s = (at : ℕ) → up_kind at kind ≡ kind
 
 non-literal-by : (sub : Inside) (b : ℕ) (bs : List ℕ)
     → (non_literal sub (b ∷ bs) b bs ≡ inline_by sub (b ∷ bs) (non_literal_start b (starts is_letter bs)))
     × Opens (non_literal_start b (starts is_letter bs)) (b ∷ bs)
-unfolding non_literal non_literal_start
+unfolding non_literal non_literal_start no_inline
 non-literal-by sub b bs = by_case (eqb b Byte.minus)
-    (λ p. by_case (starts is_letter bs) (λ q. rw (p, non_literal, non_literal_start, q) (refl, (unfold starts_with in p, q)))
+    (λ p. by_case (starts is_letter bs) (λ q. rw (p, non_literal, non_literal_start, q) (refl, unfold starts_with in p))
     (λ q. rw (p, non_literal, non_literal_start, q) (refl, tt)))
     (λ p. by_case (eqb b Byte.dollar) (λ q. rw (p, non_literal, non_literal_start, q) (refl, unfold starts_with in q))
     (λ q. by_case (eqb b Byte.open_brace) (λ r. rw (p, non_literal, non_literal_start, q, r) (refl, unfold starts_with in r))
-    (λ r. rw (p, non_literal, non_literal_start, q, r) (refl, tt))))
+    (λ r. rw (p, non_literal, non_literal_start, q, r) (refl, λ at. refl))))
 
 start-by : (sub : Inside) (l : Bool) (s : List ℕ) → (get_inline_expression sub l s ≡ inline_by sub s (start_of l s)) × Opens (start_of l s) s
-unfolding get_inline_expression start_of
-start-by sub true [] = (refl, tt)
-start-by sub false [] = (refl, tt)
+unfolding get_inline_expression start_of no_inline
+start-by sub true [] = (refl, λ at. refl)
+start-by sub false [] = (refl, λ at. refl)
 start-by sub l (b ∷ bs) = by_case (eqb b Byte.quote) (λ p. rw (p, get_inline_expression, start_of) (refl, tt))
     (λ p. by_case (is_digit b) (λ q. rw (p, get_inline_expression, start_of, q) (refl, tt))
     (λ q. by_case (is_letter b) (λ r. rw (p, get_inline_expression, start_of, q, r) (refl, unfold starts in r))
@@ -59,44 +64,94 @@ start-by sub l (b ∷ bs) = by_case (eqb b Byte.quote) (λ p. rw (p, get_inline_
     go : (l : Bool) → eqb b Byte.quote ≡ false → is_digit b ≡ false → is_letter b ≡ false
         → (get_inline_expression sub l (b ∷ bs) ≡ inline_by sub (b ∷ bs) (start_of l (b ∷ bs)))
         × Opens (start_of l (b ∷ bs)) (b ∷ bs)
-    go true p q r = rw (p, get_inline_expression, start_of, q, r) (refl, tt)
+    go true p q r = rw (p, get_inline_expression, start_of, q, r) (refl, λ at. refl)
     go false p q r = rw (p, get_inline_expression, start_of, q, r) (non-literal-by sub b bs)
 
-pub starts-as : {x : Start} (sub : Inside) (l : Bool) (s : List ℕ) {y : Start} → y ≡ start_of l s → y ≡ x
-    → get_inline_expression sub l s ≡ inline_by sub s x
-starts-as sub l s e h = (start-by sub l s).0 ∙ ap (inline_by sub s) (sym e ∙ h)
+-- the code's start is the definition's
+start-same : {x : Start} (at : ℕ) (r : Result Start ErrorKind) → start_at at r ≡ Ok x → r ≡ Ok x
+start-same at (Ok y) h = let e : y ≡ _ = cc in ap Ok e
+start-same at (Err kind) h = let z : ◌≡◌ {A = ℕ} 0 1 = cc in absurd (omega arith)
 
-pub opens_as : (x : Start) (l : Bool) (s : List ℕ) {y : Start} → y ≡ start_of l s → y ≡ x → Opens x s
-opens_as x l s e h = subst (λ (y : Start). Opens y s) (sym e ∙ h) (start-by sub l s).1
+pub starts-as : {x : Start} {r : Result Start Stop} (at : ℕ) (sub : Inside) (l : Bool) (s : List ℕ) → r ≡ start_at at (start_of l s) → r ≡ Ok x
+    → get_inline_expression sub l s ≡ inline_by sub s (Ok x)
+starts-as at sub l s e h = (start-by sub l s).0 ∙ ap (inline_by sub s) (start-same at (start_of l s) (sym e ∙ h))
+
+pub opens_as : {r : Result Start Stop} (at : ℕ) (x : Start) (l : Bool) (s : List ℕ) → r ≡ start_at at (start_of l s) → r ≡ Ok x → Opens (Ok x) s
+opens_as at x l s e h = subst (λ (y : Result Start ErrorKind). Opens y s) (start-same at (start_of l s) (sym e ∙ h)) (start-by sub l s).1
   where
     sub : Inside
     sub = record { braced = λ s. deep 0; parenthesised = λ s. deep 0 }
 
--- ---- the tests of the code
-pub start-end : (l : Bool) (s : List ℕ) (i : ℕ) {x : Start} → length s ≤ i → x ≡ start_of l [] → x ≡ start_of l (drop i s)
-start-end l s i h e = rw (drop_of_length-le s h) e
+-- an error of the code is the definition's
+pub record Unstarted (sub : Inside) (l : Bool) (at : ℕ) (s : List ℕ) (e : Stop) : Type 0 where
+  pub kind : ErrorKind
+  pub error : e ≡ Error (fault_at kind at)
+  pub is : get_inline_expression sub l s ≡ fail kind s
+  pub up : up_kind at kind ≡ kind
 
-module _ (l : Bool) (s : List ℕ) (i : ℕ) (h : i < length s) where
-  abbrev byte : ℕ
-  byte = get_or s i 0
+pub unstarted : {at : ℕ} {r : Result Start Stop} {e : Stop} (sub : Inside) (l : Bool) (s : List ℕ) → r ≡ start_at at (start_of l s)
+    → r ≡ Err e → Unstarted sub l at s e
+unstarted {at} {r} {e} sub l s p h = go (start_of l s) (start-by sub l s) (sym p ∙ h)
+  where
+    go : (q : Result Start ErrorKind) → (get_inline_expression sub l s ≡ inline_by sub s q) × Opens q s → start_at at q ≡ Err e
+        → Unstarted sub l at s e
+    go (Ok x) b g = let z : ◌≡◌ {A = ℕ} 0 1 = cc in absurd (omega arith)
+    go (Err kind) b g = record { kind = kind; error = cc; is = b.0; up = b.1 at }
 
-  pub start-quote : eqb byte Byte.quote ≡ true → String ≡ start_of l (drop i s)
+-- ---- by the tests of the code
+module _ (l : Bool) (b : ℕ) (bs : List ℕ) where
+  pub start-quote : b ≡ 34 → start_of l (b ∷ bs) ≡ Ok String
   unfolding start_of
-  start-quote p = rw (drop-cons s i 0 h, start_of, p)
+  start-quote h = rw (eq-eqb b 34 h, start_of)
 
-  pub start-digit : eqb byte Byte.quote ≡ false → is_digit byte ≡ true → Number ≡ start_of l (drop i s)
+  pub start-digit : (b ≡ 34 → ⊥) → is_digit b ≡ true → start_of l (b ∷ bs) ≡ Ok Number
   unfolding start_of
-  start-digit p q = rw (drop-cons s i 0 h, start_of, p, q)
+  start-digit p q = rw (ne_eqb b 34 p, start_of, q)
 
-  pub start-letter : eqb byte Byte.quote ≡ false → is_digit byte ≡ false → is_letter byte ≡ true → Reference ≡ start_of l (drop i s)
-  unfolding start_of
-  start-letter p q r = rw (drop-cons s i 0 h, start_of, p, q, r)
+  module _ (p : b ≡ 34 → ⊥) (q : is_digit b ≡ false) where
+    pub start-letter : is_letter b ≡ true → start_of l (b ∷ bs) ≡ Ok Reference
+    unfolding start_of
+    start-letter r = rw (ne_eqb b 34 p, start_of, q, r)
 
-  pub start-literal : eqb byte Byte.quote ≡ false → is_digit byte ≡ false → is_letter byte ≡ false → l ≡ true → Literal ≡ start_of l (drop i s)
-  unfolding start_of
-  start-literal p q r e = rw (drop-cons s i 0 h, start_of, p, q, r, e)
+    module _ (r : is_letter b ≡ false) where
+      pub start-literal : l ≡ true → start_of l (b ∷ bs) ≡ Err ExpectedLiteral
+      unfolding start_of
+      start-literal e = rw (ne_eqb b 34 p, start_of, q, r, e)
 
-  pub start-other : {x : Start} {v : Bool} → eqb byte Byte.quote ≡ false → is_digit byte ≡ false → is_letter byte ≡ false
-      → l ≡ false → v ≡ starts is_letter (drop (i + 1) s) → x ≡ non_literal_start byte v → x ≡ start_of l (drop i s)
-  unfolding start_of
-  start-other {x} {v} p q r e y z = z ∙ (rw (y, drop-cons s i 0 h, start_of, p, q, r, e, add-one))
+      module _ (e : l ≡ false) where
+        start-other : start_of l (b ∷ bs) ≡ non_literal_start b (starts is_letter bs)
+        unfolding start_of
+        start-other = rw (ne_eqb b 34 p, start_of, q, r, e)
+
+        pub start-term : b ≡ 45 → starts is_letter bs ≡ true → start_of l (b ∷ bs) ≡ Ok Term
+        unfolding non_literal_start
+        start-term h v = start-other ∙ (rw (eq-eqb b 45 h, non_literal_start, v))
+
+        pub start-minus : b ≡ 45 → starts is_letter bs ≡ false → start_of l (b ∷ bs) ≡ Ok Number
+        unfolding non_literal_start
+        start-minus h v = start-other ∙ (rw (eq-eqb b 45 h, non_literal_start, v))
+
+        pub start-variable : b ≡ 36 → start_of l (b ∷ bs) ≡ Ok Variable
+        unfolding non_literal_start
+        start-variable h = start-other ∙ (rw (ne_eqb b 45 (λ z. omega arith), non_literal_start, eq-eqb b 36 h))
+
+        pub start-placeable : b ≡ 123 → start_of l (b ∷ bs) ≡ Ok Placeable
+        unfolding non_literal_start
+        start-placeable h =
+            start-other ∙ (rw (ne_eqb b 45 (λ z. omega arith), non_literal_start, ne_eqb b 36 (λ z. omega arith), eq-eqb b 123 h))
+
+        pub start-nothing : (b ≡ 45 → ⊥) → (b ≡ 36 → ⊥) → (b ≡ 123 → ⊥) → start_of l (b ∷ bs) ≡ Err ExpectedInlineExpression
+        unfolding non_literal_start
+        start-nothing x y z = start-other ∙ (rw (ne_eqb b 45 x, non_literal_start, ne_eqb b 36 y, ne_eqb b 123 z))
+
+pub start-end : (l : Bool) → start_of l [] ≡ no_start l
+unfolding start_of
+start-end l = refl
+
+-- the byte that the code got
+pub byte-rest : {o : Option (Bor ℕ)} {x : Bor ℕ} (s : List ℕ) (i : ℕ) → o ≡ Some x → is_some o ≡ ltb i (length s)
+    → IfSome o (λ x. x.now ≡ get_or s i x.now) → drop i s ≡ x.now ∷ drop (i + 1) s
+byte-rest {o} {x} s i e p q = go o e (record { some = p; byte = q })
+  where
+    go : (o : Option (Bor ℕ)) → o ≡ Some x → Got s i o → drop i s ≡ x.now ∷ drop (i + 1) s
+    go o e g = got-rest (rw e at g)

@@ -102,3 +102,11 @@ step-put cap n t k p h l =
       head = take-set-le 2 u (cap + n + 2) p (omega arith) ∙ take-set-le 2 t (n + 2) k (omega arith);
       rest = drop-set-lt (2 + 2 * cap) u (cap + n + 2) p (omega arith) ∙ drop-set-lt (2 + 2 * cap) t (n + 2) k (omega arith);
     }
+
+-- a mark, as the code writes it
+pub step-set : (cap n : ℕ) (t : List ℕ) (k p : ℕ) → n + 1 ≤ cap → 2 + 2 * cap ≤ length t
+    → Step cap n t (set (set t (2 + n) k) (2 + cap + n) p) (word k p ∷ [])
+step-set cap n t k p h l =
+    let a : 2 + n ≡ n + 2 = omega arith in
+    let b : 2 + cap + n ≡ cap + n + 2 = omega arith in
+    rw (a, b) (step-put cap n t k p h l)

@@ -1,10 +1,13 @@
 -- Tests that the code makes, and what stands at a place of a source.
-use Rattle.std.specs.Prelude.{◌≡◌, ℕ, ◌+◌, ◌<◌, ◌≤◌, Bool, true, false, ◌&&◌, eqb, ltb, List, [], ◌∷◌, length, get_or, drop}
+use Rattle.std.specs.Prelude.{◌≡◌, ℕ, ◌+◌, ◌<◌, ◌≤◌, Bool, true, false, ◌&&◌, eqb, ltb, List, [], ◌∷◌, length, get_or, drop, Option, Some, None}
+use Rattle.std.specs.Option.{is_some, IfSome, option_copied}
+use denote.Ref.{Bor}
 use mathlib.Core.Path.{refl, sym, ap, ◌∙◌}
+use native.Mathlib.Numerals.{add-one}
 use native.Mathlib.Omega.{arith}
 use lib.ListN.{drop_of_length-le}
 use lib.Seq.{drop-cons, drop-drop}
-use borrow.Author.Tests.{le-ltb, ltb-true}
+use borrow.Author.Tests.{le-ltb, ltb-true, ltb-false}
 use Rattle.syntax.specs.Bytes.{starts_with, starts, second}
 use Rattle.entry.specs.Place.{Tests}
 
@@ -27,14 +30,6 @@ pub starts-at : (p : ℕ → Bool) (s : List ℕ) (i : ℕ) → i < length s →
 unfolding starts
 starts-at p s i h = rw (drop-cons s i 0 h)
 
--- the code looked whether there is a byte, and then at the byte
-pub test-byte : (p : ℕ → Bool) (s : List ℕ) (i : ℕ) (r : Bool) → i < length s → r ≡ p (get_or s i 0) → Tests (starts p) s i r
-test-byte p s i r l h = record { is = h ∙ sym (starts-at p s i l); here = λ t. l }
-
-pub test-end : (p : ℕ → Bool) (s : List ℕ) (i : ℕ) → length s ≤ i → Tests (starts p) s i (ltb i (length s))
-unfolding starts
-test-end p s i h = record { is = rw (drop_of_length-le s h, le-ltb i (length s) h); here = λ t. ltb-true i (length s) t }
-
 pub test-with : (b : ℕ) {s : List ℕ} {i : ℕ} {r : Bool} → Tests (starts (λ y. eqb y b)) s i r → Tests (starts_with b) s i r
 test-with b {s} {i} t = record { is = t.is ∙ sym (starts-with b (drop i s)); here = t.here }
 
@@ -48,3 +43,40 @@ second-next p s i = tail (drop i s) ∙ ap (starts p) (drop-drop 1 i s)
     tail : (x : List ℕ) → second p x ≡ starts p (drop 1 x)
     tail [] = unfold second starts in refl
     tail (b ∷ x) = unfold second starts in refl
+
+-- ---- the code got the byte at a place, if there is one
+
+pub record Got (s : List ℕ) (i : ℕ) (o : Option (Bor ℕ)) : Type 0 where
+  pub some : is_some o ≡ ltb i (length s)
+  pub byte : IfSome o (λ x. x.now ≡ get_or s i x.now)
+
+pub got-none : {s : List ℕ} {i : ℕ} → Got s i None → length s ≤ i
+got-none {s} {i} g = ltb-false i (length s) (sym g.some)
+
+pub got_some : {s : List ℕ} {i : ℕ} {x : Bor ℕ} → Got s i (Some x) → i < length s
+got_some {s} {i} g = ltb-true i (length s) (sym g.some)
+
+pub got-rest : {s : List ℕ} {i : ℕ} {x : Bor ℕ} → Got s i (Some x) → drop i s ≡ x.now ∷ drop (i + 1) s
+got-rest {s} {i} {x} g = rw (drop-cons s i x.now (got_some g), add-one, ← g.byte) refl
+
+pub got_end : {s : List ℕ} {i : ℕ} → Got s i None → drop i s ≡ []
+got_end {s} {i} g = drop_of_length-le s (got-none g)
+
+pub test-got : (p : ℕ → Bool) {s : List ℕ} {i : ℕ} {r : Bool} (o : Option (Bor ℕ)) → Got s i o
+    → r ≡ elim o [ None ↦ false | Some x ↦ p x.now ] → Tests (starts p) s i r
+unfolding starts
+test-got p None g e = record { is = e ∙ rw (got_end g) refl; here = λ t. let z : ◌≡◌ {A = ℕ} 0 1 = cc in absurd (omega arith) }
+test-got p (Some x) g e = record { is = e ∙ rw (got-rest g) refl; here = λ t. got_some g }
+
+-- a byte that stands at a place
+pub record Stands (s : List ℕ) (i b : ℕ) : Type 0 where
+  pub inside : i < length s
+  pub rest : drop i s ≡ b ∷ drop (i + 1) s
+
+pub stands : {s : List ℕ} {i b : ℕ} (o : Option (Bor ℕ)) → Got s i o → Some b ≡ option_copied o → Stands s i b
+stands None g e = let z : ◌≡◌ {A = ℕ} 0 1 = cc in absurd (omega arith)
+stands {b = b} (Some x) g e = let q : b ≡ x.now = cc in record { inside = got_some g; rest = rw q (got-rest g) }
+
+pub stands-none : {s : List ℕ} {i : ℕ} (o : Option (Bor ℕ)) → Got s i o → ◌≡◌ {A = Option ℕ} None (option_copied o) → length s ≤ i
+stands-none None g e = got-none g
+stands-none (Some x) g e = let z : ◌≡◌ {A = ℕ} 0 1 = cc in absurd (omega arith)

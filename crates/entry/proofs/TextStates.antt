@@ -1,46 +1,61 @@
--- The state after a text of a pattern, and its marks.
-use Rattle.std.specs.Prelude.{◌≡◌, ℕ, ◌+◌, ◌≤◌, Bool, true, false, List, [], ◌∷◌}
-use mathlib.Core.Path.{refl}
+-- The state after a text of a pattern that is an element, and its marks.
+use Rattle.std.specs.Prelude.{◌≡◌, ℕ, ◌+◌, ◌-◌, Option, Some, Bool, true, false, [], ◌∷◌}
+use mathlib.Core.Path.{◌∙◌}
 use native.Mathlib.Omega.{arith}
-use Rattle.entry.specs.declared.text.TextElementTermination.{TextElementTermination}
-use Rattle.entry.specs.declared.text.TextElementTermination.TheVariants.{LineFeed, Crlf, PlaceableStart, Eof}
-use Rattle.entry.specs.declared.pattern.TextElementPosition.{TextElementPosition}
+use denote.Enum.Bare.{sameb}
+use Rattle.laws.specs.Bytes.{clash}
+use Rattle.entry.specs.contracts.text.TextElementPosition as positions
+use Rattle.entry.specs.declared.text.TextElementPosition.{TextElementPosition}
+use Rattle.entry.specs.declared.text.TextElementPosition.TheVariants.{InitialLineStart, LineStart, Continuation}
 use Rattle.entry.specs.declared.text.TextSlice.{TextSlice}
+use Rattle.entry.specs.declared.marks.Marks.{Marks}
+use Rattle.entry.specs.declared.parser.Parser.{Parser}
 use Rattle.entry.specs.declared.pattern.Reading.{Reading}
 use Rattle.entry.specs.Tree.{word, Step}
+use Rattle.entry.specs.Marks.{Wrote}
+use Rattle.entry.specs.Reads.{Frame}
 use Rattle.entry.specs.Elements.{opening}
-use Rattle.entry.specs.Slice.{crlf_width}
-use Rattle.entry.specs.Texts.{starts_line, position_after, is_part, least_of, text_words, after_text}
-use Rattle.entry.proofs.Steps.{step-none}
+use Rattle.entry.specs.Slice.{crlf_width, position_after}
+use Rattle.entry.specs.Texts.{starts_line, is_part, least_of, standing, text_words, Texted}
+use Rattle.entry.proofs.Steps.{step_then}
 
-pub crlf-le : (e : TextElementTermination) → crlf_width e ≤ 1
-crlf-le LineFeed = omega arith
-crlf-le Crlf = omega arith
-crlf-le PlaceableStart = omega arith
-crlf-le Eof = omega arith
+-- a test of the enum
+pub line_tested : (p : TextElementPosition) {r : Bool} → r ≡ sameb positions.the_type p LineStart → r ≡ starts_line p
+line_tested InitialLineStart e = e
+line_tested LineStart e = e
+line_tested Continuation e = e
 
--- ---- what the code makes of a text, by what it tested
-module _ (st : Reading) (i : ℕ) (x : TextSlice) {p : ℕ} {q : TextElementPosition} {l v : Bool}
-    (el : l ≡ starts_line st.role) (ev : v ≡ is_part l x) (ep : p ≡ crlf_width x.ending) (eq : q ≡ position_after x.ending) where
-  abbrev made : ℕ → ℕ → ℕ → Reading
-  made n b c = record { at = st.at + i + x.size + p; n = n; role = q; last_non_blank = b; common_indent = c }
+pub opens_line : (b : Bool) {r : Bool} {k : ℕ} → r ≡ b → r ≡ true → k ≡ 200 → k ≡ opening b
+unfolding opening
+opens_line true e h q = q
+opens_line false e h q = clash h e
 
-  pub text_out : {cap : ℕ} {t : List ℕ} → v ≡ false
-      → (made st.n st.last_non_blank st.common_indent ≡ after_text st i x) × Step cap st.n t t (text_words st i x)
-  text_out {cap} {t} e =
-      let h : is_part (starts_line st.role) x ≡ false = cc in
-      rw (h, ep, eq) (refl, step-none cap st.n t)
+pub opens_text : (b : Bool) {r : Bool} {k : ℕ} → r ≡ b → r ≡ false → k ≡ 12 → k ≡ opening b
+unfolding opening
+opens_text true e h q = clash e h
+opens_text false e h q = q
 
-  pub text-blank : {cap n : ℕ} {t t₁ : List ℕ} → v ≡ true → x.blank ≡ true → n ≡ st.n + 2
-      → Step cap st.n t t₁ (word (opening l) st.at ∷ word 112 (st.at + i + x.size) ∷ [])
-      → (made n st.last_non_blank st.common_indent ≡ after_text st i x) × Step cap st.n t t₁ (text_words st i x)
-  text-blank e b c w =
-      let h : is_part (starts_line st.role) x ≡ true = cc in
-      (rw (h, b, ep, eq, c), rw h (rw el at w))
+module _ (p p' : Parser) {m : Marks} (st : Reading) (start : ℕ) (x : TextSlice) {k : ℕ} {q : TextElementPosition}
+    (bytes : p'.source.bytes ≡ p.source.bytes) (place : p'.source.ptr ≡ p.source.ptr + x.size + crlf_width x.ending)
+    (part : is_part (starts_line st.role) x ≡ true) (ek : k ≡ opening (starts_line st.role)) (eq : q ≡ position_after x.ending)
+    (v : Wrote p.tree.now m (word k start ∷ [])) (w : Wrote m p'.tree.now (word 112 (p.source.ptr + x.size) ∷ [])) where
+  frame : Frame p.source p'.source p.tree.now p'.tree.now
+  frame =
+      record {
+        bytes = bytes;
+        tree = record { words = w.same.words ∙ v.same.words; capacity = w.same.capacity ∙ v.same.capacity };
+      }
 
-  pub text-full : {cap n m : ℕ} {t t₁ : List ℕ} → v ≡ true → x.blank ≡ false → n ≡ st.n + 2 → m ≡ least_of l i st.common_indent
-      → Step cap st.n t t₁ (word (opening l) st.at ∷ word 112 (st.at + i + x.size) ∷ [])
-      → (made n n m ≡ after_text st i x) × Step cap st.n t t₁ (text_words st i x)
-  text-full e b c d w =
-      let h : is_part (starts_line st.role) x ≡ true = cc in
-      (rw (h, b, ep, eq, c, d, el), rw h (rw el at w))
+  count : p'.tree.now.count ≡ p.tree.now.count + 2
+  count = omega (arith, v.count, w.count)
+
+  two : Step p.tree.now.capacity p.tree.now.count p.tree.now.words.now p'.tree.now.words.now (text_words (standing start p.tree.now.count st) p.source.ptr x)
+  two = rw (part, ← ek) (step_then v.step v.count (rw v.same.capacity at w.step))
+
+  pub text-blank : x.blank ≡ true
+      → Texted st start x p p' (record { role = q; last_non_blank = st.last_non_blank; common_indent = st.common_indent })
+  text-blank b = record { frame = frame; state = rw (part, b, place, count, eq); wrote = two }
+
+  pub text-full : {c : Option ℕ} → x.blank ≡ false → c ≡ least_of (starts_line st.role) (p.source.ptr - start) st.common_indent
+      → Texted st start x p p' (record { role = q; last_non_blank = Some p'.tree.now.count; common_indent = c })
+  text-full b e = record { frame = frame; state = rw (part, b, place, count, eq, e); wrote = two }

@@ -1,22 +1,23 @@
 -- Loops of turns without marks: what the code's loop keeps, and how it goes on and ends.
-use Rattle.std.specs.Prelude.{◌≡◌, ℕ, suc, ◌+◌, ◌-◌, ◌<◌, ◌≤◌, List, [], length, drop}
+use Rattle.std.specs.Prelude.{◌≡◌, ℕ, suc, ◌+◌, ◌-◌, ◌<◌, ◌≤◌, Bool, true, false, ltb, List, [], length, drop}
 use native.Mathlib.Numerals.{add-one}
 use native.Mathlib.Omega.{arith}
 use mathlib.Core.Path.{sym, ap, ◌∙◌}
 use lib.Seq.{drop-drop}
-use borrow.Author.Tests.{lt-ltb}
+use borrow.Author.Tests.{lt-ltb, ltb-true, ltb-false}
 use Rattle.syntax.specs.Byte as Byte
 use Rattle.syntax.specs.Bytes.{starts_with, eol, spaces}
 use Rattle.syntax.specs.Marks.{move_up}
 use Rattle.syntax.specs.Reader.{Out, ok, after, Turn, again, done, repeat}
-use Rattle.syntax.specs.Helper.{blank_turn, block_turn, skip_blank_block}
-use Rattle.laws.specs.Bytes.{by_case}
+use Rattle.syntax.specs.Helper.{blank_turn, block_turn, skip_blank, skip_blank_block, skip_eol, take_byte_if}
 use Rattle.laws.specs.Moving.{after-after, after_none}
 use Rattle.laws.specs.Loop.{Moves, repeat-again, repeat-done}
-use Rattle.laws.specs.Loop.Turns.{block_turn-moves}
-use Rattle.entry.specs.Place.{Passed, Went, Found, blank_width}
-use Rattle.entry.specs.declared.helper.Place.{Place}
+use Rattle.laws.specs.Loop.Turns.{blank_turn-moves, block_turn-moves}
+use Rattle.entry.specs.Place.{Place, Passed, Went, Found}
+use Rattle.entry.proofs.Tests.{by}
 use Rattle.entry.proofs.Places.{went-ok, found_after}
+use Rattle.entry.proofs.Lines.{Ended, ended}
+use Rattle.entry.proofs.Moves.{took, took_one, took-none}
 
 -- the turns from `at` in the state u have come to i in the state v
 pub record Turning {S A : Type 0} (turn : S → List ℕ → Turn S A) (s : List ℕ) (at : ℕ) (u : S) (i : ℕ) (v : S) : Type 0 where
@@ -52,17 +53,17 @@ module _ {S A : Type 0} {turn : S → List ℕ → Turn S A} {s : List ℕ} {at 
 
 -- ---- blanks
 
-pub blank-again : (x : List ℕ) → 0 < blank_width x → blank_turn tt x ≡ again tt [] (blank_width x)
-unfolding blank_turn blank_width
-blank-again x l =
-    by_case (starts_with Byte.space x) (λ q. rw (q, blank_turn, blank_width))
-    (λ q. let z : 0 < eol x = rw (q, blank_width) at l in rw (q, blank_turn, blank_width) (rw (lt-ltb 0 (eol x) z)))
+pub blank-space : (x : List ℕ) → starts_with Byte.space x ≡ true → blank_turn tt x ≡ again tt [] 1
+unfolding blank_turn
+blank-space x q = rw (q, blank_turn)
 
-pub blank-done : (x : List ℕ) → blank_width x ≡ 0 → blank_turn tt x ≡ done (ok tt [] 0)
-unfolding blank_turn blank_width
-blank-done x l =
-    by_case (starts_with Byte.space x) (λ q. let z : 1 ≡ 0 = rw (q, blank_width) at l in absurd (omega arith))
-    (λ q. let z : eol x ≡ 0 = rw (q, blank_width) at l in rw (q, blank_turn, z))
+pub blank-eol : (x : List ℕ) → starts_with Byte.space x ≡ false → ltb 0 (eol x) ≡ true → blank_turn tt x ≡ again tt [] (eol x)
+unfolding blank_turn
+blank-eol x q h = rw (q, blank_turn, h)
+
+pub blank-done : (x : List ℕ) → starts_with Byte.space x ≡ false → ltb 0 (eol x) ≡ false → blank_turn tt x ≡ done (ok tt [] 0)
+unfolding blank_turn
+blank-done x q h = rw (q, blank_turn, h)
 
 -- ---- blocks of blank lines
 
@@ -85,7 +86,7 @@ pub found-turns : {S A : Type 0} {turn : S → List ℕ
     → Turn S A} {s : List ℕ} {at : ℕ} {u : S} {i : ℕ} {v : S} {r : Place} {o : Out A}
     → Turning turn s at u i v → turn v (drop i s) ≡ done o → Found s i o r
     → Found s at (repeat turn u (drop at s)) r
-found-turns {at = at} {i = i} {o = o} t h f = rw (turning-end t h) (found_after (i - at) [] o (omega (arith, t.onward)) f)
+found-turns {at = at} {i = i} {o = o} t h f = rw (turning-end t h) (found_after (i - at) o (omega (arith, t.onward)) f)
 
 -- spaces up to m, and a line end up to j
 module _ {s : List ℕ} {at i n m j : ℕ} (t : Turning block_turn s at 0 i n) (p : Passed s i (spaces (drop i s)) m)
@@ -102,3 +103,26 @@ module _ {s : List ℕ} {at i n m j : ℕ} (t : Turning block_turn s at 0 i n) (
   pub went-block : j ≡ m → Went s at (skip_blank_block (drop at s)) n i
   unfolding skip_blank_block
   went-block h = went-turns t (block-done n (drop i s) (omega (arith, same-eol, q.end)))
+
+module _ {s : List ℕ} {at i j : ℕ} {r : Bool} (t : Turning blank_turn s at tt i tt) (p : Went s i (take_byte_if Byte.space (drop i s)) r j) where
+  pub turning-space : r ≡ true → Turning blank_turn s at tt j tt
+  turning-space h = turning-more blank_turn-moves t (blank-space (drop i s) (by (took Byte.space p).is h)) (took_one Byte.space p h) p.within
+
+  module _ {e : Bool} {k : ℕ} (f : r ≡ false) (q : Went s j (skip_eol (drop j s)) e k) where
+    line-ends : Ended s i e k
+    line-ends = let z : j ≡ i = took-none Byte.space p f in let g : Ended s j e k = ended q in rw z at g
+
+    pub turning-eol : e ≡ true → Turning blank_turn s at tt k tt
+    turning-eol h =
+        let l = line-ends in
+        turning-more blank_turn-moves t (blank-eol (drop i s) (by (took Byte.space p).is f) (by l.is h)) l.end q.within
+
+    pub longer-eol : e ≡ true → i < k
+    longer-eol h = let l = line-ends in omega (arith, l.end, ltb-true 0 (eol (drop i s)) (by l.is h))
+
+    pub went-blanks : e ≡ false → Went s at (skip_blank (drop at s)) tt k
+    unfolding skip_blank
+    went-blanks h =
+        let l = line-ends in
+        let z : k ≡ i = omega (arith, l.end, ltb-false 0 (eol (drop i s)) (by l.is h)) in
+        rw z (went-turns t (blank-done (drop i s) (by (took Byte.space p).is f) (by l.is h)))

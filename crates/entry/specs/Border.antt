@@ -1,5 +1,5 @@
 -- What the functions that the crate above calls need, and what they did with it or without.
-use Rattle.std.specs.Prelude.{◌≡◌, ℕ, ◌+◌, ◌*◌, Bool, true, false, ◌&&◌, List, [], ◌∷◌, length, drop, nat_le, nat_lt}
+use Rattle.std.specs.Prelude.{◌≡◌, ℕ, Option, Some, None, ◌+◌, ◌*◌, Bool, true, false, ◌&&◌, List, [], ◌∷◌, length, drop, nat_le, nat_lt}
 use Rattle.syntax.specs.Limits.{max_length}
 use Rattle.syntax.specs.Layout.{sizes, tree_capacity, tree_layout}
 use Rattle.syntax.specs.Helper.{skip_blank_block}
@@ -7,12 +7,10 @@ use Rattle.syntax.specs.Pattern.{used_by}
 use Rattle.syntax.specs.Expression.{level}
 use Rattle.syntax.specs.Core as Core
 use Rattle.entry.specs.Tree.{word, Step}
-use Rattle.entry.specs.Did.{Says, Did}
-use Rattle.entry.specs.Entry.{entry_read}
+use Rattle.entry.specs.Did.{told, Did}
+use Rattle.entry.specs.Entry.{entry_of}
 use Rattle.entry.specs.declared.border.BlankBlock.{BlankBlock}
-use Rattle.entry.specs.declared.border.ReadEntry.TheVariants.{Bad, Deep}
-use Rattle.entry.specs.declared.border.Tried.{Tried}
-use Rattle.entry.specs.declared.border.Tried.TheVariants.{Entry, Refused}
+use Rattle.entry.specs.declared.border.EntryRead.{EntryRead}
 
 -- ---- an entry
 
@@ -21,16 +19,18 @@ use Rattle.entry.specs.declared.border.Tried.TheVariants.{Entry, Refused}
 unfoldable pub readable : (l m at n : ℕ) → Bool
 readable l m at n = nat_le l max_length && (nat_le at l && (nat_le n (tree_capacity at + 1) && nat_le (tree_layout l) m))
 
--- how the answer of its reader is told
-abbrev pub trying : Says Core.Entry Tried
-trying = record { yes = λ e p m. Entry (entry_read e p m); no = λ f p. Entry (Bad f p); far = λ p. Entry (Deep p) }
+-- what was done where it can be read: the words of the two arrays past the entry's marks are open (`Step`)
+abbrev pub ReadAs : List ℕ → (at left n : ℕ) → (t t' : List ℕ) → Option EntryRead → Type 0
+ReadAs s at left n t t' (Some x) =
+    Did entry_of (tree_capacity (length s)) at n t t' (told x.entry x.at x.marks) (Core.get_entry (level left) (drop at s))
+ReadAs s at left n t t' None = ⊥
 
--- what was done, by whether it can be read: if so, the words of the two arrays past the entry's marks are open (`Step`)
-abbrev pub TriedBy : Bool → List ℕ → (at left n : ℕ) → (t t' : List ℕ) → Tried → Type 0
-TriedBy true s at left n t t' r = Did trying (tree_capacity (length s)) at n t t' r (Core.get_entry (level left) (drop at s))
-TriedBy false s at left n t t' r = (r ≡ Refused) × (t' ≡ t)
+-- what was done, by whether it can be read
+abbrev pub TriedBy : Bool → List ℕ → (at left n : ℕ) → (t t' : List ℕ) → Option EntryRead → Type 0
+TriedBy true s at left n t t' r = ReadAs s at left n t t' r
+TriedBy false s at left n t t' r = (r ≡ None) × (t' ≡ t)
 
-abbrev pub DidTry : List ℕ → (at left n : ℕ) → (t t' : List ℕ) → Tried → Type 0
+abbrev pub DidTry : List ℕ → (at left n : ℕ) → (t t' : List ℕ) → Option EntryRead → Type 0
 DidTry s at left n t t' r = TriedBy (readable (length s) (length t) at n) s at left n t t' r
 
 -- ---- blank lines

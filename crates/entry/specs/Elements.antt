@@ -1,6 +1,5 @@
 -- The elements of a pattern while it is read: the marks that stand for them, and what holds of them.
 use Rattle.std.specs.Prelude.{◌≡◌, ℕ, ◌+◌, ◌<◌, ◌≤◌, Bool, true, false, List, [], ◌∷◌, ◌++◌, length, drop}
-use Rattle.std.proofs.Math.Option.{Option, some, none}
 use Rattle.syntax.specs.Kind as Kind
 use Rattle.syntax.specs.Bytes.{spaces}
 use Rattle.syntax.specs.Marks.{Mark, kind_of, node}
@@ -35,8 +34,3 @@ SoundOne x (text a e i l) = (a + i ≤ e) × (e ≤ length x) × (l ≡ true →
 abbrev pub Sound : List ℕ → List Element → Type 0
 Sound x [] = Unit {0}
 Sound x (e ∷ es) = SoundOne x e × Sound x es
-
--- the common indent as a number: at least any indent if there is none
-abbrev pub Common : List ℕ → Option ℕ → ℕ → Type 0
-Common s none n = length s ≤ n
-Common s (some c) n = n ≡ c

@@ -1,18 +1,35 @@
--- How a reader of an entry answers.
+-- Entries, and what messages and terms have, in the code's terms.
 use Rattle.std.specs.Prelude.{ℕ}
-use Rattle.syntax.specs.Core.{Entry, comment, message, term}
-use Rattle.entry.specs.Did.{Says}
-use Rattle.entry.specs.declared.border.ReadEntry.{ReadEntry}
-use Rattle.entry.specs.declared.border.ReadEntry.TheVariants.{Message, Term, Comment, Bad, Deep}
+use Rattle.syntax.specs.Byte as Byte
+use Rattle.syntax.specs.Kind as Kind
+use Rattle.syntax.specs.Reader.{Reader, ◌>>=◌, ◌>>◌, pure}
+use Rattle.syntax.specs.Helper.{skip_blank_inline, expect_byte, get_identifier}
+use Rattle.syntax.specs.Pattern.{Inside, get_pattern}
+use Rattle.syntax.specs.Expression.{needs_value}
+use Rattle.syntax.specs.Core as Core
+use Rattle.syntax.specs.Core.{comment, message, term}
+use Rattle.entry.specs.declared.parser_core.Entry.{Entry}
+use Rattle.entry.specs.declared.parser_core.Entry.TheVariants.{Message, Term, Comment}
+use Rattle.entry.specs.declared.parser_core.Fields.{Fields}
 
-abbrev pub entry_read : Entry → ℕ → ℕ → ReadEntry
-entry_read message p m = Message p m
-entry_read term p m = Term p m
-entry_read (comment l) p m = Comment l p m
+abbrev pub entry_of : Core.Entry → Entry
+entry_of message = Message
+entry_of term = Term
+entry_of (comment l) = Comment l
 
-abbrev pub entrying : Says Entry ReadEntry
-entrying = record { yes = entry_read; no = λ f p. Bad f p; far = λ p. Deep p }
+abbrev pub fields_of : Core.Fields → Fields
+fields_of x = record { name = x.name; value = x.value; attributes = x.attributes }
 
--- a comment's value is its level
-abbrev pub commenting : Says ℕ ReadEntry
-commenting = record { yes = λ l p m. Comment l p m; no = λ f p. Bad f p; far = λ p. Deep p }
+-- the identifier and the '=' with which messages, terms and attributes start; answers the identifier's length
+unfoldable pub get_name : Reader ℕ
+get_name = do
+  n ← get_identifier Kind.identifier
+  skip_blank_inline
+  expect_byte Byte.equals
+  pure n
+
+-- a pattern that must be there
+unfoldable pub get_value : Inside → Reader (Unit {0})
+get_value sub = do
+  value ← get_pattern sub
+  needs_value value

@@ -33,9 +33,9 @@ pub record HasNames (s t : List ℕ) (cap i n : ℕ) : Type 0 where
   pub names : List (List ℕ)
   pub are : Names s t cap i n names
 
--- whether the name from a to e is one of theirs
-pub record Among (s t : List ℕ) (cap i n a e : ℕ) (r : Bool) : Type 0 where
-  pub is : (names : List (List ℕ)) → Names s t cap i n names → r ≡ is_among (slice_range s a e) names
+-- whether a name is one of theirs
+pub record Among (s t : List ℕ) (cap i n : ℕ) (name : List ℕ) (r : Bool) : Type 0 where
+  pub is : (names : List (List ℕ)) → Names s t cap i n names → r ≡ is_among name names
 
 -- the name of the argument at the i-th mark, from the marks after it
 abbrev pub name_at : List ℕ → List ℕ → ℕ → ℕ → List ℕ

@@ -1,10 +1,12 @@
 -- The marks of a pattern when it ends: a text that starts a line loses the common indent, and the last text is trimmed.
-use Rattle.std.specs.Prelude.{◌≡◌, ℕ, ◌+◌, ◌-◌, ◌≤◌, min, Bool, true, false, ◌||◌, List, [], ◌∷◌, length, take, drop, ◌==◌}
+use Rattle.std.specs.Prelude.{◌≡◌, ℕ, ◌+◌, ◌-◌, ◌≤◌, min, Bool, true, false, ◌||◌, List, [], ◌∷◌, map, length, take, drop, ◌==◌}
 use Rattle.syntax.specs.Byte as Byte
 use Rattle.syntax.specs.Kind as Kind
 use Rattle.syntax.specs.Bytes.{spaces}
 use Rattle.syntax.specs.Pattern.{trimmed}
-use Rattle.entry.specs.Tree.{Word, word}
+use Rattle.entry.specs.declared.parser.Parser.{Parser}
+use Rattle.entry.specs.Tree.{Word, word, marks_in, Step}
+use Rattle.entry.specs.Reads.{Frame}
 
 -- the kind, until its pattern ends, of the mark that opens a text at the start of a line; in the end no mark has it
 abbrev pub line_start : ℕ
@@ -35,3 +37,31 @@ Within s [] = Unit {0}
 Within s (w ∷ []) = Unit {0}
 Within s (word k a ∷ word j e ∷ []) = j ≡ Kind.closing Kind.text → (a ≤ e) × (e ≤ length s)
 Within s (w ∷ v ∷ u ∷ ws) = Within s (v ∷ u ∷ ws)
+
+-- nothing but marks that stand already was changed
+pub record Remarks (p p' : Parser) : Type 0 where
+  pub frame : Frame p.source p'.source p.tree.now p'.tree.now
+  pub place : p'.source.ptr ≡ p.source.ptr
+  pub count : p'.tree.now.count ≡ p.tree.now.count
+
+-- the marks from the i-th on were settled
+pub record Settled (i common : ℕ) (p p' : Parser) : Type 0 where
+  pub kept : Remarks p p'
+  pub settled : Step p.tree.now.capacity i p.tree.now.words.now p'.tree.now.words.now
+      (map (settle_word p.source.bytes.now common) (drop i (marks_in p.tree.now.capacity p.tree.now.count p.tree.now.words.now)))
+
+-- the last two marks
+abbrev pub last_two : Parser → List Word
+last_two p = drop (p.tree.now.count - 2) (marks_in p.tree.now.capacity (p.tree.now.count - 2 + 2) p.tree.now.words.now)
+
+-- they are marks of a text in the source, or of none
+pub record Trimmable (p : Parser) : Type 0 where
+  pub some : 2 ≤ p.tree.now.count
+  pub room : p.tree.now.count ≤ p.tree.now.capacity
+  pub within : Within p.source.bytes.now (last_two p)
+
+-- they were trimmed
+pub record Trimmed (p p' : Parser) : Type 0 where
+  pub kept : Remarks p p'
+  pub trimmed : Step p.tree.now.capacity (p.tree.now.count - 2) p.tree.now.words.now p'.tree.now.words.now
+      (trim_words p.source.bytes.now (last_two p))

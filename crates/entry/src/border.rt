@@ -2,32 +2,26 @@
 ghost use Rattle.std.specs.Prelude.{◌≡◌};
 ghost use Rattle.entry.specs.Border.{readable, DidTry, roomy, DidPut, Skipped};
 
-use crate::helper::skip_blank_block;
-use crate::marks::put;
-use crate::parser_core::get_entry;
-use syntax::errors::ParserError;
+pub use crate::errors::Stop;
+use crate::helper::blank_block;
+use crate::marks::Marks;
+use crate::parser::Parser;
+pub use crate::parser_core::Entry;
+use crate::source::Source;
 use syntax::layout::{MARKS_A_BYTE, SIZES, TREE_WORDS_A_BYTE};
 use syntax::limits::MAX_LENGTH;
 
-// What a reader of an entry answers: as `Read`, with what the entry is. A comment has its level.
+// What came of reading an entry: what it is, or why reading stopped; the place after it, or where reading stopped; and, of an entry
+// that was read, the count of marks.
 #[derive(Drop)]
-pub enum ReadEntry {
-    Message(usize, usize),
-    Term(usize, usize),
-    Comment(usize, usize, usize),
-    Bad(ParserError, usize),
-    Deep(usize),
-}
-
-// What came of reading an entry: its answer, or that none was read.
-#[derive(Drop)]
-pub enum Tried {
-    Entry(ReadEntry),
-    Refused,
+pub struct EntryRead {
+    pub entry: Result<Entry, Stop>,
+    pub at: usize,
+    pub marks: usize,
 }
 
 // Where a block of blank lines ends, and how many line ends it has.
-#[derive(Drop)]
+#[derive(Clone, Copy)]
 pub struct BlankBlock {
     pub end: usize,
     pub count: usize,
@@ -44,14 +38,38 @@ fn is_readable(length: usize, words: usize, at: usize, n: usize) -> bool
 
 // Reads the entry at a place into the tree, after n marks, with `left` openings allowed. None is read where the source is too
 // long, the place lies past its end, the tree is too short, or more marks stand before than eight for each byte and the entry's.
-pub fn read_entry(source: &[u8], at: usize, left: usize, tree: &mut [u32], n: usize) -> Tried
+pub fn read_entry(
+    source: &[u8],
+    at: usize,
+    left: usize,
+    tree: &mut [u32],
+    n: usize,
+) -> Option<EntryRead>
     ensures { DidTry source.now at left n tree.old tree.new result }
 {
     let length = source.len();
     if !is_readable(length, tree.len(), at, n) {
-        return Tried::Refused;
+        return None;
     }
-    Tried::Entry(get_entry(source, at, left, tree, MARKS_A_BYTE * length, n))
+    let mut marks = Marks {
+        words: tree,
+        capacity: MARKS_A_BYTE * length,
+        count: n,
+    };
+    let mut parser = Parser {
+        source: Source {
+            bytes: source,
+            ptr: at,
+        },
+        tree: &mut marks,
+    };
+    let entry = parser.get_entry(left);
+    let at = parser.source.ptr;
+    Some(EntryRead {
+        entry,
+        at,
+        marks: marks.count,
+    })
 }
 
 // Past the blank lines at a place, of which there are none past the end.
@@ -61,7 +79,7 @@ pub fn skip_blank_lines(source: &[u8], at: usize) -> BlankBlock
     if source.len() < at {
         return BlankBlock { end: at, count: 0 };
     }
-    skip_blank_block(source, at)
+    blank_block(source, at)
 }
 
 // Whether a tree of this length holds `cap` marks, and one more after n.
@@ -78,5 +96,11 @@ pub fn put_mark(tree: &mut [u32], cap: usize, n: usize, kind: u32, place: u32) -
     if !has_room(tree.len(), cap, n) {
         return n;
     }
-    put(tree, cap, n, kind, place as usize)
+    let mut marks = Marks {
+        words: tree,
+        capacity: cap,
+        count: n,
+    };
+    marks.put(kind, place as usize);
+    marks.count
 }

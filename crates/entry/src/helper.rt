@@ -1,287 +1,226 @@
-// helper.rs: places of the source, and what stands there.
-ghost use Rattle.std.specs.Prelude.{◌≡◌, ℕ, ◌≤◌, min, ◌||◌, length, drop, ◌==◌};
+// helper.rs: what stands at a place of a source, and moves over it.
+ghost use Rattle.std.specs.Prelude.{◌≡◌, ◌≤◌, ◌||◌, length, drop, ◌==◌};
 ghost use Rattle.syntax.specs.Byte as Byte;
-ghost use Rattle.syntax.specs.Bytes.{starts_with, starts, spaces, eol, run, all, first_width};
-ghost use Rattle.syntax.specs.Bytes.{is_letter, is_digit, is_hex, is_name_part, is_callee_part};
-ghost use Rattle.syntax.specs.Helper.{take_byte_if, skip_blank, skip_blank_block, expect_byte, skip_digits, number, get_identifier};
-ghost use Rattle.syntax.specs.Helper.{skip_unicode_escape_sequence};
+ghost use Rattle.utf8.specs.Utf8.{width_of_first};
+ghost use Rattle.syntax.specs.Bytes.{starts_with, starts, eol, run, all, is_letter, is_digit, is_name_part, is_callee_part};
+ghost use Rattle.syntax.specs.Helper.{take_byte_if, skip_blank, skip_blank_block, expect_byte, skip_digits, skip_eol, skip_blank_inline};
+ghost use Rattle.syntax.specs.Helper.{number, skip_unicode_escape_sequence};
 ghost use Rattle.syntax.specs.Pattern.{is_continuation};
-ghost use Rattle.entry.specs.Place.{Inside, Tests, Passed, Went, Found, is_eol, blank_width};
+ghost use Rattle.entry.specs.Place.{Tests, Counted, Went, is_eol};
+ghost use Rattle.entry.specs.Reads.{rest, Passes, Goes, Finds};
 
 use crate::border::BlankBlock;
-use crate::bytes::{is_callee_part, is_name_part, is_number_byte};
-use crate::errors::error;
+use crate::bytes::{is_callee_part, is_name_part, is_number_byte, is_space};
+use crate::errors::Stop;
+use crate::source::Source;
 use syntax::bytes::{is_ascii_alphabetic, is_ascii_digit, is_ascii_hexdigit};
-use syntax::errors::{CharRange, ErrorKind, ParserError};
+use syntax::errors::{CharRange, ErrorKind};
 
-// What a reader that writes no marks answers: the place after what it read, or an error and where it stopped.
-#[derive(Drop)]
-pub enum Place {
-    At(usize),
-    Bad(ParserError, usize),
-}
+// The first bytes of characters of two, three and four bytes follow these.
+const LAST_OF_ONE: u8 = 0x7F;
 
-pub fn is_current_byte(source: &[u8], at: usize, b: u8) -> bool
-    ensures { Tests (starts_with b) source.now at result }
+const LAST_OF_TWO: u8 = 0xDF;
+
+const LAST_OF_THREE: u8 = 0xEF;
+
+// How many bytes a character takes, by its first byte.
+#[tactic(auto, unfolding(utf8::specs::Utf8::width_of_first))]
+fn width(first: u8) -> usize
+    ensures { result ≡ width_of_first first }
 {
-    at < source.len() && source[at] == b
+    match first {
+        ..=LAST_OF_ONE => 1,
+        ..=LAST_OF_TWO => 2,
+        ..=LAST_OF_THREE => 3,
+        _ => 4,
+    }
 }
 
-pub fn is_identifier_start(source: &[u8], at: usize) -> bool
-    ensures { Tests (starts is_letter) source.now at result }
-{
-    at < source.len() && is_ascii_alphabetic(source[at])
-}
-
-// Whether a byte of an identifier stands here.
-pub fn is_name_part_at(source: &[u8], at: usize) -> bool
-    ensures { Tests (starts is_name_part) source.now at result }
-{
-    at < source.len() && is_name_part(source[at])
-}
-
-pub fn is_digit_at(source: &[u8], at: usize) -> bool
-    ensures { Tests (starts is_digit) source.now at result }
-{
-    at < source.len() && is_ascii_digit(source[at])
-}
-
-pub fn is_number_start(source: &[u8], at: usize) -> bool
-    ensures { Tests (starts (λ b. is_digit b || b == Byte.minus)) source.now at result }
-{
-    at < source.len() && is_number_byte(source[at])
-}
-
+#[tactic(auto, unfolding(syntax::specs::Pattern::is_continuation))]
 pub fn is_byte_pattern_continuation(b: u8) -> bool
     ensures { result ≡ is_continuation b }
 {
-    b != b'.' && (b != b'}' && (b != b'[' && b != b'*'))
-}
-
-pub fn take_byte_if(source: &[u8], at: usize, b: u8) -> usize
-    requires { Inside source.now at }
-    ensures { Went source.now at (take_byte_if b (drop at source.now))
-        (starts_with b (drop at source.now)) result }
-{
-    if is_current_byte(source, at, b) {
-        at + 1
-    } else {
-        at
-    }
-}
-
-pub fn skip_eol(source: &[u8], at: usize) -> usize
-    requires { at ≤ length source.now }
-    ensures { Passed source.now at (eol (drop at source.now)) result }
-{
-    if is_current_byte(source, at, b'\n') {
-        return at + 1;
-    }
-    if !is_current_byte(source, at, b'\r') {
-        return at;
-    }
-    if is_current_byte(source, at + 1, b'\n') {
-        at + 2
-    } else {
-        at
-    }
-}
-
-fn is_hexdigit_at(source: &[u8], at: usize) -> bool
-    ensures { Tests (starts is_hex) source.now at result }
-{
-    at < source.len() && is_ascii_hexdigit(source[at])
-}
-
-// Past hexadecimal digits, `length` of them at most.
-fn skip_hexdigits(source: &[u8], at: usize, length: usize) -> usize
-    requires { Inside source.now at }
-    ensures { Passed source.now at (min length (run is_hex (drop at source.now))) result }
-{
-    let mut n = 0;
-    while n < length {
-        if !is_hexdigit_at(source, at + n) {
-            return at + n;
-        }
-        n += 1;
-    }
-    at + n
-}
-
-// How many bytes the character here takes, by its first byte; 0 at the end.
-fn first_width(source: &[u8], at: usize) -> usize
-    ensures { result ≡ first_width (drop at source.now) }
-{
-    if at >= source.len() {
-        return 0;
-    }
-    let b = source[at];
-    if b <= 127 {
-        return 1;
-    }
-    if b <= 223 {
-        return 2;
-    }
-    if b <= 239 { 3 } else { 4 }
-}
-
-pub fn skip_unicode_escape_sequence(source: &[u8], at: usize, length: usize) -> Place
-    requires { Inside source.now at }
-    ensures { Found source.now at (skip_unicode_escape_sequence length (drop at source.now)) result }
-{
-    let end = skip_hexdigits(source, at, length);
-    if end - at == length {
-        return Place::At(end);
-    }
-    let after = end + first_width(source, end);
-    let kind = ErrorKind::InvalidUnicodeEscapeSequence(at as u32, after as u32);
-    Place::Bad(error(kind, end), end)
-}
-
-// Whether a line ends here, by a line end or with the source.
-pub fn is_eol(source: &[u8], at: usize) -> bool
-    requires { Inside source.now at }
-    ensures { result ≡ is_eol (drop at source.now) }
-{
-    if at == source.len() {
-        return true;
-    }
-    at < skip_eol(source, at)
-}
-
-// Past a space or a line end, if one stands here.
-fn skip_one_blank(source: &[u8], at: usize) -> usize
-    requires { Inside source.now at }
-    ensures { Passed source.now at (blank_width (drop at source.now)) result }
-{
-    if is_current_byte(source, at, b' ') {
-        at + 1
-    } else {
-        skip_eol(source, at)
-    }
-}
-
-pub fn skip_blank(source: &[u8], at: usize) -> usize
-    requires { Inside source.now at }
-    ensures { Went source.now at (skip_blank (drop at source.now)) tt result }
-{
-    let mut end = at;
-    loop {
-        let next = skip_one_blank(source, end);
-        if next == end {
-            return end;
-        }
-        end = next;
-    }
-}
-
-pub fn skip_blank_block(source: &[u8], at: usize) -> BlankBlock
-    requires { at ≤ length source.now }
-    ensures { Went source.now at (skip_blank_block (drop at source.now)) result.count result.end }
-{
-    let mut end = at;
-    let mut count = 0;
-    loop {
-        let line_end = skip_blank_inline(source, end);
-        let next = skip_eol(source, line_end);
-        if next == line_end {
-            return BlankBlock { end, count };
-        }
-        end = next;
-        count += 1;
-    }
-}
-
-pub fn skip_blank_inline(source: &[u8], at: usize) -> usize
-    requires { at ≤ length source.now }
-    ensures { Passed source.now at (spaces (drop at source.now)) result }
-{
-    let mut end = at;
-    while is_current_byte(source, end, b' ') {
-        end += 1;
-    }
-    end
-}
-
-pub fn expect_byte(source: &[u8], at: usize, b: u8) -> Place
-    requires { Inside source.now at }
-    ensures { Found source.now at (expect_byte b (drop at source.now)) result }
-{
-    if is_current_byte(source, at, b) {
-        Place::At(at + 1)
-    } else {
-        Place::Bad(error(ErrorKind::ExpectedToken(b), at), at)
-    }
-}
-
-pub fn skip_digits(source: &[u8], at: usize) -> Place
-    requires { Inside source.now at }
-    ensures { Found source.now at (skip_digits (drop at source.now)) result }
-{
-    let mut end = at;
-    while is_digit_at(source, end) {
-        end += 1;
-    }
-    if end == at {
-        return Place::Bad(
-            error(ErrorKind::ExpectedCharRange(CharRange::Digits), at),
-            at,
-        );
-    }
-    Place::At(end)
-}
-
-pub fn get_number_literal(source: &[u8], at: usize) -> Place
-    requires { Inside source.now at }
-    ensures { Found source.now at (number (drop at source.now)) result }
-{
-    let start = take_byte_if(source, at, b'-');
-    let whole = skip_digits(source, start);
-    let Place::At(end) = whole else {
-        return whole;
-    };
-    if is_current_byte(source, end, b'.') {
-        return skip_digits(source, end + 1);
-    }
-    whole
+    !matches!(b, b'.' | b'}' | b'[' | b'*')
 }
 
 // Whether each byte of a name may stand in a callee.
 pub fn is_callee(name: &[u8]) -> bool
     ensures { result ≡ all is_callee_part name.now }
 {
-    let mut i = 0;
-    while i < name.len() {
-        if !is_callee_part(name[i]) {
-            return false;
-        }
-        i += 1;
-    }
-    true
+    name.iter().all(|&b| is_callee_part(b))
 }
 
-// The end of an identifier some of whose bytes have been read.
-pub fn get_identifier_unchecked(source: &[u8], at: usize) -> usize
-    requires { Inside source.now at }
-    ensures { Passed source.now at (run is_name_part (drop at source.now)) result }
+// How many bytes at the start pass a test.
+fn count_while<F: Fn(u8) -> bool>(bytes: &[u8], test: F) -> usize
+    requires { F.IsAlwaysCallable test }
+    ensures { Counted (F.post test) bytes.now result }
+{
+    for (i, &b) in bytes.iter().enumerate() {
+        if !test(b) {
+            return i;
+        }
+    }
+    bytes.len()
+}
+
+// How long the line end is that stands at the start; 0 where none does.
+#[tactic(auto, unfolding(syntax::specs::Bytes::eol, syntax::specs::Bytes::starts_with))]
+fn eol_length(bytes: &[u8]) -> usize
+    ensures { result ≡ eol bytes.now }
+{
+    match bytes {
+        [b'\n', ..] => 1,
+        [b'\r', b'\n', ..] => 2,
+        _ => 0,
+    }
+}
+
+// Past blank lines, in a source of any length.
+pub(crate) fn blank_block(source: &[u8], at: usize) -> BlankBlock
+    requires { at ≤ length source.now }
+    ensures { Went source.now at (skip_blank_block (drop at source.now)) result.count result.end }
 {
     let mut end = at;
-    while is_name_part_at(source, end) {
-        end += 1;
+    let mut count = 0;
+    loop {
+        let line_end = end + count_while(&source[end..], is_space);
+        let n = eol_length(&source[line_end..]);
+        if n == 0 {
+            return BlankBlock { end, count };
+        }
+        end = line_end + n;
+        count += 1;
     }
-    end
 }
 
-// The end of an identifier; its marks, which `kind` names, are the caller's to write.
-pub fn get_identifier(source: &[u8], at: usize) -> Place
-    requires { Inside source.now at }
-    ensures { (kind : ℕ) → Found source.now at (get_identifier kind (drop at source.now)) result }
-{
-    if !is_identifier_start(source, at) {
-        return Place::Bad(
-            error(ErrorKind::ExpectedCharRange(CharRange::Letters), at),
-            at,
-        );
+impl Source<'_> {
+    pub(crate) fn is_byte_at(self, b: u8, pos: usize) -> bool
+        ensures { Tests (starts_with b) self.entry.bytes.now pos result }
+    {
+        self.bytes.get(pos) == Some(&b)
     }
-    Place::At(get_identifier_unchecked(source, at + 1))
+
+    pub(crate) fn is_current_byte(self, b: u8) -> bool
+        ensures { Tests (starts_with b) self.entry.bytes.now self.entry.ptr result }
+    {
+        self.is_byte_at(b, self.ptr)
+    }
+
+    pub(crate) fn is_identifier_start(self) -> bool
+        ensures { Tests (starts is_letter) self.entry.bytes.now self.entry.ptr result }
+    {
+        self.bytes
+            .get(self.ptr)
+            .is_some_and(|&b| is_ascii_alphabetic(b))
+    }
+
+    pub(crate) fn is_number_start(self) -> bool
+        ensures { Tests (starts (λ b. is_digit b || b == Byte.minus)) self.entry.bytes.now self.entry.ptr result }
+    {
+        self.bytes.get(self.ptr).is_some_and(|&b| is_number_byte(b))
+    }
+
+    pub(crate) fn take_byte_if(&mut self, b: u8) -> bool
+        ensures { Goes self.old self.new (take_byte_if b (rest self.old)) result }
+    {
+        if self.is_current_byte(b) {
+            self.ptr += 1;
+            true
+        } else {
+            false
+        }
+    }
+
+    pub(crate) fn skip_eol(&mut self) -> bool
+        ensures { Goes self.old self.new (skip_eol (rest self.old)) result }
+    {
+        let n = eol_length(&self.bytes[self.ptr..]);
+        self.ptr += n;
+        n > 0
+    }
+
+    // Whether a line ends here, by a line end or with the source.
+    pub(crate) fn is_eol(mut self) -> bool
+        ensures { result ≡ is_eol (rest self.entry) }
+    {
+        self.ptr == self.bytes.len() || self.skip_eol()
+    }
+
+    pub(crate) fn expect_byte(&mut self, b: u8) -> Result<(), Stop>
+        ensures { Finds self.old self.new (expect_byte b (rest self.old)) result }
+    {
+        if !self.is_current_byte(b) {
+            return self.error(ErrorKind::ExpectedToken(b));
+        }
+        self.ptr += 1;
+        Ok(())
+    }
+
+    pub(crate) fn skip_blank_inline(&mut self) -> usize
+        ensures { Goes self.old self.new (skip_blank_inline (rest self.old)) result }
+    {
+        let n = count_while(&self.bytes[self.ptr..], is_space);
+        self.ptr += n;
+        n
+    }
+
+    pub(crate) fn skip_blank(&mut self)
+        ensures { Goes self.old self.new (skip_blank (rest self.old)) tt }
+    {
+        while self.take_byte_if(b' ') || self.skip_eol() {}
+    }
+
+    // Answers how many line ends it passed.
+    pub fn skip_blank_block(&mut self) -> usize
+        ensures { Goes self.old self.new (skip_blank_block (rest self.old)) result }
+    {
+        let block = blank_block(self.bytes, self.ptr);
+        self.ptr = block.end;
+        block.count
+    }
+
+    pub(crate) fn skip_digits(&mut self) -> Result<(), Stop>
+        ensures { Finds self.old self.new (skip_digits (rest self.old)) result }
+    {
+        let n = count_while(&self.bytes[self.ptr..], is_ascii_digit);
+        if n == 0 {
+            return self.error(ErrorKind::ExpectedCharRange(CharRange::Digits));
+        }
+        self.ptr += n;
+        Ok(())
+    }
+
+    // The number of get_number_literal.
+    pub(crate) fn skip_number(&mut self) -> Result<(), Stop>
+        ensures { Finds self.old self.new (number (rest self.old)) result }
+    {
+        self.take_byte_if(b'-');
+        self.skip_digits()?;
+        if self.take_byte_if(b'.') {
+            self.skip_digits()?;
+        }
+        Ok(())
+    }
+
+    // Past the bytes of an identifier.
+    pub(crate) fn skip_name(&mut self)
+        ensures { Passes self.old self.new (run is_name_part (rest self.old)) }
+    {
+        self.ptr += count_while(&self.bytes[self.ptr..], is_name_part);
+    }
+
+    pub(crate) fn skip_unicode_escape_sequence(&mut self, length: usize) -> Result<(), Stop>
+        ensures { Finds self.old self.new (skip_unicode_escape_sequence length (rest self.old)) result }
+    {
+        let start = self.ptr;
+        let rest = &self.bytes[start..];
+        let n = count_while(&rest[..length.min(rest.len())], is_ascii_hexdigit);
+        self.ptr += n;
+        if n == length {
+            return Ok(());
+        }
+        let wrong = self.bytes.get(self.ptr).map_or(0, |&b| width(b));
+        let end = self.ptr + wrong;
+        self.error(ErrorKind::InvalidUnicodeEscapeSequence(start as u32, end as u32))
+    }
 }

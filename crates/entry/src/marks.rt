@@ -1,110 +1,82 @@
 // Marks in a lent tree: two words of sizes, then as many kinds as the tree holds, then as many places.
-ghost use Rattle.std.specs.Prelude.{◌≡◌, ◌+◌, ◌^◌, ◌<◌, ◌≤◌, [], ◌∷◌};
-ghost use Rattle.syntax.specs.Kind.{closing};
-ghost use Rattle.entry.specs.Tree.{word, Step, Fits, Inserted};
-ghost use Rattle.entry.specs.Did.{Closable, Closed, Textable, Texted};
+ghost use Rattle.std.specs.Prelude.{◌+◌, ◌*◌, ◌≤◌, length};
 
-use crate::helper::Place;
-use syntax::errors::ParserError;
-use syntax::kind::CLOSING;
+use syntax::kind::{CLOSING, Kind};
 use syntax::layout::SIZES;
 
-// What a reader that writes marks answers: the place after what it read and the count of marks; an error and where it
-// stopped; or the place of an opening that nests too deep.
 #[derive(Drop)]
-pub enum Read {
-    Ok(usize, usize),
-    Bad(ParserError, usize),
-    Deep(usize),
+pub struct Marks<'t> {
+    pub words: &'t mut [u32],
+    pub capacity: usize,
+    pub count: usize,
+    pub ghost layout: { 2 + 2 * capacity ≤ length words.now },
 }
 
-// Writes a mark after n others.
-pub fn put(tree: &mut [u32], cap: usize, n: usize, kind: u32, place: usize) -> usize
-    requires fits { Fits tree.old cap n 1 }
-    requires place_bound { place < 2 ^ 32 }
-    ensures { (result ≡ n + 1) × Step cap n tree.old tree.new (word kind place ∷ []) }
-{
-    let at = n + SIZES;
-    tree[at] = kind;
-    let at = cap + n + SIZES;
-    tree[at] = place as u32;
-    n + 1
-}
+impl Marks<'_> {
+    ghost use Rattle.std.specs.Prelude.{◌≡◌, ◌^◌, ◌<◌, [], ◌∷◌};
+    ghost use Rattle.syntax.specs.Kind.{number_of, closing};
+    ghost use Rattle.entry.specs.Tree.{word};
+    ghost use Rattle.entry.specs.Marks.{Holds, Wrote, Put};
 
-// Writes the two marks of a text.
-pub fn put_text(
-    tree: &mut [u32],
-    cap: usize,
-    n: usize,
-    kind: u32,
-    start: usize,
-    end: usize,
-) -> usize
-    requires fits { Fits tree.old cap n 2 }
-    requires start_bound { (start < 2 ^ 32) × (end < 2 ^ 32) × (kind < 100) }
-    ensures { (result ≡ n + 2) × Step cap n tree.old tree.new (word kind start ∷ word (closing kind) end ∷ []) }
-{
-    let m = put(tree, cap, n, kind, start);
-    put(tree, cap, m, CLOSING + kind, end)
-}
-
-// Puts a mark without a place before those from the i-th of n on, which move up by one.
-pub fn insert(tree: &mut [u32], cap: usize, from: usize, n: usize, kind: u32) -> usize
-    requires from_le_n { from ≤ n }
-    requires fits { Fits tree.old cap n 1 }
-    ensures { (result ≡ n + 1) × Inserted cap from n tree.old tree.new (word kind 0) }
-{
-    let mut i = from;
-    let mut carried = kind;
-    let mut place = 0u32;
-    while i < n {
-        let a = i + SIZES;
-        let b = cap + i + SIZES;
-        let k = tree[a];
-        let p = tree[b];
-        tree[a] = carried;
-        tree[b] = place;
-        carried = k;
-        place = p;
-        i += 1;
+    // A mark, by the number of its kind.
+    pub(crate) fn put(&mut self, kind: u32, place: usize)
+        requires room { Holds self.old 1 }
+        requires place_bound { place < 2 ^ 32 }
+        ensures { Wrote self.old self.new (word kind place ∷ []) }
+    {
+        self.words[SIZES + self.count] = kind;
+        self.words[SIZES + self.capacity + self.count] = place as u32;
+        self.count += 1;
     }
-    put(tree, cap, n, carried, place as usize)
-}
 
-// Closes a node, if what stands in it was read.
-pub fn close(tree: &mut [u32], cap: usize, kind: u32, r: Read) -> Read
-    requires kind_bound { kind < 100 }
-    requires closable { Closable tree.old cap r }
-    ensures { Closed cap kind tree.old tree.new r result }
-{
-    match r {
-        Read::Ok(at, n) => {
-            let m = put(tree, cap, n, CLOSING + kind, 0);
-            Read::Ok(at, m)
-        }
-        Read::Bad(e, k) => Read::Bad(e, k),
-        Read::Deep(k) => Read::Deep(k),
+    pub(crate) fn open(&mut self, kind: Kind)
+        requires { Holds self.old 1 }
+        ensures { Wrote self.old self.new (word (number_of kind) 0 ∷ []) }
+    {
+        self.put(kind.number(), 0);
     }
-}
 
-// Writes the two marks of a text, if its end was found.
-pub fn put_found(
-    tree: &mut [u32],
-    cap: usize,
-    n: usize,
-    kind: u32,
-    start: usize,
-    end: Place,
-) -> Read
-    requires kind_bound { (kind < 100) × (start < 2 ^ 32) }
-    requires textable { Textable tree.old cap n end }
-    ensures { Texted cap n kind start tree.old tree.new end result }
-{
-    match end {
-        Place::At(e) => {
-            let m = put_text(tree, cap, n, kind, start, e);
-            Read::Ok(e, m)
-        }
-        Place::Bad(e, k) => Read::Bad(e, k),
+    pub(crate) fn close(&mut self, kind: Kind)
+        requires { Holds self.old 1 }
+        ensures { Wrote self.old self.new (word (closing (number_of kind)) 0 ∷ []) }
+    {
+        self.put(CLOSING + kind.number(), 0);
+    }
+
+    // The closing mark of a text that ends at a place.
+    pub(crate) fn close_at(&mut self, kind: Kind, place: usize)
+        requires room { Holds self.old 1 }
+        requires place_bound { place < 2 ^ 32 }
+        ensures { Wrote self.old self.new (word (closing (number_of kind)) place ∷ []) }
+    {
+        self.put(CLOSING + kind.number(), place);
+    }
+
+    // The two marks of a text.
+    pub(crate) fn text(&mut self, kind: Kind, start: usize, end: usize)
+        requires room { Holds self.old 2 }
+        requires start_bound { start < 2 ^ 32 }
+        requires end_bound { end < 2 ^ 32 }
+        ensures { Wrote self.old self.new
+            (word (number_of kind) start ∷ word (closing (number_of kind)) end ∷ []) }
+    {
+        self.put(kind.number(), start);
+        self.close_at(kind, end);
+    }
+
+    // An opening mark before those from the `from`-th on, which move up by one.
+    pub(crate) fn insert(&mut self, from: usize, kind: Kind)
+        requires from_le_count { from ≤ self.old.count }
+        requires room { Holds self.old 1 }
+        ensures { Put from (number_of kind) self.old self.new }
+    {
+        let kinds = SIZES + from;
+        let places = SIZES + self.capacity + from;
+        let more = self.count - from;
+        self.words.copy_within(kinds..kinds + more, kinds + 1);
+        self.words.copy_within(places..places + more, places + 1);
+        self.words[kinds] = kind.number();
+        self.words[places] = 0;
+        self.count += 1;
     }
 }

@@ -1,375 +1,257 @@
 // core.rs: entries, and the parts of placeables and variants. get_placeable and get_variants themselves stand in expression.rt.
-ghost use Rattle.std.specs.Prelude.{◌≡◌, ◌+◌, ◌≤◌, ◌||◌, [], drop, ◌==◌};
-ghost use Rattle.syntax.specs.Limits.{max_length};
-ghost use Rattle.syntax.specs.Byte as Byte;
-ghost use Rattle.syntax.specs.Bytes.{starts, is_digit};
-ghost use Rattle.syntax.specs.Helper.{skip_blank};
-ghost use Rattle.syntax.specs.Expression.{level, get_attribute_accessor, get_variant_key, key_text, variant_kind, no_term_attribute};
+ghost use Rattle.std.specs.Prelude.{◌≡◌, ◌<◌, ◌^◌};
+ghost use Rattle.syntax.specs.Kind.{number_of};
+ghost use Rattle.syntax.specs.Errors.{fault_from_to};
+ghost use Rattle.syntax.specs.Helper.{get_identifier, get_number_literal};
+ghost use Rattle.syntax.specs.Expression.{level, get_attribute_accessor, get_variant_key, key_text};
 ghost use Rattle.syntax.specs.Core.{get_attribute, get_attributes, fields, term_fields, as_message, as_term, get_entry};
-ghost use Rattle.entry.specs.Place.{Inside as InSource};
-ghost use Rattle.entry.specs.Did.{reading, answer, Did, Room, Entered, ended_by, Endable, Reaches, with_value};
-ghost use Rattle.entry.specs.Entry.{entrying};
-ghost use Rattle.entry.specs.Fields.{Named, having, NameLies};
-ghost use Rattle.entry.specs.Shape.{plainly, read_attribute, is_attribute_of_term, NextIs, placeable_end};
+ghost use Rattle.entry.specs.declared.errors.Stop.TheVariants.{Error};
+ghost use Rattle.entry.specs.Did.{plain, silent};
+ghost use Rattle.entry.specs.Reads.{rest, Room, Entered, Reads};
+ghost use Rattle.entry.specs.Entry.{get_name, entry_of, fields_of};
+ghost use Rattle.entry.specs.Next.{NextIs};
 
-use crate::border::ReadEntry;
-use crate::comment::get_comment;
-use crate::errors::error;
-use crate::expression::{Expression, ReadExpression, expect_after, get_pattern};
-use crate::helper::{
-    Place, expect_byte, get_identifier, get_number_literal, is_current_byte, skip_blank,
-    skip_blank_block, skip_blank_inline, take_byte_if,
-};
-use crate::marks::{Read, close, put, put_found, put_text};
-use syntax::bytes::is_ascii_digit;
-use syntax::errors::{ErrorKind, ParserError};
-use syntax::kind::{ATTRIBUTE, DEFAULT_VARIANT, IDENTIFIER, IDENTIFIER_KEY, NUMBER_KEY, VARIANT};
+use crate::errors::Stop;
+use crate::parser::Parser;
+use crate::source::Source;
+use syntax::errors::{CharRange, ErrorKind, ParserError};
+use syntax::kind::Kind;
 
-// The identifier of a message, a term or an attribute, and its '=': the identifier's length, the place after the '=' and
-// the count of marks.
-#[derive(Drop)]
-pub enum Name {
-    Ok(usize, usize, usize),
-    Bad(ParserError, usize),
+// What an entry is. A comment has its level.
+#[derive(Clone, Copy)]
+pub enum Entry {
+    Message,
+    Term,
+    Comment(usize),
 }
 
-// What a message or a term has: its identifier's length, whether it has a pattern, and whether it has attributes; then the
-// place after it and the count of marks.
-#[derive(Drop)]
-pub enum Fields {
-    Ok(usize, bool, bool, usize, usize),
-    Bad(ParserError, usize),
-    Deep(usize),
+// What a message or a term has: its identifier's length, whether it has a pattern, and how many attributes.
+#[derive(Clone, Copy)]
+pub struct Fields {
+    pub name: usize,
+    pub value: bool,
+    pub attributes: usize,
 }
 
-fn get_name(source: &[u8], at: usize, tree: &mut [u32], cap: usize, n: usize) -> Name
-    requires { Entered source.now tree.old cap at n }
-    ensures { Named source.now cap at n tree.old tree.new result }
-{
-    match get_identifier(source, at) {
-        Place::At(end) => {
-            let m = put_text(tree, cap, n, IDENTIFIER, at, end);
-            let equals = skip_blank_inline(source, end);
-            match expect_byte(source, equals, b'=') {
-                Place::At(start) => {
-                    let length = end - at;
-                    Name::Ok(length, start, m)
-                }
-                Place::Bad(e, k) => Name::Bad(e, k),
+impl Source<'_> {
+    // Whether a variant starts here, and then whether it is the default; `has_default` says that one of those before it was. Up to its
+    // '['.
+    pub(crate) fn next_variant(&mut self, has_default: bool) -> Result<Option<bool>, Stop>
+        ensures { NextIs self.old self.new has_default result }
+    {
+        let default = self.take_byte_if(b'*');
+        if default && has_default {
+            return self.error(ErrorKind::MultipleDefaultVariants);
+        }
+        if self.is_current_byte(b'[') {
+            return Ok(Some(default));
+        }
+        if default || has_default {
+            return Ok(None);
+        }
+        self.error(ErrorKind::MissingDefaultVariant)
+    }
+}
+
+impl Parser<'_, '_, '_> {
+    // Answers the identifier's length.
+    pub(crate) fn get_identifier(&mut self, kind: Kind) -> Result<usize, Stop>
+        requires { Entered self.old }
+        ensures same { self.new.tree.ghost_name ≡ self.old.tree.ghost_name }
+        ensures reads { Reads plain self.old self.new result (get_identifier (number_of kind) (rest self.old.source)) }
+    {
+        if !self.source.is_identifier_start() {
+            return self
+                .source
+                .error(ErrorKind::ExpectedCharRange(CharRange::Letters));
+        }
+        let start = self.source.ptr;
+        self.source.skip_name();
+        let end = self.source.ptr;
+        self.tree.text(kind, start, end);
+        Ok(end - start)
+    }
+
+    pub(crate) fn get_number_literal(&mut self, kind: Kind) -> Result<(), Stop>
+        requires { Entered self.old }
+        ensures same { self.new.tree.ghost_name ≡ self.old.tree.ghost_name }
+        ensures reads { Reads silent self.old self.new result (get_number_literal (number_of kind) (rest self.old.source)) }
+    {
+        let start = self.source.ptr;
+        self.source.skip_number()?;
+        self.tree.text(kind, start, self.source.ptr);
+        Ok(())
+    }
+
+    // The identifier of a message, a term or an attribute, and its '='. Answers the identifier's length.
+    fn get_name(&mut self) -> Result<usize, Stop>
+        requires { Entered self.old }
+        ensures same { self.new.tree.ghost_name ≡ self.old.tree.ghost_name }
+        ensures reads { Reads plain self.old self.new result (get_name (rest self.old.source)) }
+    {
+        let length = self.get_identifier(Kind::Identifier)?;
+        self.source.skip_blank_inline();
+        self.source.expect_byte(b'=')?;
+        Ok(length)
+    }
+
+    // After the '.'.
+    fn get_attribute(&mut self, left: usize) -> Result<(), Stop>
+        requires { Room self.old 1 }
+        ensures same { self.new.tree.ghost_name ≡ self.old.tree.ghost_name }
+        ensures reads { Reads silent self.old self.new result (get_attribute (level left) (rest self.old.source)) }
+    {
+        self.tree.open(Kind::Attribute);
+        self.get_name()?;
+        self.get_value(left)?;
+        self.tree.close(Kind::Attribute);
+        Ok(())
+    }
+
+    // Answers how many attributes there are.
+    fn get_attributes(&mut self, left: usize) -> Result<usize, Stop>
+        requires { Room self.old 0 }
+        ensures same { self.new.tree.ghost_name ≡ self.old.tree.ghost_name }
+        ensures reads { Reads plain self.old self.new result (get_attributes (level left) (rest self.old.source)) }
+    {
+        let mut count = 0;
+        loop {
+            let line_start = self.source.ptr;
+            let before = self.tree.count;
+            self.source.skip_blank_inline();
+            if !self.source.take_byte_if(b'.') {
+                self.source.ptr = line_start;
+                return Ok(count);
             }
+            let attribute = self.get_attribute(left);
+            if let Err(stop) = attribute {
+                if let Stop::TooDeep = stop {
+                    return Err(stop);
+                }
+                // Its line is not read, and its marks are cut off.
+                self.source.ptr = line_start;
+                self.tree.count = before;
+                return Ok(count);
+            }
+            count += 1;
         }
-        Place::Bad(e, k) => Name::Bad(e, k),
     }
-}
 
-// A pattern has marks.
-pub fn needs_value(r: Read, n: usize) -> Read
-    requires { Reaches r max_length }
-    ensures { result ≡ with_value n r }
-{
-    let Read::Ok(at, m) = r else {
-        return r;
-    };
-    if m == n {
-        return Read::Bad(error(ErrorKind::MissingValue, at), at);
+    // What messages and terms have in common.
+    fn get_fields(&mut self, left: usize) -> Result<Fields, Stop>
+        requires { Entered self.old }
+        ensures same { self.new.tree.ghost_name ≡ self.old.tree.ghost_name }
+        ensures reads { Reads fields_of self.old self.new result (fields (level left) (rest self.old.source)) }
+    {
+        let name = self.get_name()?;
+        let value = self.get_pattern(left)?;
+        self.source.skip_blank_block();
+        let attributes = self.get_attributes(left)?;
+        Ok(Fields {
+            name,
+            value,
+            attributes,
+        })
     }
-    r
-}
 
-// After the '.'.
-fn get_attribute(
-    source: &[u8],
-    at: usize,
-    left: usize,
-    tree: &mut [u32],
-    cap: usize,
-    n: usize,
-) -> Read
-    requires { Room source.now tree.old cap at n 1 }
-    ensures { Did reading cap at n tree.old tree.new result (get_attribute (level left) (drop at source.now)) }
-{
-    let m = put(tree, cap, n, ATTRIBUTE, 0);
-    match get_name(source, at, tree, cap, m) {
-        Name::Ok(_, start, m) => {
-            let value = get_pattern(source, start, left, tree, cap, m);
-            let value = needs_value(value, m);
-            close(tree, cap, ATTRIBUTE, value)
+    // An error whose position is from an entry's start up to here.
+    fn error_from(&self, start: usize, kind: ErrorKind) -> Stop
+        requires { start < 2 ^ 32 }
+        ensures { result ≡ Error (fault_from_to kind start self.now.source.ptr) }
+    {
+        Stop::Error(ParserError {
+            start: start as u32,
+            end: self.source.ptr as u32,
+            kind,
+        })
+    }
+
+    pub(crate) fn get_message(&mut self, left: usize) -> Result<(), Stop>
+        requires { Entered self.old }
+        ensures same { self.new.tree.ghost_name ≡ self.old.tree.ghost_name }
+        ensures reads { Reads silent self.old self.new result
+            (as_message (fields (level left) (rest self.old.source))) }
+    {
+        let start = self.source.ptr;
+        let fields = self.get_fields(left)?;
+        if !fields.value && fields.attributes == 0 {
+            let end = start + fields.name;
+            let kind = ErrorKind::ExpectedMessageField(start as u32, end as u32);
+            return Err(self.error_from(start, kind));
         }
-        Name::Bad(e, k) => Read::Bad(e, k),
+        Ok(())
     }
-}
 
-fn get_attributes(
-    source: &[u8],
-    at: usize,
-    left: usize,
-    tree: &mut [u32],
-    cap: usize,
-    n: usize,
-) -> Read
-    requires { Room source.now tree.old cap at n 0 }
-    ensures { Did reading cap at n tree.old tree.new result (get_attributes (level left) (drop at source.now)) }
-{
-    let mut line_start = at;
-    let mut count = n;
-    loop {
-        let dot = skip_blank_inline(source, line_start);
-        if !is_current_byte(source, dot, b'.') {
-            return Read::Ok(line_start, count);
+    pub(crate) fn get_term(&mut self, left: usize) -> Result<(), Stop>
+        requires { Entered self.old }
+        ensures same { self.new.tree.ghost_name ≡ self.old.tree.ghost_name }
+        ensures reads { Reads silent self.old self.new result
+            (as_term (term_fields (level left) (rest self.old.source))) }
+    {
+        let start = self.source.ptr;
+        self.source.expect_byte(b'-')?;
+        let name = self.source.ptr;
+        let fields = self.get_fields(left)?;
+        if !fields.value {
+            let end = name + fields.name;
+            let kind = ErrorKind::ExpectedTermField(name as u32, end as u32);
+            return Err(self.error_from(start, kind));
         }
-        let attribute = get_attribute(source, dot + 1, left, tree, cap, count);
-        if let Read::Ok(end, m) = attribute {
-            line_start = end;
-            count = m;
+        Ok(())
+    }
+
+    // What stands in an entry: the marks of its node are the caller's to write.
+    pub(crate) fn get_entry(&mut self, left: usize) -> Result<Entry, Stop>
+        requires { Entered self.old }
+        ensures same { self.new.tree.ghost_name ≡ self.old.tree.ghost_name }
+        ensures reads { Reads entry_of self.old self.new result (get_entry (level left) (rest self.old.source)) }
+    {
+        if self.source.is_current_byte(b'#') {
+            return Ok(Entry::Comment(self.get_comment()?));
+        }
+        if self.source.is_current_byte(b'-') {
+            self.get_term(left)?;
+            return Ok(Entry::Term);
+        }
+        self.get_message(left)?;
+        Ok(Entry::Message)
+    }
+
+    // Whether there is an attribute.
+    pub(crate) fn get_attribute_accessor(&mut self) -> Result<bool, Stop>
+        requires { Room self.old 0 }
+        ensures same { self.new.tree.ghost_name ≡ self.old.tree.ghost_name }
+        ensures reads { Reads plain self.old self.new result (get_attribute_accessor (rest self.old.source)) }
+    {
+        if !self.source.take_byte_if(b'.') {
+            return Ok(false);
+        }
+        self.get_identifier(Kind::Identifier)?;
+        Ok(true)
+    }
+
+    // After the '[', through the ']'.
+    pub(crate) fn get_variant_key(&mut self) -> Result<(), Stop>
+        requires { Room self.old 0 }
+        ensures same { self.new.tree.ghost_name ≡ self.old.tree.ghost_name }
+        ensures reads { Reads silent self.old self.new result (get_variant_key (rest self.old.source)) }
+    {
+        self.source.skip_blank();
+        self.get_key()?;
+        self.source.skip_blank();
+        self.source.expect_byte(b']')
+    }
+
+    fn get_key(&mut self) -> Result<(), Stop>
+        requires { Room self.old 0 }
+        ensures same { self.new.tree.ghost_name ≡ self.old.tree.ghost_name }
+        ensures reads { Reads silent self.old self.new result (key_text (rest self.old.source)) }
+    {
+        if self.source.is_number_start() {
+            self.get_number_literal(Kind::NumberKey)
         } else {
-            // Its line is not read, and its marks are cut off.
-            if let Read::Deep(k) = attribute {
-                return Read::Deep(k);
-            }
-            return Read::Ok(line_start, count);
+            self.get_identifier(Kind::IdentifierKey)?;
+            Ok(())
         }
     }
-}
-
-// What messages and terms have in common.
-fn get_fields(
-    source: &[u8],
-    at: usize,
-    left: usize,
-    tree: &mut [u32],
-    cap: usize,
-    n: usize,
-) -> Fields
-    requires { Entered source.now tree.old cap at n }
-    ensures { Did having cap at n tree.old tree.new result (fields (level left) (drop at source.now))
-        × NameLies source.now at result }
-{
-    match get_name(source, at, tree, cap, n) {
-        Name::Ok(length, start, m) => match get_pattern(source, start, left, tree, cap, m) {
-            Read::Ok(end, count) => {
-                let block = skip_blank_block(source, end);
-                let start = block.end;
-                match get_attributes(source, start, left, tree, cap, count) {
-                    Read::Ok(end, total) => {
-                        Fields::Ok(length, count != m, total != count, end, total)
-                    }
-                    Read::Bad(e, k) => Fields::Bad(e, k),
-                    Read::Deep(k) => Fields::Deep(k),
-                }
-            }
-            Read::Bad(e, k) => Fields::Bad(e, k),
-            Read::Deep(k) => Fields::Deep(k),
-        },
-        Name::Bad(e, k) => Fields::Bad(e, k),
-    }
-}
-
-pub fn get_message(
-    source: &[u8],
-    at: usize,
-    left: usize,
-    tree: &mut [u32],
-    cap: usize,
-    n: usize,
-) -> ReadEntry
-    requires { Entered source.now tree.old cap at n }
-    ensures { Did entrying cap at n tree.old tree.new result
-        (as_message (fields (level left) (drop at source.now))) }
-{
-    match get_fields(source, at, left, tree, cap, n) {
-        Fields::Ok(length, value, attributes, end, m) => {
-            if value || attributes {
-                return ReadEntry::Message(end, m);
-            }
-            let name_end = at + length;
-            let kind = ErrorKind::ExpectedMessageField(at as u32, name_end as u32);
-            let error = ParserError {
-                start: at as u32,
-                end: end as u32,
-                kind,
-            };
-            ReadEntry::Bad(error, end)
-        }
-        Fields::Bad(e, k) => ReadEntry::Bad(e, k),
-        Fields::Deep(k) => ReadEntry::Deep(k),
-    }
-}
-
-pub fn get_term(
-    source: &[u8],
-    at: usize,
-    left: usize,
-    tree: &mut [u32],
-    cap: usize,
-    n: usize,
-) -> ReadEntry
-    requires { Entered source.now tree.old cap at n }
-    ensures { Did entrying cap at n tree.old tree.new result
-        (as_term (term_fields (level left) (drop at source.now))) }
-{
-    match expect_byte(source, at, b'-') {
-        Place::At(start) => match get_fields(source, start, left, tree, cap, n) {
-            Fields::Ok(length, value, _, end, m) => {
-                if value {
-                    return ReadEntry::Term(end, m);
-                }
-                let name_end = start + length;
-                let kind = ErrorKind::ExpectedTermField(start as u32, name_end as u32);
-                let error = ParserError {
-                    start: at as u32,
-                    end: end as u32,
-                    kind,
-                };
-                ReadEntry::Bad(error, end)
-            }
-            Fields::Bad(e, k) => ReadEntry::Bad(e, k),
-            Fields::Deep(k) => ReadEntry::Deep(k),
-        },
-        Place::Bad(e, k) => ReadEntry::Bad(e, k),
-    }
-}
-
-// What stands in an entry: the marks of its node are the caller's to write.
-pub fn get_entry(
-    source: &[u8],
-    at: usize,
-    left: usize,
-    tree: &mut [u32],
-    cap: usize,
-    n: usize,
-) -> ReadEntry
-    requires { Entered source.now tree.old cap at n }
-    ensures { Did entrying cap at n tree.old tree.new result (get_entry (level left) (drop at source.now)) }
-{
-    if is_current_byte(source, at, b'#') {
-        return get_comment(source, at, tree, cap, n);
-    }
-    if is_current_byte(source, at, b'-') {
-        return get_term(source, at, left, tree, cap, n);
-    }
-    get_message(source, at, left, tree, cap, n)
-}
-
-// From the end of a placeable's expression on.
-pub fn end_placeable(source: &[u8], exp: ReadExpression) -> Read
-    requires { Endable source.now (plainly exp) }
-    ensures { result ≡ ended_by (placeable_end (read_attribute exp)) source.now (plainly exp) }
-{
-    match exp {
-        ReadExpression::Ok(exp, at, n) => {
-            let end = skip_blank_inline(source, at);
-            match expect_byte(source, end, b'}') {
-                Place::At(end) => without_attribute(exp, end, n),
-                Place::Bad(e, k) => Read::Bad(e, k),
-            }
-        }
-        ReadExpression::Bad(e, k) => Read::Bad(e, k),
-        ReadExpression::Deep(k) => Read::Deep(k),
-    }
-}
-
-// The second test for a term's attribute.
-fn without_attribute(exp: Expression, at: usize, n: usize) -> Read
-    requires { at ≤ max_length }
-    ensures { result ≡ answer reading at n (no_term_attribute (is_attribute_of_term exp) []) }
-{
-    if let Expression::TermReference(attribute) = exp {
-        if attribute {
-            return Read::Bad(error(ErrorKind::TermAttributeAsPlaceable, at), at);
-        }
-    }
-    Read::Ok(at, n)
-}
-
-pub fn get_attribute_accessor(
-    source: &[u8],
-    at: usize,
-    tree: &mut [u32],
-    cap: usize,
-    n: usize,
-) -> Read
-    requires { Room source.now tree.old cap at n 0 }
-    ensures { Did reading cap at n tree.old tree.new result (get_attribute_accessor (drop at source.now)) }
-{
-    if !is_current_byte(source, at, b'.') {
-        return Read::Ok(at, n);
-    }
-    let end = get_identifier(source, at + 1);
-    put_found(tree, cap, n, IDENTIFIER, at + 1, end)
-}
-
-// After the '[', through the ']'.
-pub fn get_variant_key(source: &[u8], at: usize, tree: &mut [u32], cap: usize, n: usize) -> Read
-    requires { Room source.now tree.old cap at n 0 }
-    ensures { Did reading cap at n tree.old tree.new result (get_variant_key (drop at source.now)) }
-{
-    let start = skip_blank(source, at);
-    let r = get_key(source, start, tree, cap, n);
-    let Read::Ok(end, m) = r else {
-        return r;
-    };
-    let end = skip_blank(source, end);
-    expect_after(source, Read::Ok(end, m), b']')
-}
-
-fn is_number_start(source: &[u8], at: usize) -> bool
-    ensures { result ≡ starts (λ b. is_digit b || b == Byte.minus) (drop at source.now) }
-{
-    at < source.len() && (is_ascii_digit(source[at]) || source[at] == b'-')
-}
-
-fn get_key(source: &[u8], at: usize, tree: &mut [u32], cap: usize, n: usize) -> Read
-    requires { Room source.now tree.old cap at n 0 }
-    ensures { Did reading cap at n tree.old tree.new result (key_text (drop at source.now)) }
-{
-    if is_number_start(source, at) {
-        let end = get_number_literal(source, at);
-        put_found(tree, cap, n, NUMBER_KEY, at, end)
-    } else {
-        let end = get_identifier(source, at);
-        put_found(tree, cap, n, IDENTIFIER_KEY, at, end)
-    }
-}
-
-// What stands where a variant may start: one, and whether it is the default; nothing more; or an error.
-#[derive(Drop)]
-pub enum NextVariant {
-    Variant(bool, usize),
-    End(usize),
-    Bad(ParserError, usize),
-}
-
-pub fn next_variant(source: &[u8], at: usize, has: bool) -> NextVariant
-    requires { InSource source.now at }
-    ensures { NextIs source.now at has result }
-{
-    let default = is_current_byte(source, at, b'*');
-    let start = take_byte_if(source, at, b'*');
-    if default && has {
-        return NextVariant::Bad(error(ErrorKind::MultipleDefaultVariants, start), start);
-    }
-    if is_current_byte(source, start, b'[') {
-        return NextVariant::Variant(default, start);
-    }
-    if default || has {
-        return NextVariant::End(start);
-    }
-    NextVariant::Bad(error(ErrorKind::MissingDefaultVariant, start), start)
-}
-
-pub fn variant_kind(default: bool) -> u32
-    ensures { result ≡ variant_kind default }
-{
-    if default { DEFAULT_VARIANT } else { VARIANT }
-}
-
-// The blanks after what was read.
-pub fn skip_after(source: &[u8], r: Read) -> Read
-    requires { Endable source.now r }
-    ensures { result ≡ ended_by skip_blank source.now r }
-{
-    let Read::Ok(at, n) = r else {
-        return r;
-    };
-    Read::Ok(skip_blank(source, at), n)
 }

@@ -1,274 +1,67 @@
 // pattern.rs: patterns. The common indent is known only where a pattern ends. Until then a text at the start of a line is marked
 // from the line's start on, by a kind of its own; at the end the marks are settled. get_pattern itself stands in expression.rt.
-ghost use Rattle.std.specs.Prelude.{◌≡◌, ◌+◌, ◌^◌, ◌<◌, ◌≤◌, min, true, false, [], ◌∷◌, map, length, drop};
-ghost use Rattle.syntax.specs.Limits.{max_length};
+ghost use Rattle.std.specs.Prelude.{◌≡◌, ◌+◌, ◌-◌, ◌<◌, ◌≤◌, min, false, length, drop};
 ghost use Rattle.syntax.specs.Byte as Byte;
-ghost use Rattle.syntax.specs.Kind as Kind;
 ghost use Rattle.syntax.specs.Bytes.{starts_with, spaces};
-ghost use Rattle.syntax.specs.Pattern.{goes_on, get_text_slice, with_text, text_turn};
-ghost use Rattle.entry.specs.Tree.{word, marks_in, Step, Fits};
-ghost use Rattle.entry.specs.Settle.{settle_word, is_trimmed, trimmed_end, trim_words, Within};
-ghost use Rattle.entry.specs.Elements.{opening};
-ghost use Rattle.entry.specs.Place.{Inside};
-ghost use Rattle.entry.specs.Did.{Room};
-ghost use Rattle.entry.specs.Slice.{crlf_width};
-ghost use Rattle.entry.specs.Texts.{starts_line, is_feed, position_after, is_part, least_of, text_words, after_text, TextDid};
-ghost use Rattle.entry.specs.Texts.{Ready, Ends, Ended, Started, after_placeable};
+ghost use Rattle.syntax.specs.Pattern.{goes_on, get_text_slice, trimmed, with_text, text_turn};
+ghost use Rattle.entry.specs.Marks.{Holds};
+ghost use Rattle.entry.specs.Settle.{is_trimmed, Settled, Trimmable, Trimmed};
+ghost use Rattle.entry.specs.Reads.{rest, Room};
+ghost use Rattle.entry.specs.Slice.{width_of};
+ghost use Rattle.entry.specs.Texts.{starts_line, is_part, least_of, after_placeable, standing, stands, Started, Ready};
+ghost use Rattle.entry.specs.Texts.{Texted, Turns, in_pattern, Ends, Ended};
 
-use crate::errors::error;
-use crate::helper::{is_byte_pattern_continuation, skip_blank_block, skip_blank_inline, skip_eol};
-use crate::marks::{Read, put};
-use crate::text::{TextElementTermination, TextRead, TextSlice, get_text_slice};
-use syntax::errors::{ErrorKind, ParserError};
-use syntax::kind::{PATTERN_END, TEXT, TEXT_END};
+use crate::errors::Stop;
+use crate::helper::is_byte_pattern_continuation;
+use crate::parser::Parser;
+use crate::source::Source;
+use crate::text::{TextElementPosition, TextElementTermination, TextSlice, get_text_slice};
+use syntax::errors::ErrorKind;
+use syntax::kind::{Kind, TEXT_END};
 use syntax::layout::SIZES;
 
-// Where in its pattern a text stands.
-#[derive(Clone, Copy)]
-pub enum TextElementPosition {
-    InitialLineStart,
-    LineStart,
-    Continuation,
-}
-
-// What is known while a pattern is read: the place; the count of marks; where the next text stands; the count of marks
-// through the last element that is not blank; the common indent, or the source's length where there is none yet.
+// What is known while a pattern is read: where the next text stands; the count of marks through the last element that is not blank;
+// the common indent.
 #[derive(Clone, Copy)]
 pub struct Reading {
-    pub at: usize,
-    pub n: usize,
     pub role: TextElementPosition,
-    pub last_non_blank: usize,
-    pub common_indent: usize,
+    pub last_non_blank: Option<usize>,
+    pub common_indent: Option<usize>,
 }
 
-// What became of a text: the state after it; where the pattern ends instead; or an error and where reading stopped.
-#[derive(Drop)]
-pub enum TextTurn {
-    Next(Reading),
-    End(usize),
-    Bad(ParserError, usize),
+impl Reading {
+    // After a placeable, which ends after n marks.
+    pub fn with_placeable(self, n: usize) -> Self
+        ensures { result ≡ after_placeable self n }
+    {
+        Reading {
+            role: TextElementPosition::Continuation,
+            last_non_blank: Some(n),
+            common_indent: least_indent(self.role, 0, self.common_indent),
+        }
+    }
 }
 
 // The kind, until its pattern ends, of the mark that opens a text at the start of a line.
 const LINE_START: u32 = 200;
 
-// How many spaces stand at a place; those past `most` don't count.
-fn indent(source: &[u8], at: usize, most: usize) -> usize
-    requires { at < 2 ^ 32 }
-    ensures { result ≡ min (spaces (drop at source.now)) most }
+// The common indent after a line's first element, which has this indent.
+fn least_indent(role: TextElementPosition, indent: usize, common: Option<usize>) -> Option<usize>
+    ensures { result ≡ least_of (starts_line role) indent common }
 {
-    let mut n = 0;
-    while n < most {
-        let i = at + n;
-        if i >= source.len() {
-            return n;
-        }
-        if source[i] != b' ' {
-            return n;
-        }
-        n += 1;
+    if role != TextElementPosition::LineStart {
+        return common;
     }
-    n
-}
-
-// Each text that starts a line, among the marks from `from` up to `to`, loses the common indent.
-fn settle(source: &[u8], tree: &mut [u32], cap: usize, from: usize, to: usize, common: usize)
-    requires from_le_to { (from ≤ to) × Fits tree.old cap to 0 }
-    requires source_len_bound { length source.now < 2 ^ 32 }
-    ensures { Step cap from tree.old tree.new
-        (map (settle_word source.now common) (drop from (marks_in cap to tree.old))) }
-{
-    let mut i = from;
-    while i < to {
-        let k = i + SIZES;
-        let p = cap + i + SIZES;
-        i += 1;
-        if tree[k] == LINE_START {
-            let start = tree[p] as usize;
-            let start = start + indent(source, start, common);
-            tree[k] = TEXT;
-            tree[p] = start as u32;
-        }
-    }
-}
-
-fn is_trimmed(b: u8) -> bool
-    ensures { result ≡ is_trimmed b }
-{
-    b == b' ' || (b == b'\r' || b == b'\n')
-}
-
-// The end of a text without the blanks and line ends that it ends with.
-fn trim_end(source: &[u8], start: usize, end: usize) -> usize
-    requires { (start ≤ end) × (end ≤ length source.now) }
-    ensures { result ≡ trimmed_end source.now start end }
-{
-    let mut end = end;
-    while start < end {
-        let last = end - 1;
-        if is_trimmed(source[last]) {
-            end = last;
-        } else {
-            return end;
-        }
-    }
-    end
-}
-
-// If the two marks after n others are a text's, the text is trimmed.
-fn trim(source: &[u8], tree: &mut [u32], cap: usize, n: usize)
-    requires fits { Fits tree.old cap n 2 }
-    requires source_len_bound { length source.now < 2 ^ 32 }
-    requires within { Within source.now (drop n (marks_in cap (n + 2) tree.old)) }
-    ensures { Step cap n tree.old tree.new
-        (trim_words source.now (drop n (marks_in cap (n + 2) tree.old))) }
-{
-    let p = cap + n + SIZES;
-    let m = n + 1;
-    let k = m + SIZES;
-    if tree[k] == TEXT_END {
-        let start = tree[p] as usize;
-        let p = cap + m + SIZES;
-        let end = tree[p] as usize;
-        tree[p] = trim_end(source, start, end) as u32;
-    }
-}
-
-fn is_line_start(role: TextElementPosition) -> bool
-    ensures { result ≡ starts_line role }
-{
-    match role {
-        TextElementPosition::InitialLineStart => false,
-        TextElementPosition::LineStart => true,
-        TextElementPosition::Continuation => false,
-    }
-}
-
-fn is_line_feed(ending: TextElementTermination) -> bool
-    ensures { result ≡ is_feed ending }
-{
-    match ending {
-        TextElementTermination::LineFeed => true,
-        TextElementTermination::Crlf => false,
-        TextElementTermination::PlaceableStart => false,
-        TextElementTermination::Eof => false,
-    }
-}
-
-// Where the text after one that ended so stands.
-fn role_after(ending: TextElementTermination) -> TextElementPosition
-    ensures { result ≡ position_after ending }
-{
-    match ending {
-        TextElementTermination::LineFeed => TextElementPosition::LineStart,
-        TextElementTermination::Crlf => TextElementPosition::LineStart,
-        TextElementTermination::PlaceableStart => TextElementPosition::Continuation,
-        TextElementTermination::Eof => TextElementPosition::Continuation,
-    }
-}
-
-// At CRLF the carriage return is no part of the text, and is passed with it.
-fn crlf_width(ending: TextElementTermination) -> usize
-    ensures { result ≡ crlf_width ending }
-{
-    match ending {
-        TextElementTermination::LineFeed => 0,
-        TextElementTermination::Crlf => 1,
-        TextElementTermination::PlaceableStart => 0,
-        TextElementTermination::Eof => 0,
-    }
+    Some(common.map_or(indent, |least| least.min(indent)))
 }
 
 // Whether a text is an element of its pattern.
-fn is_element(line: bool, slice: TextSlice) -> bool
-    ensures { result ≡ is_part line slice }
+fn is_element(role: TextElementPosition, slice: TextSlice) -> bool
+    ensures { result ≡ is_part (starts_line role) slice }
 {
-    let ending = slice.ending;
-    if slice.size == 0 {
-        return false;
-    }
-    if line {
-        if slice.blank {
-            return is_line_feed(ending);
-        }
-    }
-    true
-}
-
-// The common indent, if a line with this indent counts.
-fn least_indent(counts: bool, indent: usize, common: usize) -> usize
-    ensures { result ≡ least_of counts indent common }
-{
-    if counts {
-        if indent < common {
-            return indent;
-        }
-    }
-    common
-}
-
-fn opening_kind(line: bool) -> u32
-    ensures { result ≡ opening line }
-{
-    if line { LINE_START } else { TEXT }
-}
-
-// Writes the two marks of a text of a pattern that is not settled yet.
-fn put_element(
-    tree: &mut [u32],
-    cap: usize,
-    n: usize,
-    line: bool,
-    start: usize,
-    end: usize,
-) -> usize
-    requires fits { Fits tree.old cap n 2 }
-    requires start_bound { (start < 2 ^ 32) × (end < 2 ^ 32) }
-    ensures { (result ≡ n + 2) × Step cap n tree.old tree.new (word (opening line) start ∷ word (Kind.closing Kind.text) end ∷ []) }
-{
-    let m = put(tree, cap, n, opening_kind(line), start);
-    put(tree, cap, m, TEXT_END, end)
-}
-
-// The state after a text that follows the indent, with its marks if it is an element of the pattern.
-fn with_text(st: Reading, indent: usize, slice: TextSlice, tree: &mut [u32], cap: usize) -> Reading
-    requires fits { Fits tree.old cap st.n 2 }
-    requires size_bound { st.at + indent + slice.size ≤ max_length }
-    ensures { (result ≡ after_text st indent slice) × Step cap st.n tree.old tree.new (text_words st indent slice) }
-{
-    let role = st.role;
-    let ending = slice.ending;
-    let line = is_line_start(role);
-    let end = st.at + indent + slice.size;
-    let at = end + crlf_width(ending);
-    let role = role_after(ending);
-    if !is_element(line, slice) {
-        return Reading {
-            at,
-            n: st.n,
-            role,
-            last_non_blank: st.last_non_blank,
-            common_indent: st.common_indent,
-        };
-    }
-    let n = put_element(tree, cap, st.n, line, st.at, end);
-    if slice.blank {
-        return Reading {
-            at,
-            n,
-            role,
-            last_non_blank: st.last_non_blank,
-            common_indent: st.common_indent,
-        };
-    }
-    Reading {
-        at,
-        n,
-        role,
-        last_non_blank: n,
-        common_indent: least_indent(line, indent, st.common_indent),
-    }
+    slice.size != 0
+        && (role != TextElementPosition::LineStart
+            || (!slice.blank || slice.ending == TextElementTermination::LineFeed))
 }
 
 // Whether a line goes on with the pattern, by its indent and the byte after it.
@@ -281,110 +74,176 @@ fn goes_on(indent: usize, b: u8) -> bool
     is_byte_pattern_continuation(b)
 }
 
-// A text that follows an indent.
-fn get_text(source: &[u8], st: Reading, indent: usize, tree: &mut [u32], cap: usize) -> TextTurn
-    requires { Ready source.now tree.old cap st indent }
-    ensures { TextDid source.now cap tree.old tree.new st
-        (λ d. with_text d indent (get_text_slice (drop (st.at + indent) source.now))) result }
+// How many spaces stand at a place; those past `most` don't count.
+fn indent(bytes: &[u8], at: usize, most: usize) -> usize
+    ensures { result ≡ min (spaces (drop at bytes.now)) most }
 {
-    let start = st.at + indent;
-    let rest = &source[start..];
-    match get_text_slice(rest) {
-        TextRead::Text(slice) => TextTurn::Next(with_text(st, indent, slice, tree, cap)),
-        TextRead::UnbalancedClosingBrace(k) => {
-            let end = start + k;
-            TextTurn::Bad(error(ErrorKind::UnbalancedClosingBrace, end), end)
+    let Some(rest) = bytes.get(at..) else {
+        return 0;
+    };
+    rest.iter().take(most).take_while(|&&b| b == b' ').count()
+}
+
+fn is_trimmed(b: u8) -> bool
+    ensures { result ≡ is_trimmed b }
+{
+    matches!(b, b' ' | b'\r' | b'\n')
+}
+
+// How long a text is without the blanks and line ends that it ends with.
+fn trimmed_length(text: &[u8]) -> usize
+    ensures { result ≡ trimmed text.now }
+{
+    match text.iter().rposition(|&b| !is_trimmed(b)) {
+        Some(last) => last + 1,
+        None => 0,
+    }
+}
+
+impl Source<'_> {
+    // To the first text or placeable of a pattern: on the line, or on a line of its own after blank lines.
+    pub(crate) fn start_pattern(&mut self) -> Reading
+        ensures { Started self.old self.new result }
+    {
+        self.skip_blank_inline();
+        let role = if self.skip_eol() {
+            self.skip_blank_block();
+            TextElementPosition::LineStart
+        } else {
+            TextElementPosition::InitialLineStart
+        };
+        Reading {
+            role,
+            last_non_blank: None,
+            common_indent: None,
         }
     }
 }
 
-// What stands at a place of a pattern where no placeable starts.
-pub fn text_turn(source: &[u8], st: Reading, tree: &mut [u32], cap: usize) -> TextTurn
-    requires room { Room source.now tree.old cap st.at st.n 1 }
-    requires at_in_bounds { (st.at < length source.now) × (starts_with Byte.open_brace (drop st.at source.now) ≡ false) }
-    ensures { TextDid source.now cap tree.old tree.new st
-        (λ d. text_turn d (drop st.at source.now)) result }
-{
-    let role = st.role;
-    let at = st.at;
-    if !is_line_start(role) {
-        return get_text(source, st, 0, tree, cap);
+impl Parser<'_, '_, '_> {
+    // Each text that starts a line, among the marks from `from` on, loses the common indent.
+    fn settle(&mut self, from: usize, common: usize)
+        requires from_le_count { from ≤ self.old.tree.now.count }
+        requires room { Holds self.old.tree.now 0 }
+        ensures same { self.new.tree.ghost_name ≡ self.old.tree.ghost_name }
+        ensures reads { Settled from common self.old self.new }
+    {
+        for i in from..self.tree.count {
+            let kind = SIZES + i;
+            let place = SIZES + self.tree.capacity + i;
+            if self.tree.words[kind] == LINE_START {
+                let start = self.tree.words[place] as usize;
+                self.tree.words[kind] = Kind::Text.number();
+                self.tree.words[place] = (start + indent(self.source.bytes, start, common)) as u32;
+            }
+        }
     }
-    let start = skip_blank_inline(source, at);
-    if start == source.len() {
-        return TextTurn::End(start);
-    }
-    if goes_on(start - at, source[start]) {
-        return get_text(source, st, start - at, tree, cap);
-    }
-    TextTurn::End(at)
-}
 
-// The pattern ends. Its marks through the last element that is not blank are settled; without such an element there is no
-// pattern.
-pub fn finish(
-    source: &[u8],
-    st: Reading,
-    end: usize,
-    tree: &mut [u32],
-    cap: usize,
-    n: usize,
-) -> Read
-    requires { Ends source.now tree.old cap n st }
-    ensures { Ended source.now cap n tree.old tree.new st end result }
-{
-    let first = n + 1;
-    let last = st.last_non_blank;
-    let common = st.common_indent;
-    if last == first {
-        return Read::Ok(end, n);
+    // If the last two marks are a text's, the text is trimmed.
+    fn trim(&mut self)
+        requires { Trimmable self.old }
+        ensures same { self.new.tree.ghost_name ≡ self.old.tree.ghost_name }
+        ensures reads { Trimmed self.old self.new }
+    {
+        let last = self.tree.count - 1;
+        if self.tree.words[SIZES + last] == TEXT_END {
+            let places = SIZES + self.tree.capacity;
+            let start = self.tree.words[places + last - 1] as usize;
+            let end = self.tree.words[places + last] as usize;
+            let length = trimmed_length(&self.source.bytes[start..end]);
+            self.tree.words[places + last] = (start + length) as u32;
+        }
     }
-    settle(source, tree, cap, first, last, common);
-    trim(source, tree, cap, last - 2);
-    let m = put(tree, cap, last, PATTERN_END, 0);
-    Read::Ok(end, m)
-}
 
-// Where the first text or placeable of a pattern stands: on the line, or on a line of its own after blank lines.
-pub fn start(source: &[u8], at: usize, n: usize) -> Reading
-    requires { Inside source.now at }
-    ensures { Started source.now at n result }
-{
-    let line_end = skip_blank_inline(source, at);
-    let next = skip_eol(source, line_end);
-    let common_indent = source.len();
-    if next == line_end {
-        let role = TextElementPosition::InitialLineStart;
-        return Reading {
-            at: line_end,
-            n,
-            role,
-            last_non_blank: n,
-            common_indent,
+    // The state after a text, which follows an indent from `start` on, with its marks if it is an element of the pattern.
+    fn with_text(&mut self, st: Reading, start: usize, slice: TextSlice) -> Reading
+        requires order { start ≤ self.old.source.ptr }
+        requires within { self.old.source.ptr + width_of slice ≤ length self.old.source.bytes.now }
+        requires room { Holds self.old.tree.now 2 }
+        ensures same { self.new.tree.ghost_name ≡ self.old.tree.ghost_name }
+        ensures reads { Texted st start slice self.old self.new result }
+    {
+        let indent = self.source.ptr - start;
+        let end = self.source.ptr + slice.size;
+        self.source.ptr = end + slice.ending.crlf_width();
+        let role = slice.ending.next_position();
+        if !is_element(st.role, slice) {
+            return Reading { role, ..st };
+        }
+        let opening = if st.role == TextElementPosition::LineStart {
+            LINE_START
+        } else {
+            Kind::Text.number()
         };
+        self.tree.put(opening, start);
+        self.tree.close_at(Kind::Text, end);
+        if slice.blank {
+            return Reading { role, ..st };
+        }
+        Reading {
+            role,
+            last_non_blank: Some(self.tree.count),
+            common_indent: least_indent(st.role, indent, st.common_indent),
+        }
     }
-    let block = skip_blank_block(source, next);
-    Reading {
-        at: block.end,
-        n,
-        role: TextElementPosition::LineStart,
-        last_non_blank: n,
-        common_indent,
-    }
-}
 
-// The state after a placeable, which ends here after n marks.
-pub fn with_placeable(st: Reading, at: usize, n: usize) -> Reading
-    ensures { result ≡ after_placeable st at n }
-{
-    let position = st.role;
-    let role = TextElementPosition::Continuation;
-    let common_indent = least_indent(is_line_start(position), 0, st.common_indent);
-    Reading {
-        at,
-        n,
-        role,
-        last_non_blank: n,
-        common_indent,
+    // A text, which follows an indent from `start` on.
+    fn get_text(&mut self, st: Reading, start: usize) -> Result<Reading, Stop>
+        requires { Ready self.old st start }
+        ensures same { self.new.tree.ghost_name ≡ self.old.tree.ghost_name }
+        ensures reads { Turns (standing start self.old.tree.now.count st) self.old self.new
+            (λ d. with_text d (self.old.source.ptr - start) (get_text_slice (rest self.old.source)))
+            (in_pattern result) }
+    {
+        match get_text_slice(&self.source.bytes[self.source.ptr..]) {
+            Ok(slice) => Ok(self.with_text(st, start, slice)),
+            Err(length) => {
+                self.source.ptr += length;
+                self.source.error(ErrorKind::UnbalancedClosingBrace)
+            }
+        }
+    }
+
+    // What stands at a place of a pattern where no placeable starts: a text, or the pattern's end.
+    pub(crate) fn text_turn(&mut self, st: Reading) -> Result<Option<Reading>, Stop>
+        requires room { Room self.old 1 }
+        requires inside { self.old.source.ptr < length self.old.source.bytes.now }
+        requires no_brace { starts_with Byte.open_brace (rest self.old.source) ≡ false }
+        ensures same { self.new.tree.ghost_name ≡ self.old.tree.ghost_name }
+        ensures reads { Turns (stands self.old st) self.old self.new (λ d. text_turn d (rest self.old.source)) result }
+    {
+        let start = self.source.ptr;
+        if st.role == TextElementPosition::LineStart {
+            let indent = self.source.skip_blank_inline();
+            let Some(&b) = self.source.bytes.get(self.source.ptr) else {
+                return Ok(None);
+            };
+            if !goes_on(indent, b) {
+                self.source.ptr = start;
+                return Ok(None);
+            }
+        }
+        Ok(Some(self.get_text(st, start)?))
+    }
+
+    // The pattern ends, whose opening mark is the one after `before` marks. Its marks through the last element that is not blank are
+    // settled; without such an element there is no pattern.
+    pub(crate) fn end_pattern(&mut self, st: Reading, before: usize) -> bool
+        requires { Ends before self.old st }
+        ensures same { self.new.tree.ghost_name ≡ self.old.tree.ghost_name }
+        ensures reads { Ended before self.old self.new st result }
+    {
+        let Some(last) = st.last_non_blank else {
+            self.tree.count = before;
+            return false;
+        };
+        self.tree.count = last;
+        self.settle(
+            before + 1,
+            st.common_indent.unwrap_or(self.source.bytes.len()),
+        );
+        self.trim();
+        self.tree.close(Kind::Pattern);
+        true
     }
 }

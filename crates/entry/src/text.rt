@@ -1,21 +1,27 @@
 // pattern.rs: get_text_slice, which is handed the bytes that remain.
-ghost use Rattle.std.specs.Prelude.{◌≡◌, ◌≤◌, length, take, drop};
+ghost use Rattle.std.specs.Prelude.{◌≡◌, ◌≤◌, ◌==◌, length};
+ghost use Rattle.std.specs.List.{list_all};
+ghost use Rattle.syntax.specs.Byte as Byte;
 ghost use Rattle.syntax.specs.Limits.{max_length};
-ghost use Rattle.syntax.specs.Bytes.{starts, run};
-ghost use Rattle.syntax.specs.Pattern.{is_text_byte, ends_in_cr};
-ghost use Rattle.entry.specs.Place.{Inside, Tests, Passed};
-ghost use Rattle.entry.specs.Slice.{Sliced};
-ghost use Rattle.entry.specs.declared.text.TextRead.TheVariants.{Text};
+ghost use Rattle.entry.specs.Slice.{Sliced, slice_as, crlf_width, position_after};
 
-use crate::helper::skip_blank_inline;
+use memchr::memchr3;
 
 // What ended a text.
-#[derive(Clone, Copy)]
+#[derive(Clone, Copy, PartialEq, Eq, Debug)]
 pub enum TextElementTermination {
     LineFeed,
     Crlf,
     PlaceableStart,
     Eof,
+}
+
+// Where in its pattern a text stands.
+#[derive(Clone, Copy, PartialEq, Eq, Debug)]
+pub enum TextElementPosition {
+    InitialLineStart,
+    LineStart,
+    Continuation,
 }
 
 // A text that was found: its length, whether it is blank, and what ended it.
@@ -26,78 +32,65 @@ pub struct TextSlice {
     pub ending: TextElementTermination,
 }
 
-// A text, or how far it is to a closing brace that stands in it.
-#[derive(Drop)]
-pub enum TextRead {
-    Text(TextSlice),
-    UnbalancedClosingBrace(usize),
-}
-
-fn is_text_byte(b: u8) -> bool
-    ensures { result ≡ is_text_byte b }
-{
-    b != b'\n' && (b != b'{' && b != b'}')
-}
-
-fn is_text_byte_at(rest: &[u8], at: usize) -> bool
-    ensures { Tests (starts is_text_byte) rest.now at result }
-{
-    at < rest.len() && is_text_byte(rest[at])
-}
-
-fn skip_text(rest: &[u8], at: usize) -> usize
-    requires { Inside rest.now at }
-    ensures { Passed rest.now at (run is_text_byte (drop at rest.now)) result }
-{
-    let mut end = at;
-    while is_text_byte_at(rest, end) {
-        end += 1;
+impl TextElementTermination {
+    // Where the text after one that ended so stands.
+    pub fn next_position(self) -> TextElementPosition
+        ensures { result ≡ position_after self }
+    {
+        match self {
+            TextElementTermination::LineFeed | TextElementTermination::Crlf => {
+                TextElementPosition::LineStart
+            }
+            TextElementTermination::PlaceableStart | TextElementTermination::Eof => {
+                TextElementPosition::Continuation
+            }
+        }
     }
-    end
-}
 
-// Whether the text that ends here ends in a carriage return.
-fn ends_in_cr(rest: &[u8], end: usize) -> bool
-    requires { end ≤ length rest.now }
-    ensures { result ≡ ends_in_cr (take end rest.now) }
-{
-    if end == 0 {
-        return false;
+    // At CRLF the carriage return is no part of the text, and is passed with it.
+    pub fn crlf_width(self) -> usize
+        ensures { result ≡ crlf_width self }
+    {
+        if self == TextElementTermination::Crlf {
+            1
+        } else {
+            0
+        }
     }
-    let last = end - 1;
-    rest[last] == b'\r'
 }
 
-fn text(size: usize, blank: bool, ending: TextElementTermination) -> TextRead
-    ensures { result ≡ Text (record { size = size; blank = blank; ending = ending }) }
+fn is_blank(line: &[u8]) -> bool
+    ensures { result ≡ list_all (λ b. b == Byte.space) line.now }
 {
-    TextRead::Text(TextSlice {
+    line.iter().all(|&b| b == b' ')
+}
+
+// The first `size` bytes, of which those of the text's line are blank or not.
+fn slice(line: &[u8], size: usize, ending: TextElementTermination) -> TextSlice
+    ensures { result ≡ slice_as size (list_all (λ b. b == Byte.space) line.now) ending }
+{
+    TextSlice {
         size,
-        blank,
+        blank: is_blank(line),
         ending,
-    })
+    }
 }
 
-pub fn get_text_slice(rest: &[u8]) -> TextRead
+// A text, or how far it is to a closing brace that stands in it.
+pub fn get_text_slice(rest: &[u8]) -> Result<TextSlice, usize>
     requires { length rest.now ≤ max_length }
     ensures { Sliced rest.now result }
 {
-    let spaces = skip_blank_inline(rest, 0);
-    let end = skip_text(rest, spaces);
-    let blank = end <= spaces;
-    if end == rest.len() {
-        return text(end, blank, TextElementTermination::Eof);
+    let Some(end) = memchr3(b'\n', b'{', b'}', rest) else {
+        return Ok(slice(rest, rest.len(), TextElementTermination::Eof));
+    };
+    let text = &rest[..end];
+    match rest[end] {
+        b'}' => Err(end),
+        b'{' => Ok(slice(text, end, TextElementTermination::PlaceableStart)),
+        _ if text.last() == Some(&b'\r') => {
+            Ok(slice(&text[..end - 1], end - 1, TextElementTermination::Crlf))
+        }
+        _ => Ok(slice(text, end + 1, TextElementTermination::LineFeed)),
     }
-    let b = rest[end];
-    if b == b'}' {
-        return TextRead::UnbalancedClosingBrace(end);
-    }
-    if b == b'{' {
-        return text(end, blank, TextElementTermination::PlaceableStart);
-    }
-    if ends_in_cr(rest, end) {
-        let size = end - 1;
-        return text(size, size <= spaces, TextElementTermination::Crlf);
-    }
-    text(end + 1, blank, TextElementTermination::LineFeed)
 }

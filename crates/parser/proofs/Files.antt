@@ -9,7 +9,8 @@ use lib.Dec.{eqb, ltb}
 use lib.ListN.{length, get_or, drop, set, length-set, length-append, length-drop, length-map, drop_of_length-le}
 use lib.Seq.{drop-cons, drop-drop}
 use borrow.Author.Tests.{eqb-true, lt-ltb, le-ltb}
-use Rattle.std.proofs.Common.{Ok, Err}
+use Rattle.std.proofs.Common.{Ok, Err, Option, Some, None}
+use Rattle.std.specs.Bool.{then_some}
 use Rattle.syntax.specs.Limits.{max_open}
 use Rattle.syntax.specs.Kind.{closing}
 use Rattle.syntax.specs.declared.errors.ParserError.{ParserError}
@@ -32,15 +33,13 @@ use Rattle.laws.specs.Lines.{starts-add}
 use Rattle.laws.specs.Lines.Lands.{block-starts}
 use Rattle.laws.specs.Lines.Starts.{first-stays}
 use Rattle.laws.specs.Moving.{move_up-append, move_up-length, move_up-nil, following-twice}
-use Rattle.entry.specs.Tree.{Word, word, words_at, marks_in, Step}
+use Rattle.entry.specs.Tree.{Word, word, words_at, marks_in, Step, Fits}
 use Rattle.parser.specs.ErrorList.{ErrorStep, with_junk}
 use Rattle.entry.specs.Place.{Passed}
 use Rattle.entry.specs.Border.{Skipped}
 use Rattle.entry.specs.declared.border.BlankBlock.{BlankBlock}
 use Rattle.parser.specs.Call.{Sized, DidParse}
 use Rattle.parser.specs.Resource.{regular, kept, Attachable, attached, Moved, junk_till, Junked, Open, Pending, Held, Framed}
-use Rattle.parser.specs.declared.resource.LastComment.{LastComment}
-use Rattle.parser.specs.declared.resource.LastComment.TheVariants.{At, None}
 use Rattle.parser.specs.declared.resource.State.{State}
 use Rattle.parser.proofs.Seeks.{starts-later}
 use Rattle.entry.proofs.Steps.{step-none, step_cut, step_then}
@@ -54,7 +53,7 @@ top = level max_open
 
 -- ---- past the blank lines after an entry
 
-module _ {s : List ℕ} {k : ℕ} {b : BlankBlock} (n e : ℕ) (x : LastComment) (w : Skipped s k b) where
+module _ {s : List ℕ} {k : ℕ} {b : BlankBlock} (n e : ℕ) (x : Option ℕ) (w : Skipped s k b) where
   pub moved-kept : b.count < 2 → Moved s k n e x (record { at = b.end; marks = n; errors = e; comment = x })
   unfolding kept
   moved-kept h = record { at = w.end; marks = refl; errors = refl; comment = rw (← w.count, kept, lt-ltb b.count 2 h) }
@@ -125,23 +124,23 @@ module _ {i : ℕ} {marks : Bool → List Mark} (o : Open i marks) where
       ∙ ap (λ (v : List Word). words_at 0 o.before ++ v) (node-words 0 (kind_of_entry (comment 1) b) o.inner))
       ∙ append_assoc (words_at 0 o.before) _ ws
 
-pending-length : (c : LastComment) (marks : Bool → List Mark) → Pending c marks → length (marks true) ≡ length (marks false)
+pending-length : (c : Option ℕ) (marks : Bool → List Mark) → Pending c marks → length (marks true) ≡ length (marks false)
 pending-length None marks p = ap length p
-pending-length (At i) marks p = open-length p true ∙ sym (open-length p false)
+pending-length (Some i) marks p = open-length p true ∙ sym (open-length p false)
 
-pending-attachable : (t : List ℕ) (c : LastComment) (marks : Bool → List Mark) (n : ℕ) → Pending c marks
+pending-attachable : (t : List ℕ) (c : Option ℕ) (marks : Bool → List Mark) (n : ℕ) → Pending c marks
     → n ≡ length (marks false) → n + 1 < length t → Attachable t c n
 pending-attachable t None marks n p e l = tt
-pending-attachable t (At i) marks n p e l = (omega (arith, open-length p false), l)
+pending-attachable t (Some i) marks n p e l = (omega (arith, open-length p false), l)
 
 -- it is attached: all that follows it stays
-comment-attached : {cap : ℕ} {t T : List ℕ} (marks : Bool → List Mark) (ws : List Word) (n : ℕ) (c : LastComment)
+comment-attached : {cap : ℕ} {t T : List ℕ} (marks : Bool → List Mark) (ws : List Word) (n : ℕ) (c : Option ℕ)
     → Pending c marks → Step cap 0 t T (words_at 0 (marks false) ++ ws) → n ≡ length (marks false) → n ≤ cap
     → n + 1 < length T
     → Step cap 0 t (attached c n T) (words_at 0 (marks true) ++ ws)
 unfolding kind_of_entry
 comment-attached marks ws n None p S e l g = rw p S
-comment-attached {cap} {t} {T} marks ws n (At i) p S e l g =
+comment-attached {cap} {t} {T} marks ws n (Some i) p S e l g =
     let B = words_at 0 p.before in
     let C = words_at 0 p.inner in
     let size = open-length p false in
@@ -154,26 +153,29 @@ comment-attached {cap} {t} {T} marks ws n (At i) p S e l g =
     subst (Step cap 0 t (set T (i + 2) 6)) (regroup B C ws (word 6 0) (word 103 0))
     (step-kind i 3 6 0 B ((C ++ (word 103 0 ∷ [])) ++ ws) a opens (omega arith) (omega arith)) in
     let d = step-kind (n - 1) 103 106 0 (B ++ (word 6 0 ∷ C)) ws b closes (omega arith) (omega (arith, length-set T (i + 2) 6)) in
-    subst (Step cap 0 t (attached (At i) n T)) (sym (open-words p true ws ∙ regroup B C ws (word 6 0) (word 106 0))) d
+    subst (Step cap 0 t (attached (Some i) n T)) (sym (open-words p true ws ∙ regroup B C ws (word 6 0) (word 106 0))) d
 
-kept_near : (x : LastComment) (c : ℕ) → ltb c 2 ≡ true → kept x c ≡ x
+kept_near : (x : Option ℕ) (c : ℕ) → ltb c 2 ≡ true → kept x c ≡ x
 unfolding kept
 kept_near x c q = rw (q, kept)
 
-kept-far : (x : LastComment) (c : ℕ) → ltb c 2 ≡ false → kept x c ≡ None
+kept-far : (x : Option ℕ) (c : ℕ) → ltb c 2 ≡ false → kept x c ≡ None
 unfolding kept
 kept-far x c q = rw (q, kept)
 
 kept-none : (c : ℕ) → kept None c ≡ None
 kept-none c = by_case (ltb c 2) (kept_near None c) (kept-far None c)
 
-regular-one : (l n : ℕ) → eqb l 1 ≡ true → regular l n ≡ At n
+regular-one : (l n : ℕ) → eqb l 1 ≡ true → regular l n ≡ Some n
 unfolding regular
 regular-one l n q = rw (q, regular)
 
 regular-other : (l n : ℕ) → eqb l 1 ≡ false → regular l n ≡ None
 unfolding regular
 regular-other l n q = rw (q, regular)
+
+pub regular-is : (l n : ℕ) → then_some (eqb l 1) n ≡ regular l n
+regular-is l n = by_case (eqb l 1) (λ q. rw (q, regular-one l n q)) (λ q. rw (q, regular-other l n q))
 
 kind-other : (l : ℕ) (b : Bool) → eqb l 1 ≡ false → kind_of_entry (comment l) b ≡ 2 + l
 unfolding kind_of_entry
@@ -302,13 +304,16 @@ module _ {s t e : List ℕ} {x : State} (h : Held s t e x) (l : x.at < length s)
       entry-attachable = let (a, b) = entry-room in
           pending-attachable t₂ x.comment h.marks x.marks h.pending h.counted (omega (arith, spacious))
 
+      pub entry-fits : Fits t₂ (8 * length s) m 1
+      entry-fits = record { fits = entry-room.1; layout = omega (arith, spacious) }
+
       words : Step (8 * length s) 0 t t₂ (words_at 0 (h.marks false) ++ (word 1 0 ∷ words_at x.at g.ms))
       words = step_then h.tree (omega (arith, h.counted, words-length 0 (h.marks false))) (step_then p o g.wrote)
 
       blocks : skip_blank_block (drop g.k (drop x.at s)) ≡ skip_blank_block (drop end s)
       blocks = ap skip_blank_block (drop-drop g.k x.at s ∙ ap (λ (i : ℕ). drop i s) (sym g.place))
 
-      module _ {m' : ℕ} {c : LastComment} {r : State} (e' : m' ≡ m + 1) (v : Moved s end m' x.errors c r) where
+      module _ {m' : ℕ} {c : Option ℕ} {r : State} (e' : m' ≡ m + 1) (v : Moved s end m' x.errors c r) where
         place : r.at ≡ x.at + (g.k + used_by (skip_blank_block (drop g.k (drop x.at s))))
         place = omega (arith, v.at, ap used_by blocks, g.place)
 

@@ -4,46 +4,30 @@ use native.Mathlib.Omega.{arith}
 use mathlib.Core.Path.{◌≡◌, refl, sym, ap, ◌∙◌}
 use mathlib.Core.List.{List}
 use lib.ListN.{length}
+use Rattle.std.proofs.Common.{Ok, Err}
 use Rattle.syntax.specs.declared.errors.ParserError.{ParserError}
 use Rattle.syntax.specs.Marks.{Mark}
-use Rattle.syntax.specs.Reader.{Out, ok, bad, deep}
+use Rattle.syntax.specs.Reader.{Out, ok}
 use Rattle.syntax.specs.Core.{Entry, comment, message, term}
 use Rattle.entry.specs.Tree.{Step, words_at}
-use Rattle.entry.specs.Did.{Did}
-use Rattle.entry.specs.Entry.{entry_read, entrying}
-use Rattle.entry.specs.declared.border.ReadEntry.{ReadEntry}
-use Rattle.entry.specs.declared.border.ReadEntry.TheVariants.{Bad, Deep}
-use Rattle.entry.proofs.Dids.{Clear}
+use Rattle.entry.specs.Did.{told, Did}
+use Rattle.entry.specs.Entry.{entry_of}
+use Rattle.entry.specs.declared.border.EntryRead.{EntryRead}
+use Rattle.entry.specs.declared.parser_core.Entry.{Entry as CodeEntry}
+use Rattle.entry.specs.declared.errors.Stop.{Stop}
+use Rattle.entry.specs.declared.errors.Stop.TheVariants.{Error, TooDeep}
+use Rattle.entry.proofs.Dids.{Lost, Far, valued, lost, far}
 
-same-entry : (x y : Entry) (a b m n : ℕ) → entry_read x a m ≡ entry_read y b n → (x ≡ y) × (a ≡ b) × (m ≡ n)
-same-entry message message a b m n e = (refl, cc, cc)
-same-entry message term a b m n e = let z : ◌≡◌ {A = ℕ} 0 1 = cc in absurd (omega arith)
-same-entry message (comment l) a b m n e = let z : ◌≡◌ {A = ℕ} 0 1 = cc in absurd (omega arith)
-same-entry term message a b m n e = let z : ◌≡◌ {A = ℕ} 0 1 = cc in absurd (omega arith)
-same-entry term term a b m n e = (refl, cc, cc)
-same-entry term (comment l) a b m n e = let z : ◌≡◌ {A = ℕ} 0 1 = cc in absurd (omega arith)
-same-entry (comment l) message a b m n e = let z : ◌≡◌ {A = ℕ} 0 1 = cc in absurd (omega arith)
-same-entry (comment l) term a b m n e = let z : ◌≡◌ {A = ℕ} 0 1 = cc in absurd (omega arith)
-same-entry (comment l) (comment k) a b m n e = let p : l ≡ k = cc in (ap comment p, cc, cc)
-
-entry-no : (x : Entry) (a m : ℕ) (f : ParserError) (j : ℕ) → entry_read x a m ≡ Bad f j → ⊥
-entry-no message a m f j e = let z : ◌≡◌ {A = ℕ} 0 1 = cc in omega arith
-entry-no term a m f j e = let z : ◌≡◌ {A = ℕ} 0 1 = cc in omega arith
-entry-no (comment l) a m f j e = let z : ◌≡◌ {A = ℕ} 0 1 = cc in omega arith
-
-entry-far : (x : Entry) (a m j : ℕ) → entry_read x a m ≡ Deep j → ⊥
-entry-far message a m j e = let z : ◌≡◌ {A = ℕ} 0 1 = cc in omega arith
-entry-far term a m j e = let z : ◌≡◌ {A = ℕ} 0 1 = cc in omega arith
-entry-far (comment l) a m j e = let z : ◌≡◌ {A = ℕ} 0 1 = cc in omega arith
-
-pub clear-entrying : Clear entrying
-clear-entrying = record {
-  yes-no = entry-no;
-  yes-far = entry-far;
-  no-far = λ f i j e. let z : ◌≡◌ {A = ℕ} 0 1 = cc in omega arith;
-  no_same = λ f g i j e. (cc, cc);
-  far-same = λ i j e. cc;
-}
+same-entry : (x y : Entry) → entry_of x ≡ entry_of y → x ≡ y
+same-entry message message e = refl
+same-entry message term e = let z : ◌≡◌ {A = ℕ} 0 1 = cc in absurd (omega arith)
+same-entry message (comment l) e = let z : ◌≡◌ {A = ℕ} 0 1 = cc in absurd (omega arith)
+same-entry term message e = let z : ◌≡◌ {A = ℕ} 0 1 = cc in absurd (omega arith)
+same-entry term term e = refl
+same-entry term (comment l) e = let z : ◌≡◌ {A = ℕ} 0 1 = cc in absurd (omega arith)
+same-entry (comment l) message e = let z : ◌≡◌ {A = ℕ} 0 1 = cc in absurd (omega arith)
+same-entry (comment l) term e = let z : ◌≡◌ {A = ℕ} 0 1 = cc in absurd (omega arith)
+same-entry (comment l) (comment k) e = let p : l ≡ k = cc in ap comment p
 
 -- the entry x was read, up to a; n' marks are there
 pub record Got (x : Entry) (cap at n a n' : ℕ) (t t₁ : List ℕ) (o : Out Entry) : Type 0 where
@@ -54,10 +38,24 @@ pub record Got (x : Entry) (cap at n a n' : ℕ) (t t₁ : List ℕ) (o : Out En
   pub count : n' ≡ n + length ms
   pub wrote : Step cap n t t₁ (words_at at ms)
 
-pub got : {cap at n a n' : ℕ} {t t₁ : List ℕ} {r : ReadEntry} (x : Entry) (o : Out Entry)
-    → Did entrying cap at n t t₁ r o → r ≡ entry_read x a n' → Got x cap at n a n' t t₁ o
-got {at = at} {n} {a} {n'} x (ok y ms k) d e =
-    let q = same-entry y x (at + k) a (n + length ms) n' (sym d.answers ∙ e) in
-    record { ms = ms; k = k; is = ap (λ (z : Entry). ok z ms k) q.0; place = sym q.1; count = sym q.2; wrote = d.wrote }
-got x (bad f k) d e = absurd (entry-no x _ _ _ _ (sym e ∙ d.answers))
-got x (deep k) d e = absurd (entry-far x _ _ _ (sym e ∙ d.answers))
+module _ {cap at n : ℕ} {t t₁ : List ℕ} (r : EntryRead) (o : Out Entry)
+    (d : Did entry_of cap at n t t₁ (told r.entry r.at r.marks) o) where
+  pub got : (x : Entry) (v : CodeEntry) → r.entry ≡ Ok v → v ≡ entry_of x → Got x cap at n r.at r.marks t t₁ o
+  got x v e z =
+      let w = valued o d (ap (λ i. told i r.at r.marks) e) in
+      let f = w.found in
+      let q = same-entry f.value x (sym w.told ∙ z) in
+      record {
+        ms = f.ms;
+        k = f.k;
+        is = f.is ∙ ap (λ (y : Entry). ok y f.ms f.k) q;
+        place = f.place;
+        count = f.count;
+        wrote = f.wrote;
+      }
+
+  pub lost-at : {f : ParserError} (v : Stop) → r.entry ≡ Err v → v ≡ Error f → Lost at f r.at o
+  lost-at v e z = lost o d (ap (λ i. told i r.at r.marks) (e ∙ ap Err z))
+
+  pub far-at : (v : Stop) → r.entry ≡ Err v → v ≡ TooDeep → Far at r.at o
+  far-at v e z = far o d (ap (λ i. told i r.at r.marks) (e ∙ ap Err z))

@@ -1,21 +1,18 @@
 -- What the functions of crate entry test holds where it is required.
 use Prim.Native.Nat.{ℕ}
-use mathlib.Core.Path.{◌≡◌}
+use mathlib.Core.Path.{◌≡◌, refl}
 use mathlib.Core.Bool.{true}
 use mathlib.Core.List.{List}
 use native.Mathlib.Omega.{arith}
 use lib.ListN.{length}
 use borrow.Author.Tests.{le-leb, lt-ltb}
 use Rattle.syntax.specs.Layout.{tree_capacity}
-use Rattle.syntax.specs.Reader.{Out, ok, bad, deep}
-use Rattle.syntax.specs.Core as Core
 use Rattle.entry.specs.Tree.{Fits}
-use Rattle.entry.specs.Did.{Did, Entered}
-use Rattle.entry.specs.Entry.{entrying}
-use Rattle.entry.specs.Border.{readable, trying, roomy}
-use Rattle.entry.specs.declared.border.ReadEntry.{ReadEntry}
-use Rattle.entry.specs.declared.border.Tried.{Tried}
-use Rattle.entry.specs.declared.border.Tried.TheVariants.{Entry, Refused}
+use Rattle.std.specs.Prelude.{Option, Some, None}
+use Rattle.std.specs.Option.{IsSome}
+use Rattle.entry.specs.Border.{readable, ReadAs, roomy}
+use Rattle.entry.specs.declared.border.EntryRead.{EntryRead}
+use Rattle.parser.specs.Place.{Entered}
 
 pub can-read : {s t : List ℕ} {at n : ℕ} → Entered s t (tree_capacity (length s)) at n → readable (length s) (length t) at n ≡ true
 unfolding readable
@@ -25,14 +22,7 @@ pub can-put : {t : List ℕ} {cap n : ℕ} → Fits t cap n 1 → roomy (length 
 unfolding roomy
 can-put {t} {cap} {n} f = rw (lt-ltb n cap (omega (arith, f.fits)), le-leb _ _ f.layout)
 
--- the answer of a try that was made
-module _ {cap at n : ℕ} {t t' : List ℕ} {r : Tried} where
-  pub answered : {x : ReadEntry} (o : Out Core.Entry) → Did trying cap at n t t' r o → r ≡ Entry x → Did entrying cap at n t t' x o
-  answered (ok e ms k) d h = let q = d.answers in record { answers = cc; wrote = d.wrote }
-  answered (bad f k) d h = let q = d.answers in record { answers = cc; wrote = d.wrote }
-  answered (deep k) d h = let q = d.answers in record { answers = cc; wrote = d.wrote }
-
-  pub not-refused : (o : Out Core.Entry) → Did trying cap at n t t' r o → r ≡ Refused → ⊥
-  not-refused (ok e ms k) d h = let q = d.answers in let z : ◌≡◌ {A = ℕ} 0 1 = cc in omega arith
-  not-refused (bad f k) d h = let q = d.answers in let z : ◌≡◌ {A = ℕ} 0 1 = cc in omega arith
-  not-refused (deep k) d h = let q = d.answers in let z : ◌≡◌ {A = ℕ} 0 1 = cc in omega arith
+-- an entry was read where it can be
+pub is-read : (s : List ℕ) (at left n : ℕ) (t t' : List ℕ) (r : Option EntryRead) → ReadAs s at left n t t' r → IsSome r
+is-read s at left n t t' (Some x) d = refl
+is-read s at left n t t' None d = absurd d

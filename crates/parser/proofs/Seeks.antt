@@ -52,8 +52,8 @@ pub seeking-none : (s : List ℕ) (at : ℕ) (t : Bool) → at ≤ length s → 
 seeking-none s at t l h = record { inside = l; sum = rw h }
 
 module _ {s : List ℕ} {at i : ℕ} {fresh : Bool} (g : Seeking s at i fresh) where
-  pub seeking-end : length s ≤ i → Passed s at (to_next_entry (line_starts_at at s) (drop at s)) i
-  seeking-end l = let e = none in record { end = omega (arith, g.sum); within = g.inside }
+  pub seeking-end : length s ≤ i → Passed s at (to_next_entry (line_starts_at at s) (drop at s)) (length s)
+  seeking-end l = let e = none in record { end = omega (arith, g.sum, g.inside); within = omega arith }
     where
       none : to_next_entry fresh (drop i s) ≡ 0
       none = unfold to_next_entry in rw (drop_of_length-le s l)

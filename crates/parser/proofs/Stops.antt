@@ -34,12 +34,12 @@ use Rattle.laws.specs.Bounds.Expression.{level-bounds}
 use Rattle.laws.specs.Bounds.Entry.{entry-bounds}
 use Rattle.laws.specs.Progress.{junk-moves}
 use Rattle.laws.specs.Tests.{refusal-of, none_of, source-passes}
-use Rattle.entry.specs.Did.{answer, Did}
-use Rattle.entry.specs.Entry.{entrying}
+use Rattle.entry.specs.Did.{told, answer, Did}
+use Rattle.entry.specs.Entry.{entry_of}
 use Rattle.entry.specs.Border.{Skipped}
-use Rattle.parser.specs.Next.{Stoppable, stopped_at}
+use Rattle.parser.specs.Next.{StopIn, Stoppable, extent_of, stopped_at}
 use Rattle.entry.specs.declared.border.BlankBlock.{BlankBlock}
-use Rattle.entry.specs.declared.border.ReadEntry.{ReadEntry}
+use Rattle.entry.specs.declared.border.EntryRead.{EntryRead}
 use Rattle.parser.proofs.Seeks.{starts-past}
 
 -- ---- junk
@@ -78,7 +78,7 @@ module _ (s : List ℕ) (a : ℕ) (l : a < length s) where
       (sym (drop-drop (suc k) a s))
 
   stops_as : (o : Out Entry) → get_entry (level max_open) (drop a s) ≡ o
-      → stopped_at s a (answer entrying a 0 o) ≡ stopped a (stop_of (drop a s) o)
+      → extent_of s a (answer entry_of a 0 o) ≡ stopped a (stop_of (drop a s) o)
   unfolding stop_of stopped junk_end
   stops_as (ok message ms k) h = refl
   stops_as (ok term ms k) h = refl
@@ -86,10 +86,11 @@ module _ (s : List ℕ) (a : ℕ) (l : a < length s) where
   stops_as (bad f k) h = ap (λ k. Some (record { start = a; stop = k })) (ap (λ i. a + k + i) (seeks k h) ∙ add_assoc a k _)
   stops_as (deep k) h = refl
 
-  pub stoppable : length s ≤ 1000000 → {r : ReadEntry} → r ≡ answer entrying a 0 (get_entry (level max_open) (drop a s)) → Stoppable s r
-  stoppable m e = rw e (go (get_entry (level max_open) (drop a s)) refl)
+  pub stoppable : length s ≤ 1000000 → (r : EntryRead)
+      → told r.entry r.at r.marks ≡ answer entry_of a 0 (get_entry (level max_open) (drop a s)) → Stoppable s r
+  stoppable m r e = rw e (go (get_entry (level max_open) (drop a s)) refl)
     where
-      go : (o : Out Entry) → get_entry (level max_open) (drop a s) ≡ o → Stoppable s (answer entrying a 0 o)
+      go : (o : Out Entry) → get_entry (level max_open) (drop a s) ≡ o → StopIn s (answer entry_of a 0 o)
       go (ok message ms k) h = tt
       go (ok term ms k) h = tt
       go (ok (comment j) ms k) h = tt
@@ -102,11 +103,11 @@ module _ (s : List ℕ) (a : ℕ) (l : a < length s) where
       go (deep k) h = tt
 
   -- an entry was read into the tree
-  pub entry_read : {t t₁ : List ℕ} {r : ReadEntry} {x : Maybe Extent}
-      → Did entrying (8 * length s) a 0 t t₁ r (get_entry (level max_open) (drop a s)) → x ≡ stopped_at s a r
+  pub entry_read : {t t₁ : List ℕ} (r : EntryRead) {x : Maybe Extent}
+      → Did entry_of (8 * length s) a 0 t t₁ (told r.entry r.at r.marks) (get_entry (level max_open) (drop a s)) → x ≡ stopped_at s a r
       → (x ≡ stopped a (stop_of (drop a s) (get_entry (level max_open) (drop a s)))) × Scratched (tree_layout (length s)) t t₁
-  entry_read d e = (
-    e ∙ ap (stopped_at s a) d.answers
+  entry_read r d e = (
+    e ∙ ap (extent_of s a) d.answers
         ∙ stops_as (get_entry (level max_open) (drop a s)) refl,
     record { long = d.wrote.long; sizes = d.wrote.head; rest = d.wrote.rest },
   )

@@ -1,12 +1,10 @@
--- Zeros in a slice, one more at a time; and a slice whose arrays were finished.
-use Prim.Native.Nat.{ℕ, suc, ◌+◌, ◌-◌, ◌≤◌, ◌<◌}
-use native.Mathlib.Numerals.{add-one}
+-- Zeros in a slice; and a slice whose arrays were finished.
+use Prim.Native.Nat.{ℕ, ◌+◌, ◌-◌, ◌≤◌}
 use native.Mathlib.Omega.{arith}
 use mathlib.Core.Path.{◌≡◌, refl, sym, ap, ap₂, ◌∙◌}
 use mathlib.Core.List.{List, [], ◌∷◌, ◌++◌, append_assoc}
-use lib.ListN.{length, get_or, take, drop, set, replicate, length-append, length-take, length-drop, length-replicate}
-use lib.ListN.{replicate-append-replicate, take-append-drop}
-use lib.Seq.{set_at, drop-cons, drop-drop, take-append-add, drop-append-add}
+use lib.ListN.{length, take, drop, set, replicate, length-append, length-take, length-drop, length-replicate}
+use lib.Seq.{drop-drop, take-append-add, drop-append-add}
 use Rattle.syntax.specs.Layout.{array}
 use Rattle.parser.specs.Laid.{Laid, finished}
 
@@ -18,27 +16,6 @@ zeroed from i t = take from t ++ (replicate (i - from) 0 ++ drop i t)
 pub zero-length : (from i : ℕ) (t t' : List ℕ) → from ≤ i → i ≤ length t
     → t' ≡ take from t ++ (replicate (i - from) 0 ++ drop i t) → length t' ≡ length t
 zero-length from i t t' h l e = ap length e ∙ simp (length-append, length-take, length-replicate, length-drop) (omega arith)
-
-pub zeroed-none : (from : ℕ) (t : List ℕ) → t ≡ zeroed from from t
-unfolding zeroed
-zeroed-none from t =
-    let z : from - from ≡ 0 = omega arith in
-    sym (take-append-drop from t) ∙ ap (λ n. take from t ++ (replicate n 0 ++ drop from t)) (sym z)
-
-pub zeroed-more : (from i : ℕ) (t : List ℕ) → from ≤ i → i < length t → set (zeroed from i t) i 0 ≡ zeroed from (i + 1) t
-unfolding zeroed
-zeroed-more from i t h l =
-    let head = take from t in
-    let zeros : List ℕ = replicate (i - from) 0 in
-    let long : length (head ++ zeros) ≡ i = simp (length-append, length-take, length-replicate) (omega arith) in
-    let one : i - from + 1 ≡ i + 1 - from = omega arith in
-    ap (λ r. set r i 0) (sym (append_assoc head zeros (drop i t)) ∙ ap (λ r. (head ++ zeros) ++ r) (drop-cons t i 0 l))
-    ∙ set_at (head ++ zeros) (get_or t i 0) (drop (suc i) t) 0 i long
-    ∙ append_assoc head zeros (0 ∷ drop (suc i) t)
-    ∙ ap (λ r. head ++ r)
-    (sym (append_assoc zeros (0 ∷ []) (drop (suc i) t))
-    ∙ ap₂ (λ (a b : List ℕ). a ++ b) (replicate-append-replicate (i - from) 1 0 ∙ ap (λ n. replicate n 0) one)
-    (ap (λ n. drop n t) (sym (add-one i))))
 
 -- past a part that is left alone
 zeroed-past : (p t : List ℕ) (m i j : ℕ) → length p ≡ m → i ≤ j → zeroed (m + i) (m + j) (p ++ t) ≡ p ++ zeroed i j t

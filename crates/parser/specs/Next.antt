@@ -2,27 +2,32 @@
 use Rattle.std.specs.Prelude.{ℕ, ◌≡◌, List, length, Option, Some, None}
 use Rattle.syntax.specs.declared.next.Extent.{Extent}
 use Rattle.syntax.specs.Next.{next_answer, Answered, place_after, NextTree}
-use Rattle.entry.specs.Place.{Inside}
+use Rattle.parser.specs.Place.{Inside}
 use Rattle.parser.specs.Resource.{junk_till}
-use Rattle.entry.specs.declared.border.ReadEntry.{ReadEntry}
-use Rattle.entry.specs.declared.border.ReadEntry.TheVariants.{Message, Term, Comment, Bad, Deep}
+use Rattle.entry.specs.Did.{Told, yes, no, over, told}
+use Rattle.entry.specs.declared.border.EntryRead.{EntryRead}
+use Rattle.entry.specs.declared.parser_core.Entry.{Entry}
 use Rattle.parser.specs.declared.next.Asked.{Asked}
 
--- an error lies in the source
-abbrev pub Stoppable : List ℕ → ReadEntry → Type 0
-Stoppable s (Message e m) = Unit {0}
-Stoppable s (Term e m) = Unit {0}
-Stoppable s (Comment l e m) = Unit {0}
-Stoppable s (Bad f k) = Inside s k
-Stoppable s (Deep k) = Unit {0}
+-- what is told of an answer: an error lies in the source
+abbrev pub StopIn : List ℕ → Told Entry → Type 0
+StopIn s (yes x k m) = Unit {0}
+StopIn s (no f k) = Inside s k
+StopIn s (over k) = Unit {0}
 
--- where what starts at a place stopped
-abbrev pub stopped_at : List ℕ → ℕ → ReadEntry → Option Extent
-stopped_at s start (Message e m) = Some (record { start = start; stop = e })
-stopped_at s start (Term e m) = Some (record { start = start; stop = e })
-stopped_at s start (Comment l e m) = Some (record { start = start; stop = e })
-stopped_at s start (Bad f k) = Some (record { start = start; stop = junk_till k s })
-stopped_at s start (Deep k) = None
+-- the same of the answer itself
+abbrev pub Stoppable : List ℕ → EntryRead → Type 0
+Stoppable s x = StopIn s (told x.entry x.at x.marks)
+
+-- where what starts at a place stopped, by what is told of its answer
+abbrev pub extent_of : List ℕ → ℕ → Told Entry → Option Extent
+extent_of s start (yes x k m) = Some (record { start = start; stop = k })
+extent_of s start (no f k) = Some (record { start = start; stop = junk_till k s })
+extent_of s start (over k) = None
+
+-- the same by the answer itself
+abbrev pub stopped_at : List ℕ → ℕ → EntryRead → Option Extent
+stopped_at s start x = extent_of s start (told x.entry x.at x.marks)
 
 -- a call from a place: its answer, the place after it, and what it leaves of the tree
 pub record DidAsk (s : List ℕ) (at : ℕ) (t t' : List ℕ) (r : Asked) : Type 0 where

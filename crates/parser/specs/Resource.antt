@@ -1,5 +1,6 @@
 -- A file that is read part way, and what its loop's functions do to the lent slices.
-use Rattle.std.specs.Prelude.{ℕ, suc, ◌+◌, ◌-◌, ◌≤◌, ◌<◌, ◌≡◌, List, [], ◌∷◌, ◌++◌, Bool, true, false, eqb, ltb, length, drop, set}
+use Rattle.std.specs.Prelude.{ℕ, suc, ◌+◌, ◌-◌, ◌≤◌, ◌<◌, ◌≡◌, List, [], ◌∷◌, ◌++◌, Option, Some, None, Result, Ok, Err}
+use Rattle.std.specs.Prelude.{Bool, true, false, eqb, ltb, length, drop, set}
 use Rattle.syntax.specs.Limits.{max_open}
 use Rattle.syntax.specs.Kind as Kind
 use Rattle.syntax.specs.Layout.{tree_capacity}
@@ -13,32 +14,28 @@ use Rattle.syntax.specs.Core.{kind_of_entry, entries, parse}
 use Rattle.entry.specs.Tree.{word, Step, words_at}
 use Rattle.parser.specs.ErrorList.{ErrorStep, with_junk}
 use Rattle.parser.specs.Call.{Sized}
-use Rattle.parser.specs.declared.resource.LastComment.{LastComment}
-use Rattle.parser.specs.declared.resource.LastComment.TheVariants.{At, None}
 use Rattle.parser.specs.declared.resource.State.{State}
-use Rattle.parser.specs.declared.resource.EntryTurn.{EntryTurn}
-use Rattle.parser.specs.declared.resource.EntryTurn.TheVariants.{On, Deep}
 
 -- ---- the last comment
 
-unfoldable pub regular : ℕ → ℕ → LastComment
-regular l n = elim (eqb l 1) [ true ↦ At n | false ↦ None ]
+unfoldable pub regular : ℕ → ℕ → Option ℕ
+regular l n = elim (eqb l 1) [ true ↦ Some n | false ↦ None ]
 
 -- it is kept where fewer than two line ends follow
-unfoldable pub kept : LastComment → ℕ → LastComment
+unfoldable pub kept : Option ℕ → ℕ → Option ℕ
 kept c k = elim (ltb k 2) [ true ↦ c | false ↦ None ]
 
 -- its marks, of which the last is the n-th, lie in the tree
-abbrev pub Attachable : List ℕ → LastComment → ℕ → Type 0
-Attachable t (At i) n = (i < n) × (n + 1 < length t)
+abbrev pub Attachable : List ℕ → Option ℕ → ℕ → Type 0
+Attachable t (Some i) n = (i < n) × (n + 1 < length t)
 Attachable t None n = Unit {0}
 
-abbrev pub attached : LastComment → ℕ → List ℕ → List ℕ
-attached (At i) n t = set (set t (i + 2) Kind.attached_comment) (n - 1 + 2) (Kind.closing Kind.attached_comment)
+abbrev pub attached : Option ℕ → ℕ → List ℕ → List ℕ
+attached (Some i) n t = set (set t (i + 2) Kind.attached_comment) (n - 1 + 2) (Kind.closing Kind.attached_comment)
 attached None n t = t
 
 -- ---- after an entry that ends at k: past the blank lines
-pub record Moved (s : List ℕ) (k n e : ℕ) (c : LastComment) (r : State) : Type 0 where
+pub record Moved (s : List ℕ) (k n e : ℕ) (c : Option ℕ) (r : State) : Type 0 where
   pub at : r.at ≡ k + used_by (skip_blank_block (drop k s))
   pub marks : r.marks ≡ n
   pub errors : r.errors ≡ e
@@ -72,8 +69,8 @@ pub record Open (i : ℕ) (marks : Bool → List Mark) : Type 0 where
   pub opens : i ≡ length before
   pub is : (b : Bool) → marks b ≡ before ++ node (kind_of_entry (comment 1) b) inner
 
-abbrev pub Pending : LastComment → (Bool → List Mark) → Type 0
-Pending (At i) marks = Open i marks
+abbrev pub Pending : Option ℕ → (Bool → List Mark) → Type 0
+Pending (Some i) marks = Open i marks
 Pending None marks = marks true ≡ marks false
 
 -- the marks and errors so far stand in the slices, and what follows them is the file's reading. The marks are those after a comment
@@ -101,6 +98,6 @@ pub record Framed (s t t' e e' : List ℕ) : Type 0 where
   pub tree : Step (tree_capacity (length s)) 0 t t' []
   pub list : ErrorStep (length s) 0 e e' []
 
-abbrev pub Turned : (s t t' e e' : List ℕ) → State → EntryTurn → Type 0
-Turned s t t' e e' x (On y) = Framed s t t' e e' × Held s t' e' y × (x.at < y.at)
-Turned s t t' e e' x (Deep k) = Framed s t t' e e' × (parse max_open s ≡ refused k)
+abbrev pub Turned : (s t t' e e' : List ℕ) → State → Result State ℕ → Type 0
+Turned s t t' e e' x (Ok y) = Framed s t t' e e' × Held s t' e' y × (x.at < y.at)
+Turned s t t' e e' x (Err k) = Framed s t t' e e' × (parse max_open s ≡ refused k)

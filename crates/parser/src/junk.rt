@@ -2,7 +2,8 @@
 ghost use Rattle.std.specs.Prelude.{◌≡◌, ◌&&◌, drop};
 ghost use Rattle.syntax.specs.Bytes.{is_fresh};
 ghost use Rattle.syntax.specs.Core.{to_next_entry, line_starts_at};
-ghost use Rattle.entry.specs.Place.{Inside, Passed};
+ghost use Rattle.entry.specs.Place.{Passed};
+ghost use Rattle.parser.specs.Place.{Inside};
 
 use syntax::bytes::is_ascii_alphabetic;
 
@@ -30,15 +31,13 @@ pub fn skip_to_next_entry_start(source: &[u8], at: usize) -> usize
     requires { Inside source.now at }
     ensures { Passed source.now at (to_next_entry (line_starts_at at source.now) (drop at source.now)) result }
 {
-    let mut end = at;
     let mut new_line = is_line_start(source, at);
-    while end < source.len() {
+    for end in at..source.len() {
         let b = source[end];
         if is_entry_start(new_line, b) {
             return end;
         }
         new_line = b == b'\n';
-        end += 1;
     }
-    end
+    source.len()
 }

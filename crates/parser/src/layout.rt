@@ -9,11 +9,7 @@ pub fn zero(slice: &mut [u32], from: usize, to: usize)
     requires { (from ≤ to) × (to ≤ length slice.old) }
     ensures { slice.new ≡ take from slice.old ++ (replicate (to - from) 0 ++ drop to slice.old) }
 {
-    let mut i = from;
-    while i < to {
-        slice[i] = 0;
-        i += 1;
-    }
+    slice[from..to].fill(0);
 }
 
 // The sizes of a slice that holds n items, and zeros behind them in both arrays; the second is `size` words long, of which

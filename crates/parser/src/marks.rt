@@ -4,23 +4,21 @@ ghost use Rattle.syntax.specs.Layout.{tree_capacity};
 ghost use Rattle.syntax.specs.Expression.{level};
 ghost use Rattle.syntax.specs.Core.{get_entry};
 ghost use Rattle.entry.specs.Tree.{word, Step, Fits};
-ghost use Rattle.entry.specs.Did.{Did, Entered};
-ghost use Rattle.entry.specs.Entry.{entrying};
+ghost use Rattle.entry.specs.Did.{told, Did};
+ghost use Rattle.entry.specs.Entry.{entry_of};
+ghost use Rattle.parser.specs.Place.{Entered};
 
-use entry::border::{ReadEntry, Tried, put_mark, read_entry};
+use entry::border::{EntryRead, put_mark, read_entry};
 use syntax::layout::SIZES;
 
 // What stands in an entry: the marks of its node are the caller's to write.
-pub fn get_entry(source: &[u8], at: usize, left: usize, tree: &mut [u32], n: usize) -> ReadEntry
+pub fn get_entry(source: &[u8], at: usize, left: usize, tree: &mut [u32], n: usize) -> EntryRead
     requires { Entered source.now tree.old (tree_capacity (length source.now)) at n }
-    ensures { Did entrying (tree_capacity (length source.now)) at n tree.old tree.new result
-        (get_entry (level left) (drop at source.now)) }
+    ensures { Did entry_of (tree_capacity (length source.now)) at n tree.old tree.new
+        (told result.entry result.at result.marks) (get_entry (level left) (drop at source.now)) }
 {
-    match read_entry(source, at, left, tree, n) {
-        Tried::Entry(entry) => entry,
-        // What is required is what is tested.
-        Tried::Refused => ReadEntry::Deep(at),
-    }
+    // What is required is what is tested.
+    read_entry(source, at, left, tree, n).unwrap()
 }
 
 // Writes a mark after n others.

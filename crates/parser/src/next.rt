@@ -9,7 +9,7 @@ ghost use Rattle.parser.specs.Next.{Stoppable, stopped_at, DidAsk};
 
 use crate::junk::skip_to_next_entry_start;
 use crate::marks::get_entry;
-use entry::border::{ReadEntry, skip_blank_lines};
+use entry::border::{EntryRead, Stop, skip_blank_lines};
 use syntax::answer::Refusal;
 use syntax::layout::{SIZES, TREE_WORDS_A_BYTE};
 use syntax::limits::{MAX_LENGTH, MAX_OPEN};
@@ -24,14 +24,14 @@ pub struct Asked {
 }
 
 // Where an entry's reading stopped, for junk its end; nowhere if it nests too deep.
-fn stopped_at(source: &[u8], start: usize, entry: ReadEntry) -> Option<Extent>
-    requires { Stoppable source.now entry }
-    ensures { result ≡ stopped_at source.now start entry }
+fn stopped_at(source: &[u8], start: usize, read: EntryRead) -> Option<Extent>
+    requires { Stoppable source.now read }
+    ensures { result ≡ stopped_at source.now start read }
 {
-    let stop = match entry {
-        ReadEntry::Message(end, _) | ReadEntry::Term(end, _) | ReadEntry::Comment(_, end, _) => end,
-        ReadEntry::Bad(_, k) => skip_to_next_entry_start(source, k),
-        ReadEntry::Deep(_) => return None,
+    let stop = match read.entry {
+        Ok(_) => read.at,
+        Err(Stop::Error(_)) => skip_to_next_entry_start(source, read.at),
+        Err(Stop::TooDeep) => return None,
     };
     Some(Extent { start, stop })
 }
@@ -43,8 +43,8 @@ fn entry_at(source: &[u8], start: usize, tree: &mut [u32]) -> Option<Extent>
         (stop_of (drop start source.now) (get_entry (level max_open) (drop start source.now))))
         × Scratched (tree_layout (length source.now)) tree.old tree.new }
 {
-    let entry = get_entry(source, start, MAX_OPEN, tree, 0);
-    stopped_at(source, start, entry)
+    let read = get_entry(source, start, MAX_OPEN, tree, 0);
+    stopped_at(source, start, read)
 }
 
 fn answer(source: &[u8], at: usize, tree: &mut [u32]) -> Next

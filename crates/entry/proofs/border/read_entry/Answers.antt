@@ -1,31 +1,31 @@
 -- `border::read_entry` meets its contract, by whether an entry can be read.
-use mathlib.Core.Path.{refl}
+use mathlib.Core.Path.{refl, sym, ap, ◌∙◌}
 use native.Mathlib.Omega.{arith}
-use borrow.Author.Rules.{rules}
-use borrow.Author.Tests.{not-true, not-false}
+use Rattle.entry.specs.declared.marks.Marks.{Marks}
 use Rattle.entry.proofs.Tests.{by}
-use Rattle.entry.proofs.Guards.{entered, tried}
+use Rattle.entry.proofs.Guards.{opened}
 use Rattle.entry.proofs.border.read_entry.Goals as goal
 
-pub is_readable-requires : goal.is_readable-requires
-is_readable-requires c = search rules
-
 pub returns-then-not-is_readable : goal.returns-then-not-is_readable
-returns-then-not-is_readable c = rw (by c.is_readable.ensures (not-true _ c.if-not-is_readable.true-raw)) (refl, refl)
+returns-then-not-is_readable c = rw (by c.is_readable.ensures c.if-not-is_readable.true) (refl, refl)
 
-pub overflow_mul-length : goal.overflow_mul-length
-overflow_mul-length c =
-    let a = c.args in
-    omega (
-      arith,
-      (entered a.source.now a.tree.now (by c.is_readable.ensures (not-false _ c.if-not-is_readable.false-raw))).short,
-    )
+pub overflow_mul-marks : goal.overflow_mul-marks
+overflow_mul-marks c = omega (arith, (opened (by c.is_readable.ensures c.if-not-is_readable.false)).short)
 
-pub get_entry-requires : goal.get_entry-requires
-get_entry-requires c = entered _ _ (by c.is_readable.ensures (not-false _ c.if-not-is_readable.false-raw))
+pub invariant_of-marks : goal.invariant_of-marks
+invariant_of-marks c = record { layout = (opened (by c.is_readable.ensures c.if-not-is_readable.false)).layout }
 
-pub shape_of-tree : goal.shape_of-tree
-shape_of-tree c = search rules
+pub invariant_of-parser : goal.invariant_of-parser
+invariant_of-parser c =
+    let o = opened (by c.is_readable.ensures c.if-not-is_readable.false) in
+    record { inside = o.inside; short = o.short }
+
+pub get_entry-entry-requires : goal.get_entry-entry-requires
+get_entry-entry-requires c = record { spent = (opened (by c.is_readable.ensures c.if-not-is_readable.false)).spent }
 
 pub returns : goal.returns
-returns c = rw (by c.is_readable.ensures (not-false _ c.if-not-is_readable.false-raw)) (tried _ c.get_entry.ensures)
+returns c =
+    let a = c.marks-4-1.given.1 (sym c.get_entry-entry.ensures.same) in
+    let w = ap (λ (m : Marks). m.words.ghost_name) a ∙ c.get_entry-entry.ensures.reads.frame.tree.words in
+    let b = c.tree-1.given.1.1 (sym w) in
+    rw (by c.is_readable.ensures c.if-not-is_readable.false, b, a) c.get_entry-entry.ensures.reads.did

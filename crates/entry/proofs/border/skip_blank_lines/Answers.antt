@@ -6,8 +6,8 @@ use Rattle.entry.proofs.border.skip_blank_lines.Goals as goal
 pub returns-then-source-at : goal.returns-then-source-at
 returns-then-source-at c = skipped-none _ _ c.if-source-at.true
 
-pub skip_blank_block-requires : goal.skip_blank_block-requires
-skip_blank_block-requires c = search rules
+pub blank_block-requires : goal.blank_block-requires
+blank_block-requires c = search rules
 
 pub returns : goal.returns
-returns c = skipped _ c.skip_blank_block.ensures
+returns c = skipped _ c.blank_block.ensures

@@ -1,32 +1,22 @@
 -- `pattern::indent` meets its contract.
-use Rattle.entry.proofs.Settle.{indent-none, indent-more, indent-end, indent-other, indent-full}
-use native.Mathlib.Omega.{arith}
-use borrow.Author.Count.{falls}
+use Rattle.std.specs.Prelude.{◌≡◌, length, take, eqb}
+use Rattle.std.specs.List.{take_while}
+use Rattle.std.proofs.Common.{rules, tests}
+use Rattle.std.proofs.lemmas.Iterator.{YieldsList-from_slice, YieldsList-from_take}
+use Rattle.std.proofs.lemmas.Iterator.Consumers.{count_from_yields_List}
+use Rattle.std.proofs.lemmas.Iterator.Search.{YieldsList-from_take_while}
+use Rattle.entry.proofs.Settle.{indent-counted, indent-outside}
 use Rattle.entry.proofs.pattern.indent.Goals as goal
 
-pub loop-n-init : goal.loop-n-init
-loop-n-init c = indent-none _ _ _
-
-pub overflow_add-i : goal.overflow_add-i
-overflow_add-i c = omega arith
-
-pub returns-then-i-source : goal.returns-then-i-source
-returns-then-i-source c = indent-end _ _ _ _ c.loop-n.invariant c.if-i-source.true
-
-pub bounds-source-i : goal.bounds-source-i
-bounds-source-i c = omega arith
-
-pub returns-then-source-i-ne32 : goal.returns-then-source-i-ne32
-returns-then-source-i-ne32 c = indent-other _ _ _ _ c.loop-n.invariant c.if-i-source.false c.if-source-i-ne32.true
-
-pub overflow_add-n : goal.overflow_add-n
-overflow_add-n c = omega arith
-
-pub loop-n-smaller : goal.loop-n-smaller
-loop-n-smaller c = falls _ _ c.loop-n-test.true
-
-pub loop-n-preserved : goal.loop-n-preserved
-loop-n-preserved c = indent-more _ _ _ _ c.loop-n.invariant c.loop-n-test.true c.if-i-source.false c.if-source-i-ne32.false
+pub returns-in_default : goal.returns-in_default
+returns-in_default c = indent-outside c.args.bytes.now c.args.at c.args.most (rw c.in_default.is at c.get.ensures.lookup).0
 
 pub returns : goal.returns
-returns c = indent-full _ _ _ _ c.loop-n.invariant c.loop-n-test.false
+returns c =
+    let n : c.count.result ≡ length (take_while (λ b. eqb b 32) (take c.args.most c.in-Some.rest.now)) =
+    count_from_yields_List c.take_while.result _ c.count.ensures.ran
+    (YieldsList-from_take_while _ (λ b. eqb b 32)
+    (YieldsList-from_take c.args.most (YieldsList-from_slice c.in-Some.rest.now cc) cc) c.take_while.ensures.closure
+    c.take_while.ensures.done (λ x b q k. search (rules, tests))) in
+    let l = rw c.in-Some.is at c.get.ensures.lookup in
+    indent-counted c.args.bytes.now c.args.at c.args.most c.count.result c.in-Some.rest.now l.0.2 n

@@ -1,11 +1,7 @@
 -- `junk::is_entry_start` meets its contract.
-use borrow.Author.Rules.{rules}
 use borrow.Author.Tests.{eq-eqb, ne_eqb}
 use Rattle.entry.proofs.Tests.{by}
 use Rattle.parser.proofs.junk.is_entry_start.Goals as goal
-
-pub is_ascii_alphabetic-requires : goal.is_ascii_alphabetic-requires
-is_ascii_alphabetic-requires c = search rules
 
 pub returns-then-is_ascii_alphabetic : goal.returns-then-is_ascii_alphabetic
 returns-then-is_ascii_alphabetic c =
@@ -18,6 +14,3 @@ returns-then-b-eq45 c =
 pub returns-else-b-eq45 : goal.returns-else-b-eq45
 returns-else-b-eq45 c =
     rw (c.if-fresh.true, by c.is_ascii_alphabetic.ensures c.if-is_ascii_alphabetic.false, ne_eqb _ _ c.if-b-eq45.false)
-
-pub returns-else-fresh : goal.returns-else-fresh
-returns-else-fresh c = search rules
