@@ -1,17 +1,12 @@
 -- Bytes stored where there is room for them.
-use Prim.Native.Nat.{ℕ, zero, suc, ◌+◌, ◌*◌, ◌-◌, ◌^◌, ◌≤◌, ◌<◌}
-use Rattle.std.specs.Prelude.{min}
+use Prim.Native.Nat.{ℕ, zero, suc, ◌+◌, ◌-◌, ◌≤◌}
 use native.Mathlib.Omega.{arith}
 use mathlib.Core.Path.{◌≡◌, refl, sym, ap, ◌∙◌}
-use mathlib.Core.Bool.{true, false}
 use mathlib.Core.List.{List, [], ◌∷◌, ◌++◌, append_assoc}
-use lib.Dec.{ltb}
 use lib.ListN.{length, take, drop, set, replicate, length-set, length-replicate, replicate-append-replicate}
 use lib.Seq.{sets, sets-eq, set_out, take-nil, length-sets, length-take-le}
-use borrow.Author.Tests.{ltb-true, ltb-false}
 use borrow.Rule.Slice.PartMut.{put_mid}
 use Rattle.std.proofs.lemmas.List.{drop-drop}
-use Rattle.laws.specs.Bytes.{by_case}
 use Rattle.laws.specs.Sets.{sets-append}
 
 -- past the end

@@ -1,7 +1,7 @@
 // Numbers in decimal.
 ghost use Rattle.std.specs.Prelude.{◌≡◌, [], ◌∷◌, ◌++◌};
 ghost use Rattle.syntax.specs.Decimal.{decimal};
-ghost use Rattle.output.specs.Put.{Put};
+ghost use Rattle.output.specs.Put.{DidPut};
 
 use crate::text::Output;
 
@@ -10,8 +10,7 @@ const BASE: u64 = 10;
 impl Output<'_> {
     // A number's digits: those before the last one, and the last one.
     pub fn put_number(&mut self, x: u64)
-        ensures same_reference { self.new.bytes.ghost_name ≡ self.old.bytes.ghost_name }
-        ensures put { Put self.old.bytes.now self.new.bytes.now self.old.at self.new.at (decimal x) }
+        ensures { DidPut self.old self.new (decimal x) }
     {
         if x < BASE {
             self.put(b'0' + x as u8);
@@ -23,9 +22,7 @@ impl Output<'_> {
 
     // A number, and the byte that ends it.
     pub fn put_field(&mut self, x: u64, end: u8)
-        ensures same_reference { self.new.bytes.ghost_name ≡ self.old.bytes.ghost_name }
-        ensures put { Put self.old.bytes.now self.new.bytes.now self.old.at self.new.at
-            (decimal x ++ (end ∷ [])) }
+        ensures { DidPut self.old self.new (decimal x ++ (end ∷ [])) }
     {
         self.put_number(x);
         self.put(end);

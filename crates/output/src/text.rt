@@ -3,7 +3,7 @@ ghost use Rattle.std.specs.Prelude.{◌+◌, ◌*◌, ◌≡◌, [], ◌∷◌, 
 ghost use Rattle.std.proofs.lemmas.List.Edits.{sets};
 ghost use Rattle.syntax.specs.Byte as Byte;
 ghost use Rattle.syntax.specs.Serializer.{indent_width};
-ghost use Rattle.output.specs.Put.{Put, counted};
+ghost use Rattle.output.specs.Put.{DidPut};
 
 // A level of indent.
 const INDENT: [u8; INDENT_WIDTH] = *b"    ";
@@ -27,8 +27,7 @@ impl<'a> Output<'a> {
 
     // One byte.
     pub fn put(&mut self, byte: u8)
-        ensures same_reference { self.new.bytes.ghost_name ≡ self.old.bytes.ghost_name }
-        ensures put { Put self.old.bytes.now self.new.bytes.now self.old.at self.new.at (byte ∷ []) }
+        ensures { DidPut self.old self.new (byte ∷ []) }
     {
         if self.at < self.bytes.len() {
             self.bytes[self.at] = byte;
@@ -53,8 +52,7 @@ impl<'a> Output<'a> {
 
     // Bytes, of which as many are stored as there is room for.
     pub fn put_bytes(&mut self, item: &[u8])
-        ensures same_reference { self.new.bytes.ghost_name ≡ self.old.bytes.ghost_name }
-        ensures put { Put self.old.bytes.now self.new.bytes.now self.old.at self.new.at item.now }
+        ensures { DidPut self.old self.new item.now }
     {
         self.store(item);
         self.at = self.at.saturating_add(item.len());
@@ -62,9 +60,7 @@ impl<'a> Output<'a> {
 
     // Levels of indent: those for which there is room, and the part of one.
     pub fn put_indent(&mut self, levels: usize)
-        ensures same_reference { self.new.bytes.ghost_name ≡ self.old.bytes.ghost_name }
-        ensures put { Put self.old.bytes.now self.new.bytes.now self.old.at self.new.at
-            (replicate (indent_width * levels) Byte.space) }
+        ensures { DidPut self.old self.new (replicate (indent_width * levels) Byte.space) }
     {
         let room = self.bytes.len().saturating_sub(self.at);
         let whole = levels.min(room / INDENT_WIDTH);

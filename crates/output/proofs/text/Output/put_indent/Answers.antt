@@ -1,5 +1,5 @@
 -- `Output::put_indent` meets its contract: in the loop the levels so far have been stored.
-use Rattle.std.proofs.Common.{◌+◌, ◌*◌, ◌-◌, ◌≡◌, length, replicate, sym, ap, ap₂, ◌∙◌, arith}
+use Rattle.std.proofs.Common.{◌+◌, ◌*◌, ◌-◌, length, replicate, ap, ap₂, ◌∙◌, arith}
 use lib.ListN.{length-replicate}
 use lib.Seq.{sets, length-sets}
 use borrow.Rule.Slice.PartMut.{put_mid}
@@ -29,17 +29,20 @@ loop-preserved c =
           ∙ ap (λ k. sets start.bytes.now start.at (replicate k Byte.space)) {x = n + indent_width} {y = indent_width * (loop.counter + 1)} (omega arith),
     )
 
-pub returns-then-whole-levels-clause-put : goal.returns-then-whole-levels-clause-put
-returns-then-whole-levels-clause-put c =
+pub returns-then-whole-levels : goal.returns-then-whole-levels
+returns-then-whole-levels c =
     let start = c.args.self.now in
     let loop = c.loop in
     let n = indent_width * loop.counter in
     record {
-      stored =
-          c.store.ensures.stored
-          ∙ ap₂ (λ o k. sets o k (replicate indent_width Byte.space)) loop.invariant.2 loop.invariant.1
-          ∙ sets-repeat start.bytes.now start.at Byte.space n indent_width
-          ∙ sets-repeat-room start.bytes.now start.at Byte.space (n + indent_width) (indent_width * c.args.levels)
-          (omega (arith, c.min-whole.ensures, c.saturating_sub-room.ensures)) (omega (arith, c.min-whole.ensures));
-      next = omega (arith, c.saturating_add-self.ensures, c.saturating_mul-more.ensures, c.store.ensures.at, c.min-whole.ensures, length-replicate (indent_width * c.args.levels) Byte.space);
+      same_reference = c.store.ensures.same_reference ∙ loop.invariant.0;
+      put = record {
+        stored =
+            c.store.ensures.stored
+            ∙ ap₂ (λ o k. sets o k (replicate indent_width Byte.space)) loop.invariant.2 loop.invariant.1
+            ∙ sets-repeat start.bytes.now start.at Byte.space n indent_width
+            ∙ sets-repeat-room start.bytes.now start.at Byte.space (n + indent_width) (indent_width * c.args.levels)
+            (omega (arith, c.min-whole.ensures, c.saturating_sub-room.ensures)) (omega (arith, c.min-whole.ensures));
+        next = omega (arith, c.saturating_add-self.ensures, c.saturating_mul-more.ensures, c.store.ensures.at, c.min-whole.ensures, length-replicate (indent_width * c.args.levels) Byte.space);
+      };
     }

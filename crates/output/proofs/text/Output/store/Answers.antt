@@ -1,5 +1,5 @@
 -- `Output::store` meets its contract: past the output's end nothing is stored.
-use Rattle.std.proofs.Common.{◌+◌, ◌-◌, length, take, sym, ap, ◌∙◌, arith}
+use Rattle.std.proofs.Common.{◌-◌, length, sym, ap, ◌∙◌, arith}
 use borrow.Rule.Slice.PartMut.{put_mid}
 use Rattle.output.proofs.Stores.{sets-past, stored-part, stored-rest}
 use Rattle.output.proofs.text.Output.store.Goals as goal
