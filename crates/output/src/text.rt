@@ -11,6 +11,7 @@ const INDENT: [u8; INDENT_WIDTH] = *b"    ";
 const INDENT_WIDTH: usize = 4;
 
 // A lent output, and the count of what was put. It stays at the largest number, where no output has a byte.
+#[derive(Drop)]
 pub struct Output<'a> {
     pub bytes: &'a mut [u8],
     pub at: usize,

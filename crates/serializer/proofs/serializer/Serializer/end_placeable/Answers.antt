@@ -1,33 +1,25 @@
 -- `Serializer::end_placeable` meets its contract.
-use borrow.Author.Rules.{rules}
 use borrow.Author.Tests.{ne_eqb}
-use mathlib.Core.Path.{refl}
 use Rattle.syntax.specs.Kind as Kind
 use Rattle.serializer.specs.Serialize.{closing_braces, braces_of}
+use Rattle.serializer.proofs.Ways.{wrote-on}
 use Rattle.serializer.proofs.serializer.Serializer.end_placeable.Goals as goal
 
 pub write_literal-requires : goal.write_literal-requires
 unfolding closing_braces
 write_literal-requires c = rw c.if-kind-eq-PLACEABLE.true at c.requires.room
 
-pub shape_of-output-then-kind-eq-PLACEABLE : goal.shape_of-output-then-kind-eq-PLACEABLE
-shape_of-output-then-kind-eq-PLACEABLE c = search rules
-
 pub returns-then-kind-eq-PLACEABLE : goal.returns-then-kind-eq-PLACEABLE
 unfolding closing_braces braces_of
-returns-then-kind-eq-PLACEABLE c = rw c.if-kind-eq-PLACEABLE.true (record { wrote = c.write_literal.ensures; next = refl })
+returns-then-kind-eq-PLACEABLE c = rw c.if-kind-eq-PLACEABLE.true (wrote-on c.write_literal.ensures)
 
 pub write_literal-requires-then-kind-eq-SELECT : goal.write_literal-requires-then-kind-eq-SELECT
 unfolding closing_braces
 write_literal-requires-then-kind-eq-SELECT c = rw c.if-kind-eq-SELECT.true at c.requires.room
 
-pub shape_of-output-then-kind-eq-SELECT : goal.shape_of-output-then-kind-eq-SELECT
-shape_of-output-then-kind-eq-SELECT c = search rules
-
 pub returns-then-kind-eq-SELECT : goal.returns-then-kind-eq-SELECT
 unfolding closing_braces braces_of
-returns-then-kind-eq-SELECT c =
-    rw c.if-kind-eq-SELECT.true (record { wrote = c.write_literal-then-kind-eq-SELECT.ensures; next = refl })
+returns-then-kind-eq-SELECT c = rw c.if-kind-eq-SELECT.true (wrote-on c.write_literal-then-kind-eq-SELECT.ensures)
 
 pub write_literal-requires-2 : goal.write_literal-requires-2
 unfolding closing_braces
@@ -38,9 +30,6 @@ write_literal-requires-2 c =
       ne_eqb _ Kind.select c.if-kind-eq-SELECT.false,
     ) at c.requires.room
 
-pub shape_of-output : goal.shape_of-output
-shape_of-output c = search rules
-
 pub returns : goal.returns
 unfolding closing_braces braces_of
 returns c =
@@ -50,4 +39,4 @@ returns c =
       braces_of,
       ne_eqb _ Kind.select c.if-kind-eq-SELECT.false,
     )
-    (record { wrote = c.write_literal-2.ensures; next = refl })
+    (wrote-on c.write_literal-2.ensures)

@@ -1,15 +1,11 @@
--- `mark_default` meets its contract.
-use borrow.Author.Rules.{rules}
+-- `TextWriter::mark_default` meets its contract.
 use Rattle.syntax.specs.Serializer.{if}
-use Rattle.serializer.proofs.Pieces.{wrote_nothing}
-use Rattle.serializer.proofs.serializer.mark_default.Goals as goal
+use Rattle.serializer.proofs.Pieces.{has_empty}
+use Rattle.serializer.proofs.writer.TextWriter.mark_default.Goals as goal
 
 pub star-requires : goal.star-requires
 unfolding if
 star-requires c = record { le_indent = c.requires.le_indent; room = rw c.if-default.true at c.requires.room }
-
-pub shape_of-output : goal.shape_of-output
-shape_of-output c = search rules
 
 pub returns-then-default : goal.returns-then-default
 unfolding if
@@ -17,4 +13,4 @@ returns-then-default c = rw c.if-default.true c.star.ensures
 
 pub returns-else-default : goal.returns-else-default
 unfolding if
-returns-else-default c = rw c.if-default.false wrote_nothing
+returns-else-default c = rw c.if-default.false has_empty

@@ -1,15 +1,11 @@
--- `newline_after_entry` meets its contract.
-use borrow.Author.Rules.{rules}
+-- `TextWriter::newline_after_entry` meets its contract.
 use Rattle.syntax.specs.Serializer.{if}
-use Rattle.serializer.proofs.Pieces.{wrote_nothing}
-use Rattle.serializer.proofs.serializer.newline_after_entry.Goals as goal
+use Rattle.serializer.proofs.Pieces.{has_empty}
+use Rattle.serializer.proofs.writer.TextWriter.newline_after_entry.Goals as goal
 
 pub newline-requires : goal.newline-requires
 unfolding if
 newline-requires c = rw c.if-wrote_non_junk_entry.true at c.requires
-
-pub shape_of-output : goal.shape_of-output
-shape_of-output c = search rules
 
 pub returns-then-wrote_non_junk_entry : goal.returns-then-wrote_non_junk_entry
 unfolding if
@@ -17,4 +13,4 @@ returns-then-wrote_non_junk_entry c = rw c.if-wrote_non_junk_entry.true c.newlin
 
 pub returns-else-wrote_non_junk_entry : goal.returns-else-wrote_non_junk_entry
 unfolding if
-returns-else-wrote_non_junk_entry c = rw c.if-wrote_non_junk_entry.false wrote_nothing
+returns-else-wrote_non_junk_entry c = rw c.if-wrote_non_junk_entry.false has_empty
