@@ -10,19 +10,20 @@ use Rattle.syntax.specs.Byte as Byte
 use Rattle.syntax.specs.Decimal.{decimal}
 use Rattle.syntax.specs.Listing.{line, lines}
 use Rattle.syntax.specs.Layout.{count, capacity}
-use Rattle.output.specs.Put.{Put}
-use Rattle.output.proofs.Puts.{put-none, put-length, put_as, put_then}
+use Rattle.output.specs.declared.text.Output.{Output}
+use Rattle.output.specs.Put.{DidPut}
+use Rattle.output.proofs.Puts.{put-none, did-length, did_as, did_then}
 use Rattle.output.proofs.Lines.{field_room, line-few, line_first, put_first}
 use Rattle.marks.specs.Rows.{span, rows, mark_row, error_row, read_rows, Held}
 
 -- two numbers, and a line's others
-pub put-after : {o o₁ o₂ : List ℕ} {a a₁ a₂ : ℕ} (x y z : ℕ) (zs : List ℕ) → length o < 2 ^ 64 → Put o o₁ a a₁ (span x y)
-    → Put o₁ o₂ a₁ a₂ (line (z ∷ zs)) → Put o o₂ a a₂ (line (x ∷ y ∷ z ∷ zs))
+pub put-after : {o o₁ o₂ : Output} (x y z : ℕ) (zs : List ℕ) → length o.bytes.now < 2 ^ 64 → DidPut o o₁ (span x y)
+    → DidPut o₁ o₂ (line (z ∷ zs)) → DidPut o o₂ (line (x ∷ y ∷ z ∷ zs))
 unfolding span
 put-after x y z zs l h k =
     let first = decimal x ++ (Byte.space ∷ []) in
     let second = decimal y ++ (Byte.space ∷ []) in
-    put_as (put_then l h k)
+    did_as (did_then h l k)
     (append_assoc first second (line (z ∷ zs)) ∙ ap (λ t. first ++ t) (line_first y z zs) ∙ line_first x y (z ∷ zs))
 
 pub lines_then : (xs ys : List (List ℕ)) → lines (xs ++ ys) ≡ lines xs ++ lines ys
@@ -31,15 +32,15 @@ lines_then [] ys = refl
 lines_then (x ∷ xs) ys = ap (λ t. line x ++ t) (lines_then xs ys) ∙ sym (append_assoc (line x) (lines xs) (lines ys))
 
 -- no row yet, and one more
-pub put-no-row : (f : ℕ → List ℕ) {o : List ℕ} {a : ℕ} → a < 2 ^ 64 → Put o o a a (lines (rows f 0))
+pub put-no-row : (f : ℕ → List ℕ) {o : Output} → o.at < 2 ^ 64 → DidPut o o (lines (rows f 0))
 unfolding rows lines
-put-no-row f l = put-none l
+put-no-row f l = record { same_reference = refl; put = put-none l }
 
-pub put-row : (f : ℕ → List ℕ) (i : ℕ) {o o₁ o₂ : List ℕ} {a a₁ a₂ : ℕ} → length o < 2 ^ 64 → Put o o₁ a a₁ (lines (rows f i))
-    → Put o₁ o₂ a₁ a₂ (line (f i)) → Put o o₂ a a₂ (lines (rows f (i + 1)))
+pub put-row : (f : ℕ → List ℕ) (i : ℕ) {o o₁ o₂ : Output} → length o.bytes.now < 2 ^ 64 → DidPut o o₁ (lines (rows f i))
+    → DidPut o₁ o₂ (line (f i)) → DidPut o o₂ (lines (rows f (i + 1)))
 unfolding rows lines
 put-row f i l g h =
-    put_as (put_then l g h)
+    did_as (did_then g l h)
     (rw add-one (sym (lines_then (rows f i) (f i ∷ []) ∙ ap (λ t. lines (rows f i) ++ t) (append-nil (line (f i))))))
 
 rows_few : (f : ℕ → List ℕ) (size : ℕ) → ((i : ℕ) → length (line (f i)) ≤ size) → (n : ℕ) → length (lines (rows f n)) ≤ size * n
@@ -77,12 +78,12 @@ reading-few t e =
     omega (arith, line-few 0 (count t ∷ count e ∷ []), length-append first (lines (ms ++ es)))
 
 -- all lines
-pub put-reading : {o o₁ o₂ o₃ o₄ : List ℕ} {a a₁ a₂ a₃ a₄ : ℕ} (t e : List ℕ) {n k : ℕ} → length o < 2 ^ 64
-    → n ≡ get_or t 0 0 → k ≡ get_or e 0 0 → Put o o₁ a a₁ (decimal 0 ++ (Byte.space ∷ [])) → Put o₁ o₂ a₁ a₂ (line (n ∷ k ∷ []))
-    → Put o₂ o₃ a₂ a₃ (lines (rows (mark_row t) (count t)))
-    → Put o₃ o₄ a₃ a₄ (lines (rows (error_row e) (count e))) → Put o o₄ a a₄ (lines (read_rows t e))
+pub put-reading : {o o₁ o₂ o₃ o₄ : Output} (t e : List ℕ) {n k : ℕ} → length o.bytes.now < 2 ^ 64 → n ≡ get_or t 0 0 → k ≡ get_or e 0 0
+    → DidPut o o₁ (decimal 0 ++ (Byte.space ∷ [])) → DidPut o₁ o₂ (line (n ∷ k ∷ []))
+    → DidPut o₂ o₃ (lines (rows (mark_row t) (count t))) → DidPut o₃ o₄ (lines (rows (error_row e) (count e)))
+    → DidPut o o₄ (lines (read_rows t e))
 unfolding read_rows lines count
 put-reading t e s p q f g h l =
-    let first = put_first 0 (count t) (count e ∷ []) s f (put_as g (cc)) in
-    let rest = put_then (omega (arith, put-length first)) h l in
-    put_then s first (put_as rest (sym (lines_then (rows (mark_row t) (count t)) (rows (error_row e) (count e)))))
+    let first = put_first 0 (count t) (count e ∷ []) s f (did_as g (cc)) in
+    let rest = did_then h (omega (arith, did-length first)) l in
+    did_then first s (did_as rest (sym (lines_then (rows (mark_row t) (count t)) (rows (error_row e) (count e)))))

@@ -7,6 +7,7 @@ ghost use Rattle.marks.specs.Report.{max_source, Lent, Reported};
 mod listing;
 
 use crate::listing::{put_pair, put_reading};
+use output::text::Output;
 use parser::read::read;
 use std::io;
 use std::io::{Cursor, Read};
@@ -25,10 +26,13 @@ fn report(source: &[u8], tree: &mut [u32], errors: &mut [u32], output: &mut [u8]
     ensures { Reported source.now output.old output.new result }
 {
     let answer = read(source, tree, errors);
+    let mut lent = Output::new(output);
     if let Answer::Accepted(_) = answer {
-        return put_reading(tree, errors, output);
+        put_reading(tree, errors, &mut lent);
+        return lent.at;
     }
-    put_pair(output, 0, number(answer) as u64, value(answer))
+    put_pair(&mut lent, number(answer) as u64, value(answer));
+    lent.at
 }
 
 // Prints what a source gives.

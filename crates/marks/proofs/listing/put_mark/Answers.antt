@@ -3,7 +3,7 @@ use native.Mathlib.Omega.{arith}
 use mathlib.Core.Path.{ap}
 use Rattle.syntax.specs.Layout.{capacity}
 use Rattle.syntax.specs.Listing.{line}
-use Rattle.output.proofs.Puts.{put_as}
+use Rattle.output.proofs.Puts.{did_as}
 use Rattle.marks.proofs.Lines.{mark-row}
 use Rattle.marks.proofs.listing.put_mark.Goals as goal
 
@@ -17,6 +17,6 @@ returns c =
     let room = c.word in
     let kind = c.word-2 in
     let place = c.word-3 in
-    put_as c.put_pair.ensures
+    did_as c.put_pair.ensures
     (ap line
     (mark-row start.tree.now start.i room.result kind.result place.result room.ensures kind.ensures place.ensures))

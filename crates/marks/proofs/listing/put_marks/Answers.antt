@@ -1,14 +1,24 @@
 -- `put_marks` meets its contract: in the loop the lines so far have been put.
-use native.Mathlib.Omega.{arith}
+use Rattle.std.proofs.Common.{◌≡◌, ap, arith, rules}
 use Rattle.syntax.specs.Layout.{count}
+use Rattle.syntax.specs.Listing.{lines}
+use Rattle.output.proofs.Puts.{did_as}
+use Rattle.marks.specs.Rows.{rows, mark_row}
 use Rattle.marks.proofs.Lines.{put-no-row, put-row}
 use Rattle.marks.proofs.listing.put_marks.Goals as goal
 
 pub loop-i-init : goal.loop-i-init
+loop-i-init c = put-no-row _ (search rules)
+
+pub put_mark-requires : goal.put_mark-requires
 unfolding count
-loop-i-init c = (c.word-n.ensures, (omega arith, put-no-row _ (omega arith)))
+put_mark-requires c = record { held = c.requires; i_bound = omega (arith, c.word-n.ensures, c.loop-i-test.true) }
 
 pub loop-i-preserved : goal.loop-i-preserved
-loop-i-preserved c =
-    let inv = c.loop-i.invariant in
-    let row = put-row _ _ (omega arith) inv.1.1 c.put_mark-next.ensures in (inv.0, (omega (arith, c.loop-i-test.true), row))
+loop-i-preserved c = put-row _ _ (omega arith) c.loop-i.invariant c.put_mark.ensures
+
+pub returns : goal.returns
+unfolding count
+returns c =
+    let e : c.loop-i.i ≡ count c.args.tree.now = omega (arith, c.word-n.ensures, c.loop-i-test.false) in
+    did_as c.loop-i.invariant (ap (λ k. lines (rows (mark_row c.args.tree.now) k)) e)
