@@ -25,6 +25,7 @@ use Rattle.laws.specs.Values.{Fits, inline-fits}
 use Rattle.entry.specs.declared.errors.Stop.{Stop}
 use Rattle.entry.specs.declared.errors.Stop.TheVariants.{Error, TooDeep}
 use Rattle.entry.specs.declared.source.Source.{Source}
+use Rattle.entry.specs.declared.parser.Parser.{Parser}
 use Rattle.entry.specs.declared.marks.Marks.{Marks}
 use Rattle.entry.specs.declared.expression.Argument.{Argument}
 use Rattle.entry.specs.declared.expression.Argument.TheVariants.{Positional, Named}
@@ -38,13 +39,13 @@ use Rattle.entry.specs.Names.{Names, named_words}
 use Rattle.entry.specs.Marks.{Wrote, Same}
 use Rattle.entry.specs.Did.{silent, told, Did}
 use Rattle.entry.specs.Place.{Went}
-use Rattle.entry.specs.Reads.{rest, Goes, ReadsOf}
+use Rattle.entry.specs.Reads.{rest, Goes, Room, ReadsOf}
 use Rattle.entry.specs.Shape.{shape_at}
 use Rattle.entry.specs.Argument.{name_by, NameAs, NameIs, EndsPositional, argument_read, argument_of}
 use Rattle.entry.proofs.Steps.{step_cut, step_then}
 use Rattle.entry.proofs.Dids.{valued, lost, far, did-found, did-lost, did-far, failed-wrote, text-placed, fault-up, fault-here, words-length}
 use Rattle.entry.proofs.Chains.{reads-next, reads-goes, reads-map, reads-then, reads-node, reads-node-stop, reads-stop}
-use Rattle.entry.proofs.Cycle.{reads-byte}
+use Rattle.entry.proofs.Cycle.{length-same, with-here, reads-byte}
 use Rattle.entry.proofs.NamedBefore.{names_more}
 
 -- ---- blanks that were passed
@@ -108,6 +109,21 @@ pub record NamedAt (s s₂ : Source) (end : ℕ) (o : Out Inline) : Type 0 where
   pub colon : starts_with Byte.colon (rest s₂) ≡ true
   pub order : end ≤ s₂.ptr
   pub bytes : s₂.bytes ≡ s.bytes
+
+-- there is room for the marks of a named argument: a byte is left, the ':'
+pub argument-room : {p : Parser} {s₂ : Source} {m₁ : Marks} {end : ℕ} {o : Out Inline} → Room p 0 → Same p.tree.now m₁ → NamedAt p.source s₂ end o
+    → p.tree.now.count + 8 ≤ m₁.capacity
+argument-room {p} {s₂} r f v =
+    omega (
+      arith,
+      f.capacity,
+      p.holds,
+      length-same v.bytes,
+      with-here Byte.colon s₂ v.colon,
+      v.order,
+      v.stop,
+      r.spent,
+    )
 
 -- no name, where the blanks were passed or not
 pub record UnnamedAt (s s₂ : Source) (m m₁ : Marks) (o : Out Inline) : Type 0 where

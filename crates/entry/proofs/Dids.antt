@@ -11,7 +11,7 @@ use Rattle.syntax.specs.declared.errors.ErrorKind.{ErrorKind}
 use Rattle.syntax.specs.declared.errors.ParserError.{ParserError}
 use Rattle.syntax.specs.Errors.{up_kind, up_fault, fault_at}
 use Rattle.syntax.specs.Marks.{Mark, plain, move_up, node, text_node}
-use Rattle.syntax.specs.Reader.{Out, ok, bad, deep, Reader, after, next, ◌>>=◌, ◌>>◌, pure, fail, wrap, Turn, again, repeat}
+use Rattle.syntax.specs.Reader.{Out, ok, bad, deep, Reader, after, next, pure, fail, wrap, Turn, again, repeat}
 use Rattle.laws.specs.Loop.{Moves, repeat-again}
 use Rattle.laws.specs.Moving.{map-append, move_up-append, move_up-twice, after-after}
 use Rattle.entry.specs.Tree.{Word, word, word_of, words_at, Step}

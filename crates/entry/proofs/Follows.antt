@@ -28,7 +28,8 @@ use Rattle.entry.specs.Place.{Tests}
 use Rattle.entry.specs.Reads.{rest, Goes, Finds}
 use Rattle.entry.specs.Shape.{shape_at, content_at, selector_at, is_attribute_of_term, refused_if, followed_by, Followed, Fails}
 use Rattle.entry.proofs.Tests.{starts-with, second-next}
-use Rattle.entry.proofs.Sources.{goes-then, goes-pure, finds-ok, finds-fail, finds-stop, finds-fails, finds-goes}
+use Rattle.entry.proofs.Moves.{stop-then}
+use Rattle.entry.proofs.Sources.{goes-both, goes-pure, finds-ok, fails-here, finds-fails, finds-goes}
 use Rattle.entry.proofs.Sources.{Leads, leads-here, leads-then, leads-bind, leads-byte, leads-trans, fails-after}
 
 -- ---- a term's attribute
@@ -45,7 +46,7 @@ attribute-same b select = refl
 
 pub attribute-finds : (s : Source) (v : Bool) → Finds s s (no_term_attribute v (rest s)) (refused_if v s.ptr TermAttributeAsPlaceable)
 unfolding no_term_attribute
-attribute-finds s true = finds-fail s TermAttributeAsPlaceable refl
+attribute-finds s true = fails-here s TermAttributeAsPlaceable refl
 attribute-finds s false = finds-ok s tt
 
 -- ---- selectors
@@ -55,11 +56,11 @@ selector-finds s b string = finds-ok s tt
 selector-finds s b number = finds-ok s tt
 selector-finds s b variable = finds-ok s tt
 selector-finds s b function = finds-ok s tt
-selector-finds s b inner = finds-fail s ExpectedSimpleExpressionAsSelector refl
-selector-finds s b (message n true) = finds-fail s MessageAttributeAsSelector refl
-selector-finds s b (message n false) = finds-fail s MessageReferenceAsSelector refl
+selector-finds s b inner = fails-here s ExpectedSimpleExpressionAsSelector refl
+selector-finds s b (message n true) = fails-here s MessageAttributeAsSelector refl
+selector-finds s b (message n false) = fails-here s MessageReferenceAsSelector refl
 selector-finds s b (term true) = finds-ok s tt
-selector-finds s b (term false) = finds-fail s TermReferenceAsSelector refl
+selector-finds s b (term false) = fails-here s TermReferenceAsSelector refl
 
 selector-shallow : (at : ℕ) (x : Expression) → selector_at at x ≡ Err TooDeep → ⊥
 selector-shallow at StringLiteral h = let z : ◌≡◌ {A = ℕ} 0 1 = cc in omega arith
@@ -108,8 +109,8 @@ module _ {s s₁ : Source} (x : Expression) (w : Goes s s₁ (skip_blank (rest s
               rw (sym e ∙ f) at (attribute-finds s₁ (is_attribute_of_term x)) in
               let a : Goes s₁ s₁ (after_inline sub i (rest s₁)) (inline i) =
               rw (there sub b i q)
-              (goes-then (no_term_attribute (is_attribute_of_term x)) (pure (inline i)) (finds-goes d) (goes-pure s₁ (inline i))) in
-              let z : Goes s s₁ (followed_by sub i (rest s)) (inline i) = goes-then skip_blank (after_inline sub i) w a in
+              (goes-both (no_term_attribute (is_attribute_of_term x)) (pure (inline i)) (finds-goes d) (goes-pure s₁ (inline i))) in
+              let z : Goes s s₁ (followed_by sub i (rest s)) (inline i) = goes-both skip_blank (after_inline sub i) w a in
               z.went;
         }
 
@@ -128,7 +129,7 @@ module _ {s s₁ : Source} (x : Expression) (w : Goes s s₁ (skip_blank (rest s
               is =
                   λ sub b i q.
                   let z : Fails s₁.ptr g s₁.ptr (after_inline sub i (rest s₁)) =
-                  rw (there sub b i q) (finds-fails (finds-stop (no_term_attribute (is_attribute_of_term x)) (pure (inline i)) d)) in
+                  rw (there sub b i q) (finds-fails (stop-then (no_term_attribute (is_attribute_of_term x)) (pure (inline i)) d)) in
                   fails-after (leads-then skip_blank (after_inline sub i) w (leads-here s₁.ptr (after_inline sub i (rest s₁)))) z;
             }
         go TooDeep d = absurd (d.shallow refl)
@@ -153,7 +154,7 @@ module _ {s s₁ : Source} (x : Expression) (w : Goes s s₁ (skip_blank (rest s
                   let d : Finds s₁ s₁ (selector i (rest s₁)) (Err (Error g)) =
                   rw (ap (selector_at s₁.ptr) (sym q) ∙ h) at (selector-finds s₁ b i) in
                   let z : Fails s₁.ptr g s₁.ptr (after_inline sub i (rest s₁)) =
-                  rw (chosen sub i) (finds-fails (finds-stop (selector i) _ d)) in
+                  rw (chosen sub i) (finds-fails (stop-then (selector i) _ d)) in
                   fails-after (leads-then skip_blank (after_inline sub i) w (leads-here s₁.ptr (after_inline sub i (rest s₁)))) z;
             }
         go TooDeep h = absurd (selector-shallow s₁.ptr x h)
@@ -193,7 +194,7 @@ module _ {s s₁ : Source} (x : Expression) (w : Goes s s₁ (skip_blank (rest s
             is =
                 λ sub b i q. fails-after (opened sub b i q)
                 (fails-after (leads-bind skip_eol _ e (leads-here s₄.ptr _))
-                (finds-fails (finds-stop (fail (ExpectedCharRange LineEnd)) _ (finds-fail s₄ (ExpectedCharRange LineEnd) refl))));
+                (finds-fails (stop-then (fail (ExpectedCharRange LineEnd)) _ (fails-here s₄ (ExpectedCharRange LineEnd) refl))));
           }
 
       pub followed-select : {s₄ s₅ : Source} → Goes s₃ s₄ (skip_eol (rest s₃)) true → Goes s₄ s₅ (skip_blank (rest s₄)) tt

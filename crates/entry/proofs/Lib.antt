@@ -8,6 +8,7 @@ pub mod Moves
 pub mod Turns
 pub mod Strings
 pub mod Slices
+pub mod MarksFrom
 pub mod Insert
 pub mod Dids
 pub mod Chains
@@ -25,7 +26,6 @@ pub mod Follows
 pub mod Cycle
 pub mod Starts
 pub mod References
-pub mod MarksFrom
 pub mod Selects
 pub mod Variants
 pub mod NamedBefore

@@ -4,10 +4,9 @@ use mathlib.Core.Path.{refl, sym, ap, ◌∙◌}
 use native.Mathlib.Numerals.{add-one}
 use native.Mathlib.Omega.{arith}
 use lib.ListN.{length-drop, drop_of_length-le}
-use lib.Seq.{drop-cons, drop-drop, take_all}
+use lib.Seq.{drop-cons, take_all}
 use borrow.Author.Tests.{ltb-true, ltb-false}
-use Rattle.syntax.specs.Byte as Byte
-use Rattle.syntax.specs.Bytes.{starts_with, eol}
+use Rattle.syntax.specs.Bytes.{eol}
 use Rattle.syntax.specs.Reader.{ok}
 use Rattle.syntax.specs.Comment.{line_length}
 use Rattle.syntax.specs.Helper.{skip_eol}

@@ -1,5 +1,5 @@
 -- Moves over a source, one after the other.
-use Rattle.std.specs.Prelude.{◌≡◌, ℕ, ◌+◌, ◌-◌, ◌≤◌, true, Result, Ok, Err, List, [], drop}
+use Rattle.std.specs.Prelude.{◌≡◌, ℕ, ◌+◌, ◌-◌, ◌≤◌, true, Ok, Err, List, [], drop}
 use mathlib.Core.Path.{refl, sym, ap, ◌∙◌}
 use native.Mathlib.Nat.{add-zero}
 use native.Mathlib.Omega.{arith}
@@ -12,13 +12,13 @@ use Rattle.syntax.specs.Marks.{move_up}
 use Rattle.syntax.specs.Reader.{Out, ok, Reader, after, next, ◌>>=◌, ◌>>◌, pure, fail}
 use Rattle.syntax.specs.Helper.{expect_byte}
 use Rattle.laws.specs.Moving.{after-after, after_none}
-use Rattle.entry.specs.declared.errors.Stop.{Stop}
-use Rattle.entry.specs.declared.errors.Stop.TheVariants.{Error, TooDeep}
+use Rattle.entry.specs.declared.errors.Stop.TheVariants.{Error}
 use Rattle.entry.specs.declared.source.Source.{Source}
 use Rattle.entry.specs.Place.{Went}
 use Rattle.entry.specs.Reads.{rest, Goes, Finds}
 use Rattle.entry.specs.Shape.{Fails}
-use Rattle.entry.proofs.Places.{found_ok, found-fail, found-stop, found_at, found-bad, went-next, expect-yes}
+use Rattle.entry.proofs.Moves.{finds-fail}
+use Rattle.entry.proofs.Places.{found_ok, found_at, found-bad, expect-yes}
 use Rattle.entry.proofs.Dids.{fault-up}
 
 went_then : {A B : Type 0} {s : List ℕ} {at i r : ℕ} {o : Out A} {a : A} {b : B} (q : A → Reader B) → Went s at o a i
@@ -33,14 +33,14 @@ went_then {s = s} {at} {i} {r} {a = a} {b} q w v =
 
 -- ---- answers
 module _ {A B : Type 0} {s s₁ s₂ : Source} {a : A} {b : B} where
-  pub goes-next : {o : Out A} (q : A → Reader B) → Goes s s₁ o a → Goes s₁ s₂ (q a (rest s₁)) b → Goes s s₂ (next (rest s) q o) b
-  goes-next {o} q g h =
+  goes_next : {o : Out A} (q : A → Reader B) → Goes s s₁ o a → Goes s₁ s₂ (q a (rest s₁)) b → Goes s s₂ (next (rest s) q o) b
+  goes_next {o} q g h =
       let w : Went s.bytes.now s₁.ptr (q a (drop s₁.ptr s.bytes.now)) b s₂.ptr = rw g.bytes at h.went in
       record { bytes = h.bytes ∙ g.bytes; went = went_then q g.went w }
 
-  pub goes-then : (f : Reader A) (q : Reader B) → Goes s s₁ (f (rest s)) a → Goes s₁ s₂ (q (rest s₁)) b → Goes s s₂ ((f >> q) (rest s)) b
+  pub goes-both : (f : Reader A) (q : Reader B) → Goes s s₁ (f (rest s)) a → Goes s₁ s₂ (q (rest s₁)) b → Goes s s₂ ((f >> q) (rest s)) b
   unfolding ◌>>◌
-  goes-then f q g h = goes-next (λ _. q) g h
+  goes-both f q g h = goes_next (λ _. q) g h
 
 pub goes-pure : {A : Type 0} (s : Source) (a : A) → Goes s s (pure a (rest s)) a
 unfolding pure
@@ -58,29 +58,9 @@ finds-ok s a =
       shallow = λ e. let z : ◌≡◌ {A = ℕ} 0 1 = cc in omega arith;
     }
 
-pub finds-fail : {A : Type 0} (s : Source) (kind : ErrorKind) → up_kind s.ptr kind ≡ kind
+pub fails-here : {A : Type 0} (s : Source) (kind : ErrorKind) → up_kind s.ptr kind ≡ kind
     → Finds s s (fail {A = A} kind (rest s)) (Err (Error (fault_at kind s.ptr)))
-finds-fail s kind u =
-    record {
-      bytes = refl;
-      found = found-fail (rest s) kind refl s.inside u refl;
-      shallow = λ e. let z : ◌≡◌ {A = ℕ} 0 1 = cc in omega arith;
-    }
-
-module _ {A B : Type 0} {s s₁ : Source} (f : Reader A) (q : Reader B) where
-  pub finds-then : {s₂ : Source} {a : A} {r : Result (Unit {0}) Stop} → Goes s s₁ (f (rest s)) a → Finds s₁ s₂ (q (rest s₁)) r
-      → Finds s s₂ ((f >> q) (rest s)) r
-  unfolding ◌>>◌
-  finds-then g h =
-      record { bytes = h.bytes ∙ g.bytes; found = went-next (λ _. q) g.went (rw g.bytes at h.found); shallow = h.shallow }
-
-  pub finds-stop : {e : Stop} → Finds s s₁ (f (rest s)) (Err e) → Finds s s₁ ((f >> q) (rest s)) (Err e)
-  unfolding ◌>>◌
-  finds-stop {e} h = go e h
-    where
-      go : (e : Stop) → Finds s s₁ (f (rest s)) (Err e) → Finds s s₁ ((f >> q) (rest s)) (Err e)
-      go (Error x) h = record { bytes = h.bytes; found = found-stop (rest s) (λ _. q) h.found refl; shallow = h.shallow }
-      go TooDeep h = absurd (h.shallow refl)
+fails-here s kind u = finds-fail (rest s) kind refl u refl
 
 pub finds-goes : {s s₁ : Source} {o : Out (Unit {0})} {u : Unit {0}} → Finds s s₁ o (Ok u) → Goes s s₁ o tt
 finds-goes {s} {s₁} {o} h =

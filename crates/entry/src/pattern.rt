@@ -128,6 +128,7 @@ impl Parser<'_, '_, '_> {
         ensures same { self.new.tree.ghost_name ≡ self.old.tree.ghost_name }
         ensures reads { Settled from common self.old self.new }
     {
+        // By index: each turn reads a place and writes it in both arrays of one slice.
         for i in from..self.tree.count {
             let kind = SIZES + i;
             let place = SIZES + self.tree.capacity + i;

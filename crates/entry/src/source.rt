@@ -1,4 +1,5 @@
-// A source, and a place in it. The functions that move over it stand in helper.rt and string.rt.
+// A source, and a place in it. The functions that move over it stand in helper.rt and string.rt. Their loops are by `while`: each turn moves
+// the place itself, by any of these functions, and an iterator over the bytes would have to hold it meanwhile.
 ghost use Rattle.std.specs.Prelude.{◌≤◌, length};
 ghost use Rattle.syntax.specs.Limits.{max_length};
 

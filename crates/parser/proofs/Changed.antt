@@ -7,7 +7,7 @@ use lib.ListN.{length, get_or, take, drop, set, length-set, length-append}
 use lib.Seq.{get_or-set_same, get_or-set_other, take-set-le, drop-set-lt, take_at, drop_at}
 use Rattle.entry.specs.Tree.{Word, word, marks_in, marks_from, Step}
 use Rattle.entry.proofs.Steps.{marks-length, marks-same}
-use Rattle.entry.proofs.Insert.{marks-split}
+use Rattle.entry.proofs.MarksFrom.{marks-split}
 
 from-same : (cap i c : ℕ) (t t' : List ℕ) → ((j : ℕ) → i ≤ j → get_or t' (j + 2) 0 ≡ get_or t (j + 2) 0)
     → ((j : ℕ) → i ≤ j → get_or t' (cap + j + 2) 0 ≡ get_or t (cap + j + 2) 0)

@@ -167,6 +167,7 @@ pub fn parse(source: &[u8], tree: &mut [u32], errors: &mut [u32]) -> Result<Coun
         (Core.parse max_open source.now) }
 {
     let mut state = go_on(source, 0, 0, 0, None);
+    // No iterator: each turn answers the state from which the next goes on.
     while state.at < source.len() {
         state = parse_entry(source, tree, errors, state)?;
     }

@@ -1,4 +1,4 @@
-// The content models (document 01) as a table, and what else the check asks of a kind.
+// The content models as a table, and what else the check asks of a kind.
 ghost use Rattle.std.specs.Prelude.{◌≡◌, ◌≤◌};
 ghost use Rattle.syntax.specs.Kind.{is_text, number_of};
 ghost use Rattle.syntax.specs.Shape.{step, final, opens, needs};
@@ -189,7 +189,7 @@ fn models() -> &'static Models
     &MODELS
 }
 
-// A node that is open: its kind, none for the list, and the state that its children have led to.
+// A node that is open: its kind, none for the list, and the state that its children have led to, the number of a row of the table.
 #[derive(Clone, Copy)]
 pub struct Node {
     pub kind: Option<Kind>,

@@ -9,7 +9,7 @@ use Rattle.entry.proofs.NamedBefore.{names-some, names-cut}
 use Rattle.entry.proofs.ArgumentTurns.{names-same}
 use Rattle.entry.proofs.Dids.{failed-wrote}
 use Rattle.entry.proofs.Cycle.{length-same, with-here}
-use Rattle.entry.proofs.Arguments.{argument-stop, named-at, unnamed-at, ends-positional, no-error, not_named}
+use Rattle.entry.proofs.Arguments.{argument-stop, argument-room, named-at, unnamed-at, ends-positional, no-error, not_named}
 use Rattle.entry.proofs.Arguments.{among-same, reads-twice, stop-named, reads-named, more-names}
 use Rattle.laws.specs.Bounds.Expression.{level-bounds, inline-expression-bounds}
 use Rattle.syntax.specs.Byte as Byte
@@ -65,41 +65,14 @@ pub get_argument-open-requires : goal.get_argument-open-requires
 get_argument-open-requires t c =
     let d = c.get_inline_expression.ensures.reads in
     let v = named-at c.args.left (rw c.in_ok-exp.was at d) c.argument_name.ensures c.in-Some.is in
-    let p = c.args.self.now in
-    record {
-      room =
-          omega (
-            arith,
-            d.frame.tree.capacity,
-            p.holds,
-            length-same v.bytes,
-            with-here Byte.colon c.argument_name.new.self v.colon,
-            v.order,
-            v.stop,
-            c.requires.room.spent,
-          );
-    }
+    record { room = omega (arith, argument-room {p = c.args.self.now} c.requires.room d.frame.tree v) }
 
 pub get_argument-text-requires-clause-room : goal.get_argument-text-requires-clause-room
 get_argument-text-requires-clause-room t c =
     let d = c.get_inline_expression.ensures.reads in
     let v = named-at c.args.left (rw c.in_ok-exp.was at d) c.argument_name.ensures c.in-Some.is in
-    let p = c.args.self.now in
-    record {
-      room =
-          omega (
-            arith,
-            d.frame.tree.capacity,
-            p.holds,
-            length-same v.bytes,
-            with-here Byte.colon c.argument_name.new.self v.colon,
-            v.order,
-            v.stop,
-            c.requires.room.spent,
-            c.open.ensures.count,
-            c.open.ensures.same.capacity,
-          );
-    }
+    let r = argument-room {p = c.args.self.now} c.requires.room d.frame.tree v in
+    record { room = omega (arith, r, c.open.ensures.count, c.open.ensures.same.capacity) }
 
 pub get_argument-invariant_of-self-3 : goal.get_argument-invariant_of-self-3
 get_argument-invariant_of-self-3 t c =
