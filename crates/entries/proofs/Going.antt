@@ -5,9 +5,7 @@ use mathlib.Core.Path.{subst, ◌≡◌, refl, sym, ap, ap₂, ◌∙◌}
 use mathlib.Core.List.{List, [], ◌∷◌, ◌++◌, append_assoc, append-nil}
 use lib.ListN.{length, take, drop, set, take-append-drop}
 use lib.Seq.{drop-drop, length-take-le}
-use Rattle.std.specs.Prelude.{None, Some}
-use Rattle.std.specs.Prelude.{Option as Maybe}
-use Rattle.std.specs.Result.{result_unwrap_or}
+use Rattle.std.specs.Prelude.{Ok, Some}
 use Rattle.std.proofs.lemmas.List.{length-set, take_more_set, drop-set-lt}
 use Rattle.syntax.specs.declared.next.Extent.{Extent}
 use Rattle.syntax.specs.Next.{Next, entries_of, first_place, next_answer}
@@ -38,23 +36,20 @@ pub record Found (s : List ℕ) (at : ℕ) (x : Extent) : Type 0 where
   pub within : x.stop ≤ length s
   pub first : entries_after s at ≡ x ∷ entries_after s x.stop
 
--- the call from a place: o is the entry that it found, if any
-module _ {s t : List ℕ} {xs xs' : List Extent} {at n m : ℕ} {r : Next} {o : Maybe Extent} (l : Lent s t xs) (g : Going s xs xs' at n)
-    (k : m ≡ length t) (h : r ≡ next_answer s at m) (u : o ≡ result_unwrap_or r None) where
+-- the call from a place, which answered r
+module _ {s t : List ℕ} {xs xs' : List Extent} {at n m : ℕ} {r : Next} (l : Lent s t xs) (g : Going s xs xs' at n)
+    (k : m ≡ length t) (h : r ≡ next_answer s at m) where
   told : Answered s at m
   told = answered s at m (omega (arith, l.source, l.tree))
 
-  found_by : {z : Next} → next_answer s at m ≡ z → o ≡ result_unwrap_or z None
-  found_by p = u ∙ ap (λ y. result_unwrap_or y None) (h ∙ p)
-
-  module _ {x : Extent} (q : o ≡ Some x) where
+  module _ {x : Extent} (q : r ≡ Ok (Some x)) where
     pub found : Found s at x
     found = go told
       where
         go : Answered s at m → Found s at x
-        go (ends p e) = let w = found_by p in let z : ◌≡◌ {A = ℕ} 0 1 = cc in absurd (omega arith)
+        go (ends p e) = let w = h ∙ p in let z : ◌≡◌ {A = ℕ} 0 1 = cc in absurd (omega arith)
         go (finds {a = a} {e = e} p f i j w) =
-            let y = found_by p in
+            let y = h ∙ p in
             let same : (record { start = a; stop = e }) ≡ x = cc in
             subst (Found s at) same (record { before = i; some = j; within = w; first = f })
 
@@ -75,7 +70,7 @@ module _ {s t : List ℕ} {xs xs' : List Extent} {at n m : ℕ} {r : Next} {o : 
         }
 
   -- no entry: all are listed
-  pub going_end : ((x : Extent) → o ≡ Some x → ⊥) → Listed s xs xs' n
+  pub going_end : ((x : Extent) → r ≡ Ok (Some x) → ⊥) → Listed s xs xs' n
   going_end done = go told
     where
       go : Answered s at m → Listed s xs xs' n
@@ -87,4 +82,4 @@ module _ {s t : List ℕ} {xs xs' : List Extent} {at n m : ℕ} {r : Next} {o : 
             entries = sym (take-append-drop n xs') ∙ ap₂ (λ u v. u ++ v) all g.rest;
             within = within;
           }
-      go (finds {a = a} {e = e} p f i j w) = absurd (done (record { start = a; stop = e }) (found_by p))
+      go (finds {a = a} {e = e} p f i j w) = absurd (done (record { start = a; stop = e }) (h ∙ p))

@@ -14,15 +14,15 @@ use syntax::next::Extent;
 // The most bytes of a source.
 const MAX_SOURCE: usize = 4_000;
 
-// Puts where each entry stands into the list. Answers how many entries there are. A loop, since each call is lent the tree again, as
-// no iterator could be.
+// Puts where each entry stands into the list. Answers how many entries there are. A loop, since an iterator would be a struct of its own
+// that holds the lent tree.
 fn list_entries(source: &[u8], tree: &mut [u32], list: &mut [Extent]) -> usize
     requires { Lent source.now tree.old list.old }
     ensures { Listed source.now list.old list.new result }
 {
     let mut at = first_place(source);
     let mut n = 0;
-    while let Some(extent) = entry_after(source, at, tree).unwrap_or(None) {
+    while let Ok(Some(extent)) = entry_after(source, at, tree) {
         list[n] = extent;
         at = extent.stop;
         n += 1;

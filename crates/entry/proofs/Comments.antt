@@ -1,16 +1,16 @@
 -- Lines of a comment: a turn at places of a source, and the loop over turns with marks.
-use Rattle.std.specs.Prelude.{◌≡◌, ℕ, suc, ◌+◌, ◌-◌, ◌*◌, ◌<◌, ◌≤◌, Bool, true, false, not, ◌&&◌, ◌||◌, eqb, ltb, List, [], ◌∷◌, length, get_or, drop, Result, Ok, Err}
-use denote.Ref.{Bor}
+use Rattle.std.specs.Prelude.{◌≡◌, ℕ, ◌+◌, ◌-◌, ◌*◌, ◌<◌, ◌≤◌, Bool, true, false, not, ◌&&◌, ◌||◌, eqb, ltb, List, [], ◌∷◌, length, take, drop, Result, Ok, Err, Option, Some, None, is_some, IsSome}
 use mathlib.Core.Path.{refl, sym, ap, ap₂, ◌∙◌}
 use native.Mathlib.Nat.{not-suc-le-zero, add-zero}
-use native.Mathlib.Numerals.{add-one}
 use native.Mathlib.Omega.{arith}
 use lib.ListN.{length-drop, drop_of_length-le}
-use lib.Seq.{drop-cons, drop-drop}
+use lib.Seq.{drop-drop, take_all}
+use Rattle.std.specs.List.{take_while}
+use Rattle.std.proofs.lemmas.List.Folds.{length-prefix_len}
 use borrow.Author.Tests.{ne_eqb, ltb-true}
 use Rattle.syntax.specs.Byte as Byte
 use Rattle.syntax.specs.Kind as Kind
-use Rattle.syntax.specs.Bytes.{starts_with, starts, run, eol}
+use Rattle.syntax.specs.Bytes.{starts_with, run, eol}
 use Rattle.syntax.specs.declared.errors.ErrorKind.TheVariants.{ExpectedToken}
 use Rattle.syntax.specs.declared.errors.ParserError.{ParserError}
 use Rattle.syntax.specs.Errors.{fault_at, up_fault}
@@ -18,12 +18,15 @@ use Rattle.syntax.specs.Helper.{take_byte_if, skip_eol}
 use Rattle.syntax.specs.Marks.{text_node}
 use Rattle.syntax.specs.Reader.{ok, bad, after, fail, Turn, again, done, repeat}
 use Rattle.syntax.specs.Comment.{line_length, level_of, line_end_used, line_read, line_turn, comment_turn, get_comment}
-use Rattle.laws.specs.Bytes.{by_case, clash}
+use Rattle.laws.specs.Bytes.{by_case, clash, run-le}
 use Rattle.laws.specs.Loop.{turn-moves, repeat-done}
 use Rattle.laws.specs.Loop.Turns.{comment_turn-moves}
 use Rattle.laws.specs.Moving.{up_fault-twice}
 use Rattle.entry.specs.declared.source.Source.{Source}
 use Rattle.entry.specs.declared.marks.Marks.{Marks}
+use Rattle.entry.specs.declared.comment.Level.{Level}
+use Rattle.entry.specs.declared.comment.Level.TheVariants.{Regular, Group, Resource}
+use Rattle.entry.specs.Level.{number_if}
 use Rattle.entry.specs.Place.{Passed, Went, Tests, is_eol}
 use Rattle.entry.specs.declared.errors.Stop.{Stop}
 use Rattle.entry.specs.declared.errors.Stop.TheVariants.{Error}
@@ -32,7 +35,9 @@ use Rattle.entry.specs.Marks.{Wrote}
 use Rattle.entry.specs.Did.{yes, no, told, Did}
 use Rattle.entry.specs.Reads.{rest, Counts, Goes, Entered, Frame, ReadsOf}
 use Rattle.entry.specs.Tree.{word}
-use Rattle.entry.proofs.Tests.{by, starts-at, test-starts}
+use Rattle.entry.proofs.Tests.{by}
+use Rattle.entry.proofs.Run.{run_take}
+use Rattle.entry.proofs.Settle.{run-prefix}
 use Rattle.entry.proofs.Steps.{step-none}
 use Rattle.entry.proofs.Moves.{took, took_one, took-none}
 use Rattle.entry.proofs.Lines.{ended, line-ends}
@@ -44,59 +49,32 @@ use Rattle.entry.proofs.Dids.{fault-here, words-none, text-placed, did-again}
 abbrev is_hash : ℕ → Bool
 is_hash b = eqb b Byte.hash
 
-run_none : (p : ℕ → Bool) (x : List ℕ) → starts p x ≡ false → run p x ≡ 0
-unfolding run starts
-run_none p [] h = refl
-run_none p (b ∷ x) h = rw (h, run)
-
-run_more : (p : ℕ → Bool) (s : List ℕ) (i : ℕ) → i < length s → starts p (drop i s) ≡ true → run p (drop i s) ≡ suc (run p (drop (i + 1) s))
-unfolding run
-run_more p s i l h = let t : p (get_or s i 0) ≡ true = by (starts-at p s i l) h in rw (add-one, drop-cons s i 0 l, run, t)
-
--- n '#' were passed
-pub record Hashes (s s' : Source) (n : ℕ) : Type 0 where
-  pub bytes : s'.bytes ≡ s.bytes
-  pub end : s'.ptr ≡ s.ptr + n
-  pub hashes : run is_hash (drop s.ptr s.bytes.now) ≡ n + run is_hash (drop s'.ptr s.bytes.now)
-
-pub hashes-none : (s : Source) → Hashes s s 0
-hashes-none s = record { bytes = refl; end = omega arith; hashes = omega arith }
-
-module _ {s s' s'' : Source} {n : ℕ} (h : Hashes s s' n) {r : Bool} (g : Goes s' s'' (take_byte_if Byte.hash (rest s')) r) where
-  step : Went s.bytes.now s'.ptr (take_byte_if Byte.hash (drop s'.ptr s.bytes.now)) r s''.ptr
-  step = rw h.bytes at g.went
-
-  pub hashes-more : r ≡ true → Hashes s s'' (n + 1)
-  hashes-more e =
-      let t = test-starts Byte.hash (took Byte.hash step) in
-      let o = took_one Byte.hash step e in
-      let m = run_more is_hash s.bytes.now s'.ptr (t.here e) (by t.is e) in
-      record { bytes = g.bytes ∙ h.bytes; end = omega (arith, h.end); hashes = h.hashes ∙ rw (m, o) (omega arith) }
-
-  pub hashes-end : r ≡ false → n ≤ 3 → Counts s s'' (level_of (rest s)) n
-  unfolding level_of
-  hashes-end e l =
-      let t = test-starts Byte.hash (took Byte.hash step) in
-      let o = took-none Byte.hash step e in
-      let m = run_none is_hash (drop s'.ptr s.bytes.now) (by t.is e) in
-      let k = h.hashes in
-      let i = s''.inside in
-      let b : length s''.bytes.now ≡ length s.bytes.now = ap (λ (x : Bor (List ℕ)). length x.now) (g.bytes ∙ h.bytes) in
-      record {
-        passes = record { bytes = g.bytes ∙ h.bytes; passed = record { end = omega (arith, h.end); within = omega arith } };
-        told = omega arith;
-      }
-
-pub hashes-three : {s s' : Source} → Hashes s s' 3 → Counts s s' (level_of (rest s)) 3
+pub hashes-counted : (s : List ℕ) (at n : ℕ) → at ≤ length s
+    → n ≡ length (take_while is_hash (take 3 (take (length s - at) (drop at s)))) → Passed s at (level_of (drop at s)) (at + n) × (n ≡ level_of (drop at s)) × (n ≤ 3)
 unfolding level_of
-hashes-three {s} {s'} h =
-    let k = h.hashes in
-    let i = s'.inside in
-    let b : length s'.bytes.now ≡ length s.bytes.now = ap (λ (x : Bor (List ℕ)). length x.now) h.bytes in
-    record {
-      passes = record { bytes = h.bytes; passed = record { end = omega (arith, h.end); within = omega arith } };
-      told = omega arith;
-    }
+hashes-counted s at n l h =
+    let d : length (drop at s) ≡ length s - at = length-drop at s in
+    let q : length (drop at s) ≤ length s - at = omega arith in
+    let y : take (length s - at) (drop at s) ≡ drop at s = take_all (length s - at) (drop at s) q in
+    let k : n ≡ length (take_while is_hash (take 3 (drop at s))) = rw y at h in
+    let r : n ≡ run is_hash (take 3 (drop at s)) = k ∙ length-prefix_len is_hash (take 3 (drop at s)) ∙ run-prefix is_hash (take 3 (drop at s)) in
+    let t = run_take is_hash 3 (drop at s) in
+    let w = run-le is_hash (drop at s) in
+    (record { end = omega arith; within = omega arith }, omega arith, omega arith)
+
+pub told-some : (o : Option Level) → 0 < number_if o → IsSome o
+told-some (Some l) h = refl
+told-some None h = absurd (not-suc-le-zero h)
+
+pub none-level : (o : Option Level) → is_some o ≡ false → number_if o ≡ 0
+none-level None h = refl
+none-level (Some l) h = clash refl h
+
+pub some-level : (o : Option Level) → is_some o ≡ true → number_if o ≡ 0 → ⊥
+some-level None h = clash h refl
+some-level (Some Regular) h = λ e. omega (arith, e)
+some-level (Some Group) h = λ e. omega (arith, e)
+some-level (Some Resource) h = λ e. omega (arith, e)
 
 -- ---- a turn as places
 

@@ -1,5 +1,5 @@
 -- Entries: names, values, attributes, and what messages and terms have.
-use Rattle.std.specs.Prelude.{◌≡◌, ℕ, ◌+◌, ◌≤◌, Bool, true, false, not, ◌||◌, eqb, Ok, Err, List, [], length, drop}
+use Rattle.std.specs.Prelude.{◌≡◌, ℕ, ◌+◌, ◌<◌, ◌≤◌, Bool, true, false, not, ◌||◌, eqb, Ok, Err, List, [], length, drop}
 use mathlib.Core.Path.{refl, sym, ap, ap₂, ◌∙◌}
 use native.Mathlib.Nat.{add-zero, add_assoc}
 use native.Mathlib.Omega.{arith}
@@ -19,6 +19,7 @@ use Rattle.syntax.specs.declared.errors.ErrorKind.TheVariants.{ExpectedMessageFi
 use borrow.Author.Tests.{ne_eqb}
 use Rattle.laws.specs.Bytes.{by_case, pick}
 use Rattle.laws.specs.Moving.{bind-bind, after_none}
+use Rattle.laws.specs.File.{small_of}
 use Rattle.laws.specs.Bounds.{Bounds, bind, then, less, pure-bounds}
 use Rattle.laws.specs.Bounds.Pattern.{pattern-bounds}
 use Rattle.laws.specs.Bounds.Helper.{inline-bounds, expect_byte-bounds}
@@ -29,8 +30,7 @@ use Rattle.entry.specs.declared.marks.Marks.{Marks}
 use Rattle.entry.specs.Did.{yes, plain, silent, Did}
 use Rattle.entry.specs.Reads.{rest, Finds, ReadsOf}
 use Rattle.entry.specs.declared.parser_core.Fields.{Fields}
-use Rattle.entry.specs.declared.parser_core.Entry.TheVariants.{Message, Term, Comment}
-use Rattle.entry.specs.Entry.{entry_of, fields_of, get_name, get_value}
+use Rattle.entry.specs.Entry.{fields_of, get_name, get_value}
 use Rattle.entry.proofs.Places.{Read, found_at, expect-yes, expect-no, identifier-some, identifier-none}
 use Rattle.entry.proofs.Steps.{step_cut}
 use Rattle.entry.proofs.Dids.{Valued, valued, words-none}
@@ -213,22 +213,22 @@ module _ {s s₁ : Source} {m m₁ : Marks} {x : Fields} {o : Out Core.Fields} (
 
 -- what an entry is
 of-entry : {cap at n p i : ℕ} {t t₁ : List ℕ} (e : Core.Entry) (ms : List Mark) (k : ℕ)
-    → Did silent cap at n t t₁ (yes tt p i) (ok e ms k) → Did entry_of cap at n t t₁ (yes (entry_of e) p i) (ok e ms k)
+    → Did silent cap at n t t₁ (yes tt p i) (ok e ms k) → Did plain cap at n t t₁ (yes e p i) (ok e ms k)
 of-entry {at = at} {n} {p} {i} e ms k d =
     let q = d.answers in
     let y : p ≡ at + k = cc in
     let z : i ≡ n + length ms = cc in
-    record { answers = ap₂ (yes (entry_of e)) y z; wrote = d.wrote }
+    record { answers = ap₂ (yes e) y z; wrote = d.wrote }
 
 module _ {s s₁ : Source} {m m₁ : Marks} where
   pub reads-message : (o : Out Core.Fields) → ReadsOf silent s s₁ m m₁ (Ok tt) (as_message o)
-      → ReadsOf entry_of s s₁ m m₁ (Ok Message) (as_message o)
+      → ReadsOf plain s s₁ m m₁ (Ok Core.message) (as_message o)
   unfolding as_message
   reads-message o d = record { frame = d.frame; did = go o d.did }
     where
       P : Out Core.Entry → Type 0
       P o = Did silent m.capacity s.ptr m.count m.words.now m₁.words.now (yes tt s₁.ptr m₁.count) o
-          → Did entry_of m.capacity s.ptr m.count m.words.now m₁.words.now (yes Message s₁.ptr m₁.count) o
+          → Did plain m.capacity s.ptr m.count m.words.now m₁.words.now (yes Core.message s₁.ptr m₁.count) o
 
       go : (o : Out Core.Fields) → P (as_message o)
       go (ok x ms k) =
@@ -238,13 +238,13 @@ module _ {s s₁ : Source} {m m₁ : Marks} where
       go (deep k) = λ d. let q = d.answers in let z : ◌≡◌ {A = ℕ} 0 1 = cc in absurd (omega arith)
 
   pub reads-term : (o : Out Core.Fields) → ReadsOf silent s s₁ m m₁ (Ok tt) (as_term o)
-      → ReadsOf entry_of s s₁ m m₁ (Ok Term) (as_term o)
+      → ReadsOf plain s s₁ m m₁ (Ok Core.term) (as_term o)
   unfolding as_term
   reads-term o d = record { frame = d.frame; did = go o d.did }
     where
       P : Out Core.Entry → Type 0
       P o = Did silent m.capacity s.ptr m.count m.words.now m₁.words.now (yes tt s₁.ptr m₁.count) o
-          → Did entry_of m.capacity s.ptr m.count m.words.now m₁.words.now (yes Term s₁.ptr m₁.count) o
+          → Did plain m.capacity s.ptr m.count m.words.now m₁.words.now (yes Core.term s₁.ptr m₁.count) o
 
       go : (o : Out Core.Fields) → P (as_term o)
       go (ok x ms k) =
@@ -253,20 +253,30 @@ module _ {s s₁ : Source} {m m₁ : Marks} where
       go (bad g k) = λ d. let q = d.answers in let z : ◌≡◌ {A = ℕ} 0 1 = cc in absurd (omega arith)
       go (deep k) = λ d. let q = d.answers in let z : ◌≡◌ {A = ℕ} 0 1 = cc in absurd (omega arith)
 
-  pub reads-comment : {l : ℕ} (o : Out ℕ) → ReadsOf plain s s₁ m m₁ (Ok l) o → ReadsOf entry_of s s₁ m m₁ (Ok (Comment l)) (as_comment o)
+  pub reads-comment : {l : ℕ} (o : Out ℕ) → ReadsOf plain s s₁ m m₁ (Ok l) o → ReadsOf plain s s₁ m m₁ (Ok (Core.comment l)) (as_comment o)
   unfolding as_comment
   reads-comment {l} o d = record { frame = d.frame; did = go o d.did }
     where
       go : (o : Out ℕ) → Did plain m.capacity s.ptr m.count m.words.now m₁.words.now (yes l s₁.ptr m₁.count) o
-          → Did entry_of m.capacity s.ptr m.count m.words.now m₁.words.now (yes (Comment l) s₁.ptr m₁.count) (as_comment o)
+          → Did plain m.capacity s.ptr m.count m.words.now m₁.words.now (yes (Core.comment l) s₁.ptr m₁.count) (as_comment o)
       go (ok a ms k) d =
           let q = d.answers in
           let e : l ≡ a = cc in
           let y : s₁.ptr ≡ s.ptr + k = cc in
           let z : m₁.count ≡ m.count + length ms = cc in
-          record { answers = λ i. yes (Comment (e i)) (y i) (z i); wrote = d.wrote }
+          record { answers = λ i. yes (Core.comment (e i)) (y i) (z i); wrote = d.wrote }
       go (bad g k) d = let q = d.answers in let z : ◌≡◌ {A = ℕ} 0 1 = cc in absurd (omega arith)
       go (deep k) d = let q = d.answers in let z : ◌≡◌ {A = ℕ} 0 1 = cc in absurd (omega arith)
+
+-- a comment that was read has a level
+pub leveled : {s s₁ : Source} {m m₁ : Marks} {l : ℕ} (sub : Inside) → get_entry sub (rest s) ≡ as_comment (get_comment (rest s))
+    → ReadsOf plain s s₁ m m₁ (Ok l) (get_comment (rest s)) → 0 < l
+unfolding as_comment
+leveled {s} sub e d =
+    let v = valued _ d.did refl in
+    let f = v.found in
+    let g : get_entry sub (rest s) ≡ ok (Core.comment f.value) f.ms f.k = e ∙ ap as_comment f.is in
+    omega (arith, v.told, (small_of sub (rest s) g).0)
 
 module _ (sub : Inside) (s : List ℕ) where
   pub entry-comment : starts_with Byte.hash s ≡ true → get_entry sub s ≡ as_comment (get_comment s)

@@ -10,16 +10,18 @@ use Rattle.syntax.specs.Marks.{Mark, plain as bare, node}
 use Rattle.syntax.specs.Pattern.{Element, placeable, text, State, element_marks, finish}
 use Rattle.syntax.specs.Reader.{ok}
 use Rattle.entry.specs.declared.source.Source.{Source}
+use Rattle.entry.specs.declared.marks.Marks.{Marks}
 use Rattle.entry.specs.declared.parser.Parser.{Parser}
 use Rattle.entry.specs.declared.pattern.Reading.{Reading}
 use Rattle.entry.specs.Tree.{Word, word, words_at, marks_in, Step}
 use Rattle.entry.specs.Marks.{Wrote}
 use Rattle.entry.specs.Did.{plain, yes, Did}
-use Rattle.entry.specs.Settle.{settle_word, trim_words, Within, Settled, Trimmable, Trimmed}
+use Rattle.entry.specs.Settle.{settle_word, trim_words, Within, NoLines, Settled, Trimmable, Trimmed}
 use Rattle.entry.specs.Elements.{provisional_of, provisional}
 use Rattle.entry.specs.Texts.{Standing, last_of, Holds, Ends, Ended}
 use Rattle.entry.proofs.Steps.{step-prefix, step_cut, step_then, step-over, step-last}
 use Rattle.entry.proofs.Dids.{words-length, words-none, node-words}
+use Rattle.entry.proofs.Settle.{no_lines-less}
 use Rattle.entry.proofs.Elements.{provisional-append, trim-append, trim-length, within-append, Common, common-or, kept-marks, kept-within}
 
 -- ---- the last two marks of a step are trimmed
@@ -111,6 +113,13 @@ module _ {s : List ℕ} {cap at n : ℕ} {t₀ t : List ℕ} {st : Standing} {d 
       step-prefix (word 11 0 ∷ provisional at (take d.kept d.elements))
       (provisional at (drop d.kept d.elements)) (rw kept-split at h.wrote)
 
+  pub none-after : NoLines (drop (st.lines - (n + 1)) (drop (n + 1) (marks_in cap l t)))
+  none-after =
+      let e = step-last (word 11 0 ∷ []) (provisional at (take d.kept d.elements)) kept_step refl kept.1 in
+      rw e
+      (no_lines-less (st.lines - (n + 1)) (provisional at (take d.kept d.elements)) (provisional at (drop d.kept d.elements))
+      (rw kept-split at h.lines))
+
   module _ (c : ℕ) (ec : c ≡ unwrap_or st.common_indent (length s)) where
     common : Common s d.common c
     common = rw ec (common-or s d.common st.common_indent h.common)
@@ -193,20 +202,21 @@ module _ {n : ℕ} {p : Parser} {st : Reading} (ends : Ends n p st) where
   pub ends-order : {l : ℕ} → st.last_non_blank ≡ Some l → (n + 3 ≤ l) × (l ≤ p.tree.now.count) × (l + 1 ≤ p.tree.now.capacity)
   ends-order el = let o = last-order ends.holds el in (o.0, o.1, omega (arith, ends.room, o))
 
-  module _ {l : ℕ} (el : st.last_non_blank ≡ Some l) {p₀ : Parser} (source : p₀.source ≡ p.source) (words : p₀.tree.now.words ≡ p.tree.now.words)
-      (capacity : p₀.tree.now.capacity ≡ p.tree.now.capacity) (count : p₀.tree.now.count ≡ l) where
-    module _ {c : ℕ} (ec : c ≡ unwrap_or st.common_indent (length p.source.bytes.now)) {p₁ : Parser} (g : Settled (n + 1) c p₀ p₁) where
+  module _ {l : ℕ} (el : st.last_non_blank ≡ Some l) {m₀ : Marks} (words : m₀.words ≡ p.tree.now.words) (capacity : m₀.capacity ≡ p.tree.now.capacity)
+      (count : m₀.count ≡ l) where
+    module _ {c : ℕ} (ec : c ≡ unwrap_or st.common_indent (length p.source.bytes.now)) (p₁ : Parser) (source : p₁.source ≡ p.source)
+        (g : Settled p.source.bytes.now (n + 1) c m₀ p₁.tree.now) where
       settled : SettledTo p.source.bytes.now p.tree.now.capacity n p.tree.now.words.now p₁.tree.now.words.now l c
-      settled = rw (source, words, capacity, count) at g.settled
+      settled = rw (words, capacity, count) at g.settled
 
       bytes₁ : p₁.source.bytes ≡ p.source.bytes
-      bytes₁ = g.kept.frame.bytes ∙ ap (λ (s : Source). s.bytes) source
+      bytes₁ = ap (λ (s : Source). s.bytes) source
 
       capacity₁ : p₁.tree.now.capacity ≡ p.tree.now.capacity
-      capacity₁ = g.kept.frame.tree.capacity ∙ capacity
+      capacity₁ = g.same.capacity ∙ capacity
 
       count₁ : p₁.tree.now.count ≡ l
-      count₁ = g.kept.count ∙ count
+      count₁ = g.count ∙ count
 
       pub ends-trimmable : Trimmable p₁
       ends-trimmable =
@@ -233,13 +243,13 @@ module _ {n : ℕ} {p : Parser} {st : Reading} (ends : Ends n p st) where
         end-some {p'} a z =
             let u : Step p.tree.now.capacity l p₂.tree.now.words.now p'.tree.now.words.now (word 111 0 ∷ []) = rw (capacity₂, count₂) at z.step in
             let v : p'.source.ptr ≡ p.source.ptr =
-            ap (λ (s : Source). s.ptr) a ∙ w.kept.place ∙ g.kept.place ∙ ap (λ (s : Source). s.ptr) source in
+            ap (λ (s : Source). s.ptr) a ∙ w.kept.place ∙ ap (λ (s : Source). s.ptr) source in
             let m : p'.tree.now.count ≡ l + 1 = omega (arith, z.count, count₂) in
             record {
               frame = record {
                 bytes = ap (λ (s : Source). s.bytes) a ∙ w.kept.frame.bytes ∙ bytes₁;
                 tree = record {
-                  words = z.same.words ∙ w.kept.frame.tree.words ∙ g.kept.frame.tree.words ∙ rw words;
+                  words = z.same.words ∙ w.kept.frame.tree.words ∙ g.same.words ∙ rw words;
                   capacity = z.same.capacity ∙ capacity₂;
                 };
               };

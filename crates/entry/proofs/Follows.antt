@@ -1,10 +1,14 @@
 -- What follows an inline expression, and the end of a placeable.
-use Rattle.std.specs.Prelude.{◌≡◌, ℕ, ◌+◌, Bool, true, false, ◌&&◌, eqb, Result, Ok, Err, List, drop}
+use Rattle.std.specs.Prelude.{◌≡◌, ℕ, ◌+◌, ◌-◌, ◌≤◌, Bool, true, false, ◌&&◌, eqb, Result, Ok, Err, List, [], ◌∷◌, length, take, drop}
+use Rattle.std.specs.Cmp.Lexicographic.{pointwise}
 use mathlib.Core.Path.{refl, sym, ap, ◌∙◌}
-use mathlib.Core.Bool.{and-false}
+use mathlib.Core.Bool.{and-true}
 use native.Mathlib.Omega.{arith}
 use Rattle.syntax.specs.Byte as Byte
-use Rattle.syntax.specs.Bytes.{starts_with, second}
+use borrow.Author.Tests.{eq-eqb, eqb-true, ne_eqb}
+use lib.ListN.{length-drop}
+use lib.Seq.{take_all}
+use Rattle.syntax.specs.Bytes.{starts_with, starts, second}
 use Rattle.syntax.specs.declared.errors.CharRange.TheVariants.{LineEnd}
 use Rattle.syntax.specs.declared.errors.ErrorKind.TheVariants.{TermAttributeAsPlaceable, ExpectedCharRange}
 use Rattle.syntax.specs.declared.errors.ErrorKind.TheVariants.{MessageAttributeAsSelector, MessageReferenceAsSelector}
@@ -16,6 +20,7 @@ use Rattle.syntax.specs.Pattern.{Inside}
 use Rattle.syntax.specs.Expression.{Inline, string, number, variable, function, inner, message, term, selector, alone, needs_line_end}
 use Rattle.syntax.specs.Expression.{Expression as Content, inline, select, is_term_attribute, no_term_attribute}
 use Rattle.syntax.specs.Expression.{after_inline, select_from, get_variants}
+use Rattle.laws.specs.Bytes.{by_case, clash}
 use Rattle.entry.specs.declared.errors.Stop.{Stop}
 use Rattle.entry.specs.declared.errors.Stop.TheVariants.{Error, TooDeep}
 use Rattle.entry.specs.declared.source.Source.{Source}
@@ -24,10 +29,9 @@ use Rattle.entry.specs.declared.expression.Expression.TheVariants.{StringLiteral
 use Rattle.entry.specs.declared.expression.Expression.TheVariants.{VariableReference, FunctionReference}
 use Rattle.entry.specs.declared.expression.Expression.TheVariants.{MessageReference, TermReference, Placeable}
 use Rattle.entry.specs.declared.expression.Expression.TheVariants.{Select}
-use Rattle.entry.specs.Place.{Tests}
 use Rattle.entry.specs.Reads.{rest, Goes, Finds}
 use Rattle.entry.specs.Shape.{shape_at, content_at, selector_at, is_attribute_of_term, refused_if, followed_by, Followed, Fails}
-use Rattle.entry.proofs.Tests.{starts-with, second-next}
+use Rattle.entry.proofs.Tests.{both, starts-with, second-next}
 use Rattle.entry.proofs.Moves.{stop-then}
 use Rattle.entry.proofs.Sources.{goes-both, goes-pure, finds-ok, fails-here, finds-fails, finds-goes}
 use Rattle.entry.proofs.Sources.{Leads, leads-here, leads-then, leads-bind, leads-byte, leads-trans, fails-after}
@@ -81,11 +85,23 @@ is_arrow x = starts_with Byte.minus x && second (λ b. eqb b Byte.greater) x
 greater_next : (s : List ℕ) (i : ℕ) → second (λ b. eqb b Byte.greater) (drop i s) ≡ starts_with Byte.greater (drop (i + 1) s)
 greater_next s i = second-next (λ b. eqb b Byte.greater) s i ∙ sym (starts-with Byte.greater (drop (i + 1) s))
 
-pub no-minus : (s : Source) {r : Bool} → Tests (starts_with Byte.minus) s.bytes.now s.ptr r → r ≡ false → is_arrow (rest s) ≡ false
-no-minus s t h = rw (sym t.is ∙ h)
+eqb-swap : (a b : ℕ) → eqb a b ≡ eqb b a
+eqb-swap a b = by_case (eqb a b) (λ p. p ∙ sym (eq-eqb b a (sym (eqb-true a b p))))
+    (λ p. p ∙ sym (ne_eqb b a (λ e. clash (eq-eqb a b (sym e)) p)))
 
-pub no-greater : (s : Source) {r : Bool} → Tests (starts_with Byte.greater) s.bytes.now (s.ptr + 1) r → r ≡ false → is_arrow (rest s) ≡ false
-no-greater s t h = rw (greater_next s.bytes.now s.ptr ∙ sym t.is ∙ h) (and-false _)
+-- the code's test, of a slice's end
+pub arrow-tested : (s : Source) {r : Bool} → r ≡ pointwise eqb (45 ∷ 62 ∷ []) (take 2 (take (length s.bytes.now - s.ptr) (rest s)))
+    → r ≡ is_arrow (rest s)
+unfolding starts_with second starts
+arrow-tested s {r} h =
+    let d : length (rest s) ≡ length s.bytes.now - s.ptr = length-drop s.ptr s.bytes.now in
+    let q : length (rest s) ≤ length s.bytes.now - s.ptr = omega arith in
+    h ∙ ap (λ (x : List ℕ). pointwise eqb (45 ∷ 62 ∷ []) (take 2 x)) (take_all (length s.bytes.now - s.ptr) (rest s) q) ∙ go (rest s)
+  where
+    go : (x : List ℕ) → pointwise eqb (45 ∷ 62 ∷ []) (take 2 x) ≡ is_arrow x
+    go [] = refl
+    go (a ∷ []) = rw (eqb-swap 45 a) refl
+    go (a ∷ b ∷ x) = rw (eqb-swap 45 a, eqb-swap 62 b) (ap (λ (t : Bool). eqb a 45 && t) (and-true (eqb b 62)))
 
 module _ {s s₁ : Source} (x : Expression) (w : Goes s s₁ (skip_blank (rest s)) tt) where
   -- ---- alone
@@ -135,11 +151,10 @@ module _ {s s₁ : Source} (x : Expression) (w : Goes s s₁ (skip_blank (rest s
         go TooDeep d = absurd (d.shallow refl)
 
   -- ---- a select
-  module _ {r : Bool} (m : starts_with Byte.minus (rest s₁) ≡ true) (t : Tests (starts_with Byte.greater) s₁.bytes.now (s₁.ptr + 1) r)
-      (y : r ≡ true) where
+  module _ (h : is_arrow (rest s₁) ≡ true) where
     chosen : (sub : Inside) (i : Inline) → after_inline sub i (rest s₁) ≡ select_from sub i (rest s₁)
     unfolding after_inline
-    chosen sub i = rw (m, greater_next s₁.bytes.now s₁.ptr ∙ sym t.is ∙ y, after_inline)
+    chosen sub i = rw (h, after_inline)
 
     pub followed-selector : {c : Result (Unit {0}) Stop} {e : Stop} → c ≡ selector_at s₁.ptr x → c ≡ Err e → Followed s s₁ x (Err e)
     unfolding followed_by select_from
@@ -180,11 +195,12 @@ module _ {s s₁ : Source} (x : Expression) (w : Goes s s₁ (skip_blank (rest s
           let two : s₂.ptr ≡ s₁.ptr + 1 + 1 = omega (arith, sp) in
           let next : Leads (s₁.ptr + 1 + 1) s₃.ptr ((skip_blank_inline >> line_end sub) (drop (s₁.ptr + 1 + 1) s₁.bytes.now)) (line_end sub (rest s₃)) =
           rw (two, sb) at blank in
-          let greater : starts_with Byte.greater (drop (s₁.ptr + 1) s₁.bytes.now) ≡ true = sym t.is ∙ y in
+          let t = both _ _ h in
+          let greater : starts_with Byte.greater (drop (s₁.ptr + 1) s₁.bytes.now) ≡ true = sym (greater_next s₁.bytes.now s₁.ptr) ∙ t.1 in
           leads-then skip_blank (after_inline sub i) w
           (rw (chosen sub i)
           (leads-then (selector i) _ (finds-goes d)
-          (leads-byte s₁.bytes.now s₁.ptr Byte.minus _ m (leads-byte s₁.bytes.now (s₁.ptr + 1) Byte.greater _ greater next))))
+          (leads-byte s₁.bytes.now s₁.ptr Byte.minus _ t.0 (leads-byte s₁.bytes.now (s₁.ptr + 1) Byte.greater _ greater next))))
 
       pub followed-unended : {s₄ : Source} → Goes s₃ s₄ (skip_eol (rest s₃)) false → Followed s s₄ x (Err (Error (fault_at (ExpectedCharRange LineEnd) s₄.ptr)))
       unfolding line_end needs_line_end

@@ -5,7 +5,7 @@ use mathlib.Core.List.{append-nil}
 use mathlib.Core.Option as maybe
 use native.Mathlib.Nat.{zero-min}
 use native.Mathlib.Omega.{arith}
-use lib.ListN.{length-append, length-drop}
+use lib.ListN.{length-append, length-drop, drop_of_length-le}
 use lib.Seq.{drop-drop, take-append-le, take_all}
 use Rattle.syntax.specs.Bytes.{spaces}
 use Rattle.syntax.specs.Marks.{Mark, plain, placed, move_up}
@@ -17,12 +17,14 @@ use Rattle.entry.specs.declared.text.TextElementPosition.{TextElementPosition}
 use Rattle.entry.specs.declared.text.TextElementPosition.TheVariants.{InitialLineStart, LineStart, Continuation}
 use Rattle.entry.specs.declared.text.TextSlice.{TextSlice}
 use Rattle.entry.specs.Tree.{Word, word, words_at, Step}
-use Rattle.entry.specs.Elements.{provisional_of, provisional, Low, SoundOne, Sound}
+use Rattle.entry.specs.Elements.{opening, provisional_of, provisional, Low, SoundOne, Sound}
+use Rattle.entry.specs.Settle.{NoLines}
 use Rattle.entry.specs.Slice.{ending_of, slice_of, crlf_width, width_of, is_feed, position_after}
-use Rattle.entry.specs.Texts.{role_of, starts_line, least_of, is_part, part_words, count_after, last_after, least_after}
+use Rattle.entry.specs.Texts.{role_of, starts_line, least_of, is_part, part_words, count_after, last_after, least_after, lines_of, lines_after}
 use Rattle.entry.specs.Texts.{Standing, option_of, text_words, after_text, Holds}
 use Rattle.entry.proofs.Steps.{step_then}
 use Rattle.entry.proofs.Dids.{words_up, words-length, node-words}
+use Rattle.entry.proofs.Settle.{no_lines-both, no_lines-add}
 use Rattle.entry.proofs.Elements.{provisional-append}
 
 -- ---- the enums of the code and those of the definition
@@ -133,6 +135,7 @@ standing_by st a x v b =
       role = position_after x.ending;
       last_non_blank = last_after v b st.n st.last_non_blank;
       common_indent = least_after v b (starts_line st.role) (a - st.at) st.common_indent;
+      lines = lines_after v (starts_line st.role) st.n st.lines;
     }
 
 abbrev state_by : State → ℕ → TextSlice → Bool → Bool → State
@@ -168,6 +171,19 @@ module _ {s : List ℕ} {cap at n : ℕ} {t t₁ : List ℕ} {st : Standing} {d 
       let q : at + (d.used + (a - st.at) + x.size) ≡ a + x.size = omega arith in
       rw (line-is d st.role h.role, q, ← p)
 
+  part-lines : NoLines (drop (lines_of (starts_line st.role) (st.n + 2) st.lines - (n + 1)) (provisional at (d.elements ++ (part ∷ []))))
+  unfolding opening
+  part-lines = rw (add_words at d.elements part) (go (starts_line st.role) part-words)
+    where
+      go : (l : Bool) → provisional_of at part ≡ part_words true l st.at (a + x.size)
+          → NoLines (drop (lines_of l (st.n + 2) st.lines - (n + 1)) (provisional at d.elements ++ provisional_of at part))
+      go true e =
+          rw (drop_of_length-le (provisional at d.elements ++ provisional_of at part) {i = st.n + 2 - (n + 1)}
+          (rw (length-append, e) (omega (arith, h.count)))) tt
+      go false e =
+          no_lines-add (st.lines - (n + 1)) (provisional at d.elements) (provisional_of at part) h.lines
+          (rw e (λ q. omega arith, (λ q. omega arith, tt)))
+
   text-by : {t₂ : List ℕ} (v b : Bool) → Step cap st.n t₁ t₂ (part_words v (starts_line st.role) st.at (a + x.size))
       → least_after v b (starts_line st.role) (a - st.at) st.common_indent ≡ option_of (common_after d (a - st.at) (slice_of x))
       → Holds s cap at n t t₂ (standing_by st a x v b) (state_by d (a - st.at) x v b)
@@ -181,6 +197,7 @@ module _ {s : List ℕ} {cap at n : ℕ} {t t₁ : List ℕ} {st : Standing} {d 
         kept = h.kept;
         few = h.few;
         common = c;
+        lines = h.lines;
         sound = h.sound;
       }
   text-by {t₂} true true w c =
@@ -195,6 +212,7 @@ module _ {s : List ℕ} {cap at n : ℕ} {t t₁ : List ℕ} {st : Standing} {d 
         kept = rw (add-old at d.elements part d.kept h.few) h.kept;
         few = omega (arith, h.few, add-few at d.elements part);
         common = c;
+        lines = part-lines;
         sound = sound-add (drop at s) d.elements part h.sound part_sound;
       }
   text-by {t₂} true false w c =
@@ -211,6 +229,7 @@ module _ {s : List ℕ} {cap at n : ℕ} {t t₁ : List ℕ} {st : Standing} {d 
         kept = rw (add-new at d.elements part) (ap Some q);
         few = add-few at d.elements part;
         common = c;
+        lines = part-lines;
         sound = sound-add (drop at s) d.elements part h.sound part_sound;
       }
 
@@ -226,6 +245,12 @@ unfolding move_up
 low_up k [] l = tt
 low_up k (plain i ∷ ms) l = (l.0, low_up k ms l.1)
 low_up k (placed i p ∷ ms) l = (l.0, low_up k ms l.1)
+
+low-lines : (at : ℕ) (ms : List Mark) → Low ms → NoLines (words_at at ms)
+unfolding words_at move_up
+low-lines at [] l = tt
+low-lines at (plain k ∷ ms) l = (λ e. omega (arith, l.0), low-lines at ms l.1)
+low-lines at (placed k p ∷ ms) l = (λ e. omega (arith, l.0), low-lines at ms l.1)
 
 -- the definition's state after a placeable of k bytes with the marks ms
 abbrev pub placed_state : State → List Mark → ℕ → State
@@ -253,6 +278,7 @@ placed_standing st e m =
       role = Continuation;
       last_non_blank = Some m;
       common_indent = least_of (starts_line st.role) 0 st.common_indent;
+      lines = st.lines;
     }
 
 module _ {s : List ℕ} {cap at n : ℕ} {t t₁ t₂ : List ℕ} {st : Standing} {d : State} (h : Holds s cap at n t t₁ st d)
@@ -264,6 +290,13 @@ module _ {s : List ℕ} {cap at n : ℕ} {t t₁ t₂ : List ℕ} {st : Standing
       node-words at 13 (move_up d.used ms)
       ∙ ap (λ (l : List Word). (word 13 0 ∷ l) ++ (word 113 0 ∷ []))
       (words_up at d.used ms ∙ ap (λ (k : ℕ). words_at k ms) (sym h.place))
+
+  placed-lines : NoLines (drop (st.lines - (n + 1)) (provisional at (d.elements ++ (placeable (move_up d.used ms) ∷ []))))
+  placed-lines =
+      rw (add_words at d.elements (placeable (move_up d.used ms)))
+      (no_lines-add (st.lines - (n + 1)) (provisional at d.elements) (provisional_of at (placeable (move_up d.used ms))) h.lines
+      (rw placed-words
+      (λ q. omega arith, no_lines-both (words_at st.at ms) (word 113 0 ∷ []) (low-lines st.at ms low) (λ q. omega arith, tt))))
 
   pub holds-placeable : (k : ℕ) {e m : ℕ} → e ≡ st.at + k → m ≡ st.n + 2 + length ms
       → Holds s cap at n t t₂ (placed_standing st e m) (placed_state d ms k)
@@ -284,5 +317,6 @@ module _ {s : List ℕ} {cap at n : ℕ} {t t₁ t₂ : List ℕ} {st : Standing
         few = add-few at es o;
         common =
             rw (option_of, line-is d st.role h.role) (common-placed d.common st.common_indent (starts_line st.role) h.common);
+        lines = placed-lines;
         sound = sound-add (drop at s) es o h.sound (low_up d.used ms low);
       }

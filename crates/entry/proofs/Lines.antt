@@ -1,26 +1,52 @@
 -- Line ends and the text of a line at places of a source.
-use Rattle.std.specs.Prelude.{◌≡◌, ℕ, suc, ◌+◌, ◌-◌, ◌<◌, ◌≤◌, Bool, true, false, ltb, List, [], ◌∷◌, length, get_or, take, drop}
+use Rattle.std.specs.Prelude.{◌≡◌, ℕ, zero, suc, ◌+◌, ◌-◌, ◌<◌, ◌≤◌, Bool, true, false, eqb, ltb, Option, None, Some, List, [], ◌∷◌, length, get_or, take, drop}
 use mathlib.Core.Path.{refl, sym, ap, ◌∙◌}
-use native.Mathlib.Numerals.{add-one}
 use native.Mathlib.Omega.{arith}
 use lib.ListN.{length-drop, drop_of_length-le}
 use lib.Seq.{drop-cons, take_all}
-use borrow.Author.Tests.{ltb-true, ltb-false}
-use Rattle.syntax.specs.Bytes.{eol}
+use Rattle.syntax.specs.Byte as Byte
+use Rattle.syntax.specs.Bytes.{eol, starts_with}
+use Rattle.syntax.specs.Pattern.{ends_in_cr}
 use Rattle.syntax.specs.Reader.{ok}
 use Rattle.syntax.specs.Comment.{line_length}
 use Rattle.syntax.specs.Helper.{skip_eol}
+use Rattle.memchr.specs.Find.{Passes, Nowhere, NoneBefore, is_byte}
 use Rattle.laws.specs.Bytes.{by_case, clash, eol-le}
-use Rattle.entry.specs.Place.{Passed, Went, is_eol}
+use Rattle.entry.specs.Place.{Passed, Went, is_eol, line_end}
 
--- a line end was passed, or none
-pub passed-eol : {s : List ℕ} {at n : ℕ} → at ≤ length s → n ≡ eol (take (length s - at) (drop at s)) → Passed s at (eol (drop at s)) (at + n)
-passed-eol {s} {at} {n} l h =
+some-end : (x : List ℕ) {n : ℕ} → line_end x ≡ Some n → (eol x ≡ n) × (0 < n)
+unfolding line_end
+some-end x {n} h = go (eol x) h
+  where
+    go : (k : ℕ) → elim k [ zero ↦ None | suc m ↦ Some (suc m) ] ≡ Some n → (k ≡ n) × (0 < n)
+    go zero h = let z : ◌≡◌ {A = ℕ} 0 1 = cc in absurd (omega arith)
+    go (suc k) h = let e : suc k ≡ n = cc in (e, omega arith)
+
+no-end : (x : List ℕ) → line_end x ≡ None → eol x ≡ 0
+unfolding line_end
+no-end x h = go (eol x) h
+  where
+    go : (k : ℕ) → ◌≡◌ {A = Option ℕ} (elim k [ zero ↦ None | suc m ↦ Some (suc m) ]) None → k ≡ 0
+    go zero h = refl
+    go (suc k) h = let z : ◌≡◌ {A = ℕ} 0 1 = cc in absurd (omega arith)
+
+-- the line end that the code found
+whole : (s : List ℕ) (at : ℕ) {r : Option ℕ} → at ≤ length s → r ≡ line_end (take (length s - at) (drop at s)) → r ≡ line_end (drop at s)
+whole s at l h =
     let d : length (drop at s) ≡ length s - at = length-drop at s in
     let q : length (drop at s) ≤ length s - at = omega arith in
-    let e : n ≡ eol (drop at s) = h ∙ ap eol (take_all (length s - at) (drop at s) q) in
-    let w = eol-le (drop at s) in
-    record { end = omega arith; within = omega arith }
+    h ∙ ap line_end (take_all (length s - at) (drop at s) q)
+
+module _ {s : List ℕ} {at : ℕ} {r : Option ℕ} (l : at ≤ length s) (h : r ≡ line_end (take (length s - at) (drop at s))) where
+  pub passed-eol : {n : ℕ} → r ≡ Some n → Passed s at (eol (drop at s)) (at + n) × (0 < n)
+  passed-eol {n} e =
+      let w = eol-le (drop at s) in
+      let d : length (drop at s) ≡ length s - at = length-drop at s in
+      let g = some-end (drop at s) (sym (whole s at l h) ∙ e) in
+      (record { end = omega (arith, g.0); within = omega (arith, g.0) }, g.1)
+
+  pub passed-none : r ≡ None → Passed s at (eol (drop at s)) at
+  passed-none e = let g = no-end (drop at s) (sym (whole s at l h) ∙ e) in record { end = omega (arith, g); within = l }
 
 -- ---- what skip_eol answered
 
@@ -52,37 +78,78 @@ ends_by s i r l h = h ∙ rw (drop-cons s i 0 l) refl
 
 -- ---- the text of a line
 
-pub record Lining (s : List ℕ) (at i : ℕ) : Type 0 where
-  pub inside : i ≤ length s
-  pub sum : at + line_length (drop at s) ≡ i + line_length (drop i s)
-
 pub line-ends : (x : List ℕ) → is_eol x ≡ true → line_length x ≡ 0
 unfolding is_eol line_length
 line-ends [] h = refl
 line-ends (b ∷ x) h = rw (h, line_length)
 
-pub line-byte : (s : List ℕ) (i : ℕ) → is_eol (drop i s) ≡ false → i < length s
-line-byte s i h = by_case (ltb i (length s)) (λ q. ltb-true i (length s) q) (λ q. absurd (no (ltb-false i (length s) q)))
-  where
-    no : length s ≤ i → ⊥
-    no l = clash (none l) h
-      where
-        none : length s ≤ i → is_eol (drop i s) ≡ true
-        none l = unfold is_eol in rw (drop_of_length-le s l)
+line-le : (x : List ℕ) → line_length x ≤ length x
+unfolding line_length
+line-le [] = omega arith
+line-le (b ∷ x) = by_case (ltb 0 (eol (b ∷ x))) (λ q. rw (q, line_length) (omega arith)) (λ q. let d = line-le x in rw (q, line_length) (omega arith))
 
-line-more : (s : List ℕ) (i : ℕ) → is_eol (drop i s) ≡ false → line_length (drop i s) ≡ suc (line_length (drop (i + 1) s))
-unfolding is_eol line_length
-line-more s i h =
-    let l = line-byte s i h in
-    let q : ltb 0 (eol (get_or s i 0 ∷ drop (suc i) s)) ≡ false = rw (drop-cons s i 0 l) at h in
-    rw (add-one, drop-cons s i 0 l, line_length, q)
+-- up to a line feed; c says that a carriage return stands before it
+abbrev up_to : ℕ → Bool → ℕ
+up_to n c = elim c [ true ↦ n - 1 | false ↦ n ]
 
-module _ {s : List ℕ} {at i : ℕ} {r : Bool} (g : Lining s at i) (t : r ≡ is_eol (drop i s)) where
-  pub lining-more : r ≡ false → Lining s at (i + 1)
-  lining-more h =
-      let l = line-byte s i (sym t ∙ h) in
-      let e = line-more s i (sym t ∙ h) in
-      record { inside = omega arith; sum = omega (arith, g.sum) }
+up_to-suc : (n : ℕ) (c : Bool) → suc (up_to (suc n) c) ≡ up_to (suc (suc n)) c
+up_to-suc n true = omega arith
+up_to-suc n false = refl
 
-  pub lining-end : r ≡ true → Passed s at (line_length (drop at s)) i
-  lining-end h = let e = line-ends (drop i s) (sym t ∙ h) in record { end = omega (arith, g.sum); within = g.inside }
+no-feed : (b : ℕ) (x : List ℕ) → eqb b Byte.line_feed ≡ false → starts_with Byte.line_feed x ≡ false → eol (b ∷ x) ≡ 0
+unfolding eol
+no-feed b x h e = by_case (eqb b Byte.carriage_return) (λ q. rw (h, eol, q, e) refl) (λ q. rw (h, eol, q) refl)
+
+feed-here : (b : ℕ) (x : List ℕ) → eqb b Byte.line_feed ≡ true → line_length (b ∷ x) ≡ 0
+unfolding line_length eol
+feed-here b x h = let e : eol (b ∷ x) ≡ 1 = rw (h, eol) refl in rw (e, line_length) refl
+
+line-whole : (x : List ℕ) → ((j : ℕ) → j < length x → eqb (get_or x j 0) Byte.line_feed ≡ false) → line_length x ≡ length x
+unfolding line_length starts_with
+line-whole [] h = refl
+line-whole (b ∷ []) h = let e = no-feed b [] (h 0 (omega arith)) refl in rw (e, line_length) refl
+line-whole (b ∷ c ∷ x) h =
+    let e = no-feed b (c ∷ x) (h 0 (omega arith)) (h 1 (omega arith)) in
+    rw (e, line_length) (ap suc (line-whole (c ∷ x) (λ j l. h (suc j) (omega (arith, l)))))
+
+line-feed : (x : List ℕ) (n : ℕ) → ((j : ℕ) → j < n → eqb (get_or x j 0) Byte.line_feed ≡ false) → n < length x
+    → eqb (get_or x n 0) Byte.line_feed ≡ true → line_length x ≡ up_to n (ends_in_cr (take n x))
+unfolding line_length eol starts_with ends_in_cr
+line-feed [] n h l e = absurd (omega (arith, l))
+line-feed (b ∷ x) zero h l e = feed-here b x e
+line-feed (b ∷ []) (suc n) h l e = absurd (omega (arith, l))
+line-feed (b ∷ c ∷ x) (suc zero) h l e =
+    let a : eqb b Byte.line_feed ≡ false = h 0 (omega arith) in
+    let f : eqb c Byte.line_feed ≡ true = e in
+    by_case (eqb b Byte.carriage_return)
+    (λ q. let z : eol (b ∷ c ∷ x) ≡ 2 = rw (a, eol, q, f) refl in rw (z, line_length, q) refl)
+    (λ q. let z : eol (b ∷ c ∷ x) ≡ 0 = rw (a, eol, q) refl in rw (z, line_length, q) (ap suc (feed-here c x f)))
+line-feed (b ∷ c ∷ x) (suc (suc n)) h l e =
+    let z = no-feed b (c ∷ x) (h 0 (omega arith)) (h 1 (omega arith)) in
+    rw (z, line_length)
+    (ap suc (line-feed (c ∷ x) (suc n) (λ j k. h (suc j) (omega (arith, k))) (omega (arith, l)) e)
+    ∙ up_to-suc n (ends_in_cr (take (suc n) (c ∷ x))))
+
+-- the line feed was looked for
+abbrev feed_at : List ℕ → ℕ → Type 0
+feed_at x j = Passes (is_byte Byte.line_feed) x j
+
+none-here : (b : Bool) → (b ≡ true → ⊥) → b ≡ false
+none-here true h = absurd (h refl)
+none-here false h = refl
+
+pub line-unended : (x : List ℕ) → Nowhere (feed_at x) 0 (length x) → length x ≡ line_length x
+line-unended x h = sym (line-whole x (λ j l. none-here _ (h j (omega arith) l)))
+
+pub line-found : (x : List ℕ) (n : ℕ) (c : Bool) → NoneBefore (feed_at x) 0 (length x) n × feed_at x n → c ≡ ends_in_cr (take n x)
+    → up_to n c ≡ line_length x
+line-found x n c h e = rw e (sym (line-feed x n (λ j l. none-here _ (h.0.before j (omega arith) l)) h.0.high h.1))
+
+pub line-passed : {s : List ℕ} {at n : ℕ} → at ≤ length s → n ≡ line_length (take (length s - at) (drop at s))
+    → Passed s at (line_length (drop at s)) (at + n)
+line-passed {s} {at} {n} l h =
+    let d : length (drop at s) ≡ length s - at = length-drop at s in
+    let q : length (drop at s) ≤ length s - at = omega arith in
+    let e : n ≡ line_length (drop at s) = h ∙ ap line_length (take_all (length s - at) (drop at s) q) in
+    let w = line-le (drop at s) in
+    record { end = omega arith; within = omega arith }

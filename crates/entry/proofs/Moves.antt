@@ -38,6 +38,11 @@ pub finds-bad : {A : Type 0} {s s' : Source} {o : Out A} {r : Result (Unit {0}) 
     → Found s.bytes.now s.ptr o (Bad f s'.ptr) → r ≡ Err (Error f) → Finds s s' o r
 finds-bad b f e = rw e (record { bytes = b; found = f; shallow = λ q. let z : ◌≡◌ {A = ℕ} 0 1 = cc in omega arith })
 
+-- an error where nothing was passed
+pub finds-stay : {A : Type 0} {s s' : Source} {o : Out A} {r : Result (Unit {0}) Stop} (x : List ℕ) (kind : ErrorKind) → s'.bytes ≡ s.bytes
+    → s'.ptr ≡ s.ptr → o ≡ fail kind x → up_kind s.ptr kind ≡ kind → r ≡ Err (Error (fault_at kind s'.ptr)) → Finds s s' o r
+finds-stay {s = s} x kind b p h u e = finds-bad b (rw p (found-fail x kind h s.inside u refl)) e
+
 -- ---- one after the other
 
 module _ {A B : Type 0} {s s₁ s₂ : Source} {r : Result (Unit {0}) Stop} where

@@ -37,6 +37,7 @@ use Rattle.entry.specs.Texts.{role_of, standing, stands, after_placeable, Starte
 use Rattle.entry.proofs.Steps.{step_then}
 use Rattle.entry.proofs.Dids.{fault-up, words-length, words-none, Found, found, failed-wrote, step-failed, lost, far}
 use Rattle.entry.proofs.Chains.{frame-then}
+use Rattle.entry.proofs.Settle.{no_lines-drop}
 use Rattle.entry.proofs.Held.{placed_state, holds-placeable}
 
 -- ---- what is left of a source
@@ -72,7 +73,7 @@ module _ {s s₁ s₂ : Source} {i : ℕ} {v : Bool} (a : Goes s s₁ (skip_blan
       ap eol
       (drop-drop (spaces (rest s)) s.ptr s.bytes.now ∙ ap (λ (k : ℕ). drop k s.bytes.now) z ∙ rw a.bytes)
 
-  pub started-here : v ≡ false → Started s s₂ (record { role = InitialLineStart; last_non_blank = None; common_indent = None })
+  pub started-here : v ≡ false → Started s s₂ (record { role = InitialLineStart; last_non_blank = None; common_indent = None; lines = 0 })
   unfolding first_state
   started-here h =
       let o = a.went.onward in
@@ -89,7 +90,7 @@ module _ {s s₁ s₂ : Source} {i : ℕ} {v : Bool} (a : Goes s s₁ (skip_blan
       }
 
   pub started-below : {s₃ : Source} {c : ℕ} → v ≡ true → Goes s₂ s₃ (skip_blank_block (rest s₂)) c
-      → Started s s₃ (record { role = LineStart; last_non_blank = None; common_indent = None })
+      → Started s s₃ (record { role = LineStart; last_non_blank = None; common_indent = None; lines = 0 })
   unfolding first_state
   started-below {s₃} h w =
       let o = a.went.onward in
@@ -156,6 +157,7 @@ going_start {sub} {p₀} {p} {st} {m} r w em b =
         kept = b.last;
         few = omega arith;
         common = b.common;
+        lines = no_lines-drop (st.lines - (p₀.tree.now.count + 1)) [] tt;
         sound = tt;
       };
       spent = omega (arith, r.spent);

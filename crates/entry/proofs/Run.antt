@@ -9,7 +9,9 @@ use lib.Seq.{take_all}
 use Rattle.syntax.specs.Byte as Byte
 use Rattle.syntax.specs.Bytes.{run, spaces, all}
 use Rattle.laws.specs.Bytes.{by_case, run-le}
+use Rattle.entry.specs.declared.source.Source.{Source}
 use Rattle.entry.specs.Place.{Passed, Counted}
+use Rattle.entry.specs.Reads.{rest, Skips}
 
 -- where a run ends
 pub run_until : (p : ℕ → Bool) (x : List ℕ) (k : ℕ) → k ≤ length x → ((j : ℕ) → j < k → p (get_or x j 0) ≡ true)
@@ -25,20 +27,41 @@ run_until p (b ∷ x) (suc k) l h e =
 pub run-counted : (p : ℕ → Bool) {x : List ℕ} {n : ℕ} → Counted (λ b r. r ≡ p b) x n → run p x ≡ n
 run-counted p {x} {n} c = run_until p x n c.within (λ k h. sym (c.passing k h)) (λ h. sym (c.stops h))
 
+-- a test that answers by p
+pub counted-by : (p : ℕ → Bool) {q : ℕ → Bool → Type 0} {x : List ℕ} {n : ℕ} → ((b : ℕ) (r : Bool) → q b r → r ≡ p b) → Counted q x n
+    → Counted (λ b r. r ≡ p b) x n
+counted-by p f c =
+    record { within = c.within; passing = λ k h. f _ _ (c.passing k h); stops = λ h. f _ _ (c.stops h) }
+
 -- those at the start of a slice's end
+pub counted-rest : {answers : ℕ → Bool → Type 0} (s : List ℕ) (at : ℕ) {n : ℕ} → Counted answers (take (length s - at) (drop at s)) n
+    → Counted answers (drop at s) n
+counted-rest s at h =
+    let d : length (drop at s) ≡ length s - at = length-drop at s in
+    let q : length (drop at s) ≤ length s - at = omega arith in
+    rw (take_all (length s - at) (drop at s) q) at h
+
 pub passed-run : (p : ℕ → Bool) {s : List ℕ} {at n : ℕ} → at ≤ length s
     → Counted (λ b r. r ≡ p b) (take (length s - at) (drop at s)) n → Passed s at (run p (drop at s)) (at + n)
 passed-run p {s} {at} {n} l h =
     let d : length (drop at s) ≡ length s - at = length-drop at s in
-    let q : length (drop at s) ≤ length s - at = omega arith in
-    let e : run p (drop at s) ≡ n = rw (take_all (length s - at) (drop at s) q) at (run-counted p h) in
+    let e = run-counted p (counted-rest s at h) in
     let w = run-le p (drop at s) in
-    record { end = omega arith; within = omega arith }
+    record { end = omega (arith, e); within = omega (arith, e) }
 
 pub passed-spaces : {s : List ℕ} {at n : ℕ} → at ≤ length s
     → Counted (λ b r. r ≡ (b == Byte.space)) (take (length s - at) (drop at s)) n → Passed s at (spaces (drop at s)) (at + n)
 unfolding spaces
 passed-spaces l h = passed-run (λ b. b == Byte.space) l h
+
+-- what skip_while passed, by a test that answers by p
+pub skips-run : (p : ℕ → Bool) {answers : ℕ → Bool → Type 0} {s s' : Source} {n : ℕ} → ((b : ℕ) (r : Bool) → answers b r → r ≡ p b)
+    → Skips answers s s' n → Passed s.bytes.now s.ptr (run p (rest s)) s'.ptr × (run p (rest s) ≡ n)
+skips-run p {s = s} f h =
+    let d : length (rest s) ≡ length s.bytes.now - s.ptr = length-drop s.ptr s.bytes.now in
+    let l = s.inside in
+    let e = run-counted p (counted-by p f h.counted) in
+    (record { end = omega (arith, h.end, e); within = omega (arith, h.end, h.counted.within) }, e)
 
 pub run_take : (p : ℕ → Bool) (n : ℕ) (x : List ℕ) → run p (take n x) ≡ min n (run p x)
 unfolding run

@@ -14,13 +14,13 @@ use Rattle.std.specs.List.{prefix_len, take_while}
 use Rattle.std.proofs.lemmas.List.Folds.{length-prefix_len}
 use Rattle.std.proofs.lemmas.Grind.{get_or_default_zero}
 use lib.ListN.{length-drop, length-map, drop_of_length-le}
-use lib.Seq.{drop-append-le, get_or-set_other, take_all, length-take-le, drop_at, set-get_or}
+use lib.Seq.{drop-drop, drop-append-le, get_or-set_other, take_all, length-take-le, drop_at, set-get_or}
 use Rattle.syntax.specs.Bytes.{run, spaces}
 use Rattle.syntax.specs.Pattern.{trimmed, is_continuation, goes_on}
 use Rattle.entry.specs.Tree.{Word, word, marks_in, Step}
 use Rattle.entry.specs.declared.source.Source.{Source}
 use Rattle.entry.specs.declared.parser.Parser.{Parser}
-use Rattle.entry.specs.Settle.{settle_word, is_trimmed, trim_words, trimmed_end, Within, Remarks, Settled, Trimmable, Trimmed}
+use Rattle.entry.specs.Settle.{settle_word, is_trimmed, trim_words, trimmed_end, Within, NoLines, Remarks, Trimmable, Trimmed}
 use Rattle.laws.specs.Bytes.{by_case, spaces-le}
 use Rattle.laws.specs.Moving.{map-append}
 use Rattle.laws.specs.Bounds.Pattern.{trimmed-le}
@@ -32,7 +32,7 @@ spaces-end : (s : List ℕ) (i : ℕ) → length s ≤ i → spaces (drop i s) �
 unfolding spaces run
 spaces-end s i h = rw (drop_of_length-le s h)
 
-run-prefix : (p : ℕ → Bool) (x : List ℕ) → prefix_len p x ≡ run p x
+pub run-prefix : (p : ℕ → Bool) (x : List ℕ) → prefix_len p x ≡ run p x
 unfolding run
 run-prefix p [] = refl
 run-prefix p (b ∷ x) = by_case (p b) (λ q. rw (q, run) (let e = run-prefix p x in omega arith)) (λ q. rw (q, run) refl)
@@ -62,6 +62,42 @@ byte-got s i r x k f e =
     let f' : x.now ≡ get_or s i x.now = rw e at f in
     let l : i < length s = ltb-true i (length s) (sym k') in
     (l, f' ∙ get_or_default_zero s i x.now l)
+
+-- ---- marks that open no text at the start of a line
+pub no_lines-both : (xs ys : List Word) → NoLines xs → NoLines ys → NoLines (xs ++ ys)
+no_lines-both [] ys p q = q
+no_lines-both (word k i ∷ xs) ys p q = (p.0, no_lines-both xs ys p.1 q)
+
+no_lines-parts : (xs ys : List Word) → NoLines (xs ++ ys) → NoLines xs × NoLines ys
+no_lines-parts [] ys p = (tt, p)
+no_lines-parts (word k i ∷ xs) ys p = let q = no_lines-parts xs ys p.1 in ((p.0, q.0), q.1)
+
+pub no_lines-drop : (j : ℕ) (xs : List Word) → NoLines xs → NoLines (drop j xs)
+no_lines-drop zero xs p = p
+no_lines-drop (suc j) [] p = tt
+no_lines-drop (suc j) (word k i ∷ xs) p = no_lines-drop j xs p.1
+
+pub no_lines-add : (j : ℕ) (xs ys : List Word) → NoLines (drop j xs) → NoLines ys → NoLines (drop j (xs ++ ys))
+no_lines-add zero xs ys p q = no_lines-both xs ys p q
+no_lines-add (suc j) [] ys p q = no_lines-drop (suc j) ys q
+no_lines-add (suc j) (x ∷ xs) ys p q = no_lines-add j xs ys p q
+
+pub no_lines-less : (j : ℕ) (xs ys : List Word) → NoLines (drop j (xs ++ ys)) → NoLines (drop j xs)
+no_lines-less zero xs ys p = (no_lines-parts xs ys p).0
+no_lines-less (suc j) [] ys p = tt
+no_lines-less (suc j) (x ∷ xs) ys p = no_lines-less j xs ys p
+
+no_line-at : (cap n j : ℕ) (t : List ℕ) → NoLines (drop j (marks_in cap n t)) → (k : ℕ) → j ≤ k → k < n → get_or t (k + 2) 0 ≡ 200 → ⊥
+unfolding marks_in
+no_line-at cap zero j t h k a b = absurd (omega arith)
+no_line-at cap (suc n) j t h k a b = go (dec_le (k + 1) n) (no_line-at cap n j t parts.0 k a)
+  where
+    parts : NoLines (drop j (marks_in cap n t)) × NoLines (word (get_or t (n + 2) 0) (get_or t (cap + n + 2) 0) ∷ [])
+    parts = no_lines-parts (drop j (marks_in cap n t)) _ (rw (drop-append-le j (marks_in cap n t) _ (rw (marks-length cap n t) (omega arith))) at h)
+
+    go : Dec (k + 1 ≤ n) → (k < n → get_or t (k + 2) 0 ≡ 200 → ⊥) → get_or t (k + 2) 0 ≡ 200 → ⊥
+    go (yes c) f = f (omega arith)
+    go (no c) f = let e : k ≡ n = omega arith in λ q. parts.1.0 (rw e at q)
 
 -- ---- the marks of a settled text
 -- a place keeps its width when the spaces there are passed
@@ -148,9 +184,28 @@ settle-line s cap from to common t t' i p m l g h e q =
     (λ k a b. get_or-set_other (set t' (i + 2) 12) (cap + i + 2) (cap + k + 2) _ 0 (λ w. omega arith)
     ∙ get_or-set_other t' (i + 2) (cap + k + 2) 12 0 (λ w. omega arith))
 
-pub settle-end : (s : List ℕ) (cap from to common : ℕ) (t t' : List ℕ) (i : ℕ) → Settling s cap from to common t t' i → to ≤ i
+settle-end : (s : List ℕ) (cap from to common : ℕ) (t t' : List ℕ) (i : ℕ) → Settling s cap from to common t t' i → to ≤ i
     → Step cap from t t' (map (settle_word s common) (drop from (marks_in cap to t)))
 settle-end s cap from to common t t' i g h = let e : i ≡ to = omega (arith, g.order) in rw e at g.done
+
+-- the marks from i on that open no text at the start of a line
+settle-rest : (s : List ℕ) (cap from to common : ℕ) (t t' : List ℕ) (d i : ℕ) → to ≡ i + d → Settling s cap from to common t t' i
+    → ((k : ℕ) → i ≤ k → k < to → get_or t (k + 2) 0 ≡ 200 → ⊥)
+    → Step cap from t t' (map (settle_word s common) (drop from (marks_in cap to t)))
+settle-rest s cap from to common t t' zero i e g f = settle-end s cap from to common t t' i g (omega arith)
+settle-rest s cap from to common t t' (suc d) i e g f =
+    settle-rest s cap from to common t t' d (i + 1) (omega arith)
+    (settle_other s cap from to common t t' i g (omega arith)
+    (λ q. f i (omega arith) (omega arith) (sym (g.kinds i (omega arith) (omega arith)) ∙ q)))
+    (λ k a b. f k (omega arith) b)
+
+-- where the loop ends, after which no text starts a line
+pub settle-all : (s : List ℕ) (cap from to common j i : ℕ) (t t' : List ℕ) → Settling s cap from to common t t' i → min j to ≤ i
+    → NoLines (drop (j - from) (drop from (marks_in cap to t)))
+    → Step cap from t t' (map (settle_word s common) (drop from (marks_in cap to t)))
+settle-all s cap from to common j i t t' g l h =
+    settle-rest s cap from to common t t' (to - i) i (omega (arith, g.order)) g
+    (λ k a b. no_line-at cap to (from + (j - from)) t (rw drop-drop at h) k (omega (arith, g.order)) b)
 
 -- ---- trimming: the last byte that is not trimmed decides
 trimmed-none : (x : List ℕ) → ((k : ℕ) → k < length x → not (is_trimmed (get_or x k 0)) ≡ false) → trimmed x ≡ 0
@@ -234,130 +289,63 @@ still s w c n =
       count = n;
     }
 
-pub then-still : {p p₁ p₂ : Parser} → Remarks p p₁ → Remarks p₁ p₂ → Remarks p p₂
-then-still a b =
-    record {
-      frame = record {
-        bytes = b.frame.bytes ∙ a.frame.bytes;
-        tree = record {
-          words = b.frame.tree.words ∙ a.frame.tree.words;
-          capacity = b.frame.tree.capacity ∙ a.frame.tree.capacity;
-        };
-      };
-      place = b.place ∙ a.place;
-      count = b.count ∙ a.count;
-    }
-
--- the loop of `settle`
-pub record Going (p p' : Parser) (from common i : ℕ) : Type 0 where
-  pub kept : Remarks p p'
-  pub marks : Settling p.source.bytes.now p.tree.now.capacity from p.tree.now.count common p.tree.now.words.now p'.tree.now.words.now i
-
-pub going-start : (p : Parser) (from common : ℕ) → from ≤ p.tree.now.count → Going p p from common from
-going-start p from common h =
-    record {
-      kept = still refl refl refl refl;
-      marks = settle-none p.source.bytes.now p.tree.now.capacity from p.tree.now.count common p.tree.now.words.now h;
-    }
-
-module _ {p p' : Parser} {from common i : ℕ} (g : Going p p' from common i) (h : i < p.tree.now.count) {k q : ℕ} (ek : k ≡ 2 + i)
-    (eq : q ≡ 2 + p'.tree.now.capacity + i) where
-  kind-place : k ≡ i + 2
-  kind-place = omega arith
-
-  pub going-other : (get_or p'.tree.now.words.now k 0 ≡ 200 → ⊥) → Going p p' from common (i + 1)
-  going-other f =
-      record {
-        kept = g.kept;
-        marks =
-            settle_other p.source.bytes.now p.tree.now.capacity from p.tree.now.count common p.tree.now.words.now p'.tree.now.words.now i g.marks h
-            (rw kind-place at f);
-      }
-
-  pub going-line : {p'' : Parser} {n : ℕ} → p.tree.now.count ≤ p.tree.now.capacity → Remarks p' p'' → get_or p'.tree.now.words.now k 0 ≡ 200
-      → n ≡ min (spaces (drop (get_or p'.tree.now.words.now q 0) p'.source.bytes.now)) common
-      → p''.tree.now.words.now ≡ set (set p'.tree.now.words.now k 12) q (get_or p'.tree.now.words.now q 0 + n)
-      → Going p p'' from common (i + 1)
-  going-line {p''} {n} m r w e u =
-      let c : q ≡ p.tree.now.capacity + i + 2 = omega (arith, g.kept.frame.tree.capacity) in
-      let v : get_or p'.tree.now.words.now (i + 2) 0 ≡ 200 = rw kind-place at w in
-      let b : n ≡ min (spaces (drop (get_or p'.tree.now.words.now (p.tree.now.capacity + i + 2) 0) p.source.bytes.now)) common =
-      rw (c, g.kept.frame.bytes) at e in
-      let o = p.tree.now.layout in
-      record {
-        kept = then-still g.kept r;
-        marks =
-            rw (u, kind-place, c)
-            (settle-line p.source.bytes.now p.tree.now.capacity from p.tree.now.count common p.tree.now.words.now p'.tree.now.words.now i n m o
-            g.marks h v b);
-      }
-
-  pub going-fits : get_or p'.tree.now.words.now q 0 < 2 ^ 32 → {n : ℕ}
-      → n ≡ min (spaces (drop (get_or p'.tree.now.words.now q 0) p'.source.bytes.now)) common
-      → get_or p'.tree.now.words.now q 0 + n < 2 ^ 32
-  going-fits l {n} e =
-      indent-fits p'.source.bytes.now (get_or p'.tree.now.words.now q 0) common n l (omega (arith, p'.source.short)) e
-
-pub going-end : {p p' : Parser} {from common i : ℕ} → Going p p' from common i → p.tree.now.count ≤ i → Settled from common p p'
-going-end {p} {p'} {from} {common} {i} g h =
-    record {
-      kept = g.kept;
-      settled =
-          settle-end p.source.bytes.now p.tree.now.capacity from p.tree.now.count common p.tree.now.words.now p'.tree.now.words.now i g.marks h;
-    }
-
 -- the last text
-module _ {p : Parser} (t : Trimmable p) {k a b : ℕ} (ek : k ≡ 2 + (p.tree.now.count - 1))
-    (ea : a ≡ 2 + p.tree.now.capacity + (p.tree.now.count - 1) - 1) (eb : b ≡ 2 + p.tree.now.capacity + (p.tree.now.count - 1)) where
-  kind-at : k ≡ p.tree.now.count - 2 + 1 + 2
+module _ {p : Parser} (t : Trimmable p) where
+  kind-at : 2 + (p.tree.now.count - 1) ≡ p.tree.now.count - 2 + 1 + 2
   kind-at = omega (arith, t.some)
 
-  start-at : a ≡ p.tree.now.capacity + (p.tree.now.count - 2) + 2
+  start-at : 2 + p.tree.now.capacity + (p.tree.now.count - 1 - 1) ≡ p.tree.now.capacity + (p.tree.now.count - 2) + 2
   start-at = omega (arith, t.some)
 
-  end-at : b ≡ p.tree.now.capacity + (p.tree.now.count - 2 + 1) + 2
+  end-at : 2 + p.tree.now.capacity + (p.tree.now.count - 1) ≡ p.tree.now.capacity + (p.tree.now.count - 2 + 1) + 2
   end-at = omega (arith, t.some)
 
-  pub text-within : get_or p.tree.now.words.now k 0 ≡ 112
-      → (get_or p.tree.now.words.now a 0 ≤ get_or p.tree.now.words.now b 0) × (get_or p.tree.now.words.now b 0 ≤ length p.source.bytes.now)
-  text-within h =
-      rw (start-at, end-at)
-      (within p.source.bytes.now p.tree.now.capacity (p.tree.now.count - 2) p.tree.now.words.now t.within (rw kind-at at h))
-
-  module _ (h : get_or p.tree.now.words.now k 0 ≡ 112) {n : ℕ}
-      (e : n ≡ trimmed (take (get_or p.tree.now.words.now b 0 - get_or p.tree.now.words.now a 0) (drop (get_or p.tree.now.words.now a 0) p.source.bytes.now))) where
-    pub trim-fits : get_or p.tree.now.words.now a 0 + n ≤ 1000000
-    trim-fits =
-        let s = p.source.bytes.now in
-        let i = get_or p.tree.now.words.now a 0 in
-        let j = get_or p.tree.now.words.now b 0 in
-        let o = text-within h in
-        let l = trimmed-le (take (j - i) (drop i s)) in
-        let z = length-drop i s in
-        let v = length-take-le (j - i) (drop i s) (omega arith) in
-        omega (arith, p.source.short)
-
-    pub trim-text : {p' : Parser} → Remarks p p' → p'.tree.now.words.now ≡ set p.tree.now.words.now b (get_or p.tree.now.words.now a 0 + n) → Trimmed p p'
-    unfolding trimmed_end
-    trim-text {p'} r u =
-        let w : List ℕ = p.tree.now.words.now in
-        let g : get_or w a 0 + n ≡ trimmed_end p.source.bytes.now (get_or w a 0) (get_or w b 0) = ap (λ (i : ℕ). get_or w a 0 + i) e in
-        let f : get_or w a 0 + n
-        ≡ trimmed_end p.source.bytes.now (get_or w (p.tree.now.capacity + (p.tree.now.count - 2) + 2) 0)
-        (get_or w (p.tree.now.capacity + (p.tree.now.count - 2 + 1) + 2) 0) =
-        g
-        ∙ ap₂ (λ (i j : ℕ). trimmed_end p.source.bytes.now (get_or w i 0) (get_or w j 0)) start-at end-at in
+  module _ {k : ℕ} (ek : k ≡ get_or p.tree.now.words.now (2 + (p.tree.now.count - 1)) 0) where
+    pub trim-none-text : {p' : Parser} → Remarks p p' → p'.tree.now.words.now ≡ p.tree.now.words.now → (k ≡ 112 → ⊥) → Trimmed p p'
+    trim-none-text r u f =
         record {
           kept = r;
           trimmed =
-              rw (u, end-at)
-              (trim-yes p.source.bytes.now p.tree.now.capacity (p.tree.now.count - 2) w (get_or w a 0 + n) (omega (arith, t.some, t.room))
-              p.tree.now.layout (rw kind-at at h) f);
+              rw u
+              (trim-no p.source.bytes.now p.tree.now.capacity (p.tree.now.count - 2) p.tree.now.words.now (λ q. f (ek ∙ rw kind-at q)));
         }
 
-  pub trim-none-text : (get_or p.tree.now.words.now k 0 ≡ 112 → ⊥) → Trimmed p p
-  trim-none-text f =
-      record {
-        kept = still refl refl refl refl;
-        trimmed = trim-no p.source.bytes.now p.tree.now.capacity (p.tree.now.count - 2) p.tree.now.words.now (rw kind-at at f);
-      }
+    module _ {a b : ℕ} (ea : a ≡ get_or p.tree.now.words.now (2 + p.tree.now.capacity + (p.tree.now.count - 1 - 1)) 0)
+        (eb : b ≡ get_or p.tree.now.words.now (2 + p.tree.now.capacity + (p.tree.now.count - 1)) 0) (h : k ≡ 112) where
+      closes : get_or p.tree.now.words.now (p.tree.now.count - 2 + 1 + 2) 0 ≡ 112
+      closes = rw kind-at at (sym ek ∙ h)
+
+      pub text-within : (a ≤ b) × (b ≤ length p.source.bytes.now)
+      text-within =
+          rw (ea, eb, start-at, end-at)
+          (within p.source.bytes.now p.tree.now.capacity (p.tree.now.count - 2) p.tree.now.words.now t.within closes)
+
+      module _ {n : ℕ} (e : n ≡ trimmed (take (b - a) (drop a p.source.bytes.now))) where
+        pub trim-fits : a + n ≤ 1000000
+        trim-fits =
+            let s = p.source.bytes.now in
+            let o = text-within in
+            let l = trimmed-le (take (b - a) (drop a s)) in
+            let z = length-drop a s in
+            let v = length-take-le (b - a) (drop a s) (omega arith) in
+            omega (arith, p.source.short)
+
+        pub trim-text : {p' : Parser} → Remarks p p'
+            → p'.tree.now.words.now ≡ set p.tree.now.words.now (2 + p.tree.now.capacity + (p.tree.now.count - 1)) (a + n) → Trimmed p p'
+        unfolding trimmed_end
+        trim-text {p'} r u =
+            let w : List ℕ = p.tree.now.words.now in
+            let g : a + n ≡ trimmed_end p.source.bytes.now a b = ap (λ (i : ℕ). a + i) e in
+            let f : a + n
+            ≡ trimmed_end p.source.bytes.now (get_or w (p.tree.now.capacity + (p.tree.now.count - 2) + 2) 0)
+            (get_or w (p.tree.now.capacity + (p.tree.now.count - 2 + 1) + 2) 0) =
+            g
+            ∙ ap₂ (λ (i j : ℕ). trimmed_end p.source.bytes.now i j) (ea ∙ ap (λ (i : ℕ). get_or w i 0) start-at)
+            (eb ∙ ap (λ (i : ℕ). get_or w i 0) end-at) in
+            record {
+              kept = r;
+              trimmed =
+                  rw (u, end-at)
+                  (trim-yes p.source.bytes.now p.tree.now.capacity (p.tree.now.count - 2) w (a + n) (omega (arith, t.some, t.room))
+                  p.tree.now.layout closes f);
+            }

@@ -1,24 +1,19 @@
 -- What an inline expression starts with.
-use Rattle.std.specs.Prelude.{◌≡◌, ℕ, ◌+◌, Bool, true, false, Option, Some, Result, Ok, Err, eqb, ltb, List, [], ◌∷◌, length, get_or, drop}
+use Rattle.std.specs.Prelude.{◌≡◌, ℕ, Bool, true, false, Result, Ok, Err, eqb, List, [], ◌∷◌}
 use mathlib.Core.Path.{refl, sym, ap, subst, ◌∙◌}
 use native.Mathlib.Omega.{arith}
 use Rattle.syntax.specs.Byte as Byte
 use Rattle.syntax.specs.Bytes.{starts_with, starts, is_letter, is_digit}
 use Rattle.syntax.specs.declared.errors.ErrorKind.{ErrorKind}
-use Rattle.syntax.specs.declared.errors.ErrorKind.TheVariants.{ExpectedLiteral, ExpectedInlineExpression}
 use Rattle.syntax.specs.Errors.{up_kind, fault_at}
-use borrow.Author.Tests.{eq-eqb, ne_eqb}
 use Rattle.syntax.specs.Reader.{Out, deep, fail}
 use Rattle.syntax.specs.Pattern.{Inside}
 use Rattle.syntax.specs.Expression.{Inline, as_string, string_literal, number_literal, as_inline, reference, term_reference}
 use Rattle.syntax.specs.Expression.{variable_reference, nested_placeable, no_inline, non_literal, get_inline_expression}
-use Rattle.std.specs.Option.{is_some, IfSome}
-use Rattle.std.proofs.Common.{Bor}
 use Rattle.laws.specs.Bytes.{by_case}
 use Rattle.entry.specs.declared.errors.Stop.{Stop}
 use Rattle.entry.specs.declared.errors.Stop.TheVariants.{Error}
-use Rattle.entry.proofs.Tests.{Got, got-rest}
-use Rattle.entry.specs.Shape.{start_of, start_at, non_literal_start, no_start}
+use Rattle.entry.specs.Shape.{start_of, start_at, non_literal_start}
 use Rattle.entry.specs.declared.expression.Start.{Start}
 use Rattle.entry.specs.declared.expression.Start.TheVariants.{String, Number, Reference, Term, Variable, Placeable}
 
@@ -97,61 +92,3 @@ unstarted {at} {r} {e} sub l s p h = go (start_of l s) (start-by sub l s) (sym p
         → Unstarted sub l at s e
     go (Ok x) b g = let z : ◌≡◌ {A = ℕ} 0 1 = cc in absurd (omega arith)
     go (Err kind) b g = record { kind = kind; error = cc; is = b.0; up = b.1 at }
-
--- ---- by the tests of the code
-module _ (l : Bool) (b : ℕ) (bs : List ℕ) where
-  pub start-quote : b ≡ 34 → start_of l (b ∷ bs) ≡ Ok String
-  unfolding start_of
-  start-quote h = rw (eq-eqb b 34 h, start_of)
-
-  pub start-digit : (b ≡ 34 → ⊥) → is_digit b ≡ true → start_of l (b ∷ bs) ≡ Ok Number
-  unfolding start_of
-  start-digit p q = rw (ne_eqb b 34 p, start_of, q)
-
-  module _ (p : b ≡ 34 → ⊥) (q : is_digit b ≡ false) where
-    pub start-letter : is_letter b ≡ true → start_of l (b ∷ bs) ≡ Ok Reference
-    unfolding start_of
-    start-letter r = rw (ne_eqb b 34 p, start_of, q, r)
-
-    module _ (r : is_letter b ≡ false) where
-      pub start-literal : l ≡ true → start_of l (b ∷ bs) ≡ Err ExpectedLiteral
-      unfolding start_of
-      start-literal e = rw (ne_eqb b 34 p, start_of, q, r, e)
-
-      module _ (e : l ≡ false) where
-        start-other : start_of l (b ∷ bs) ≡ non_literal_start b (starts is_letter bs)
-        unfolding start_of
-        start-other = rw (ne_eqb b 34 p, start_of, q, r, e)
-
-        pub start-term : b ≡ 45 → starts is_letter bs ≡ true → start_of l (b ∷ bs) ≡ Ok Term
-        unfolding non_literal_start
-        start-term h v = start-other ∙ (rw (eq-eqb b 45 h, non_literal_start, v))
-
-        pub start-minus : b ≡ 45 → starts is_letter bs ≡ false → start_of l (b ∷ bs) ≡ Ok Number
-        unfolding non_literal_start
-        start-minus h v = start-other ∙ (rw (eq-eqb b 45 h, non_literal_start, v))
-
-        pub start-variable : b ≡ 36 → start_of l (b ∷ bs) ≡ Ok Variable
-        unfolding non_literal_start
-        start-variable h = start-other ∙ (rw (ne_eqb b 45 (λ z. omega arith), non_literal_start, eq-eqb b 36 h))
-
-        pub start-placeable : b ≡ 123 → start_of l (b ∷ bs) ≡ Ok Placeable
-        unfolding non_literal_start
-        start-placeable h =
-            start-other ∙ (rw (ne_eqb b 45 (λ z. omega arith), non_literal_start, ne_eqb b 36 (λ z. omega arith), eq-eqb b 123 h))
-
-        pub start-nothing : (b ≡ 45 → ⊥) → (b ≡ 36 → ⊥) → (b ≡ 123 → ⊥) → start_of l (b ∷ bs) ≡ Err ExpectedInlineExpression
-        unfolding non_literal_start
-        start-nothing x y z = start-other ∙ (rw (ne_eqb b 45 x, non_literal_start, ne_eqb b 36 y, ne_eqb b 123 z))
-
-pub start-end : (l : Bool) → start_of l [] ≡ no_start l
-unfolding start_of
-start-end l = refl
-
--- the byte that the code got
-pub byte-rest : {o : Option (Bor ℕ)} {x : Bor ℕ} (s : List ℕ) (i : ℕ) → o ≡ Some x → is_some o ≡ ltb i (length s)
-    → IfSome o (λ x. x.now ≡ get_or s i x.now) → drop i s ≡ x.now ∷ drop (i + 1) s
-byte-rest {o} {x} s i e p q = go o e (record { some = p; byte = q })
-  where
-    go : (o : Option (Bor ℕ)) → o ≡ Some x → Got s i o → drop i s ≡ x.now ∷ drop (i + 1) s
-    go o e g = got-rest (rw e at g)

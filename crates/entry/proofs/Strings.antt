@@ -1,5 +1,8 @@
 -- The scan of a string literal: escapes, and turns over plain bytes.
 use Rattle.std.specs.Prelude.{◌≡◌, ℕ, ◌+◌, ◌-◌, ◌<◌, ◌≤◌, min, true, leb, List, [], ◌∷◌, length, take, drop, Option, Some, None, Result, Ok, Err}
+use Rattle.std.specs.Char.{is_ascii_hexdigit}
+use Rattle.std.specs.Int.{is_in_range}
+use Rattle.std.proofs.Math.Bool.{or_assoc}
 use denote.Ref.{Bor}
 use mathlib.Core.Path.{refl, sym, ap, ◌∙◌}
 use mathlib.Core.Logic.{◌⊎◌, inl, inr}
@@ -8,7 +11,7 @@ use lib.ListN.{length-drop, drop_of_length-le}
 use lib.Seq.{drop-drop, take_all}
 use borrow.Author.Tests.{eq-eqb, ne_eqb}
 use Rattle.syntax.specs.Byte as Byte
-use Rattle.syntax.specs.Bytes.{starts_with, run, is_hex, first_width}
+use Rattle.syntax.specs.Bytes.{starts_with, run, is_digit, is_hex, first_width}
 use Rattle.syntax.specs.declared.errors.ErrorKind.TheVariants.{UnknownEscapeSequence, InvalidUnicodeEscapeSequence}
 use Rattle.syntax.specs.declared.errors.ErrorKind.TheVariants.{UnterminatedStringLiteral}
 use Rattle.syntax.specs.declared.errors.ParserError.{ParserError}
@@ -27,7 +30,7 @@ use Rattle.entry.specs.declared.source.Source.{Source}
 use Rattle.entry.specs.Reads.{rest, Finds}
 use Rattle.entry.specs.Scan.{Onward, Ended, Turned, Escapes}
 use Rattle.entry.proofs.Tests.{Got, got_end, got-rest, Stands}
-use Rattle.entry.proofs.Run.{run-counted, run_take}
+use Rattle.entry.proofs.Run.{run-counted, counted-by, run_take}
 use Rattle.entry.proofs.Places.{found_ok, found-fault, found-fail, found_at, found-bad, found_after}
 use Rattle.entry.proofs.Moves.{no-stop, finds-bad}
 use Rattle.entry.proofs.Turns.{Turning, turning-more, found-turns}
@@ -71,13 +74,18 @@ module _ (len : ℕ) (x : List ℕ) where
       → skip_unicode_escape_sequence len x ≡ bad (fault_at (InvalidUnicodeEscapeSequence 0 (n + first_width (drop n x))) n) n
   unicode-short n e h = short (λ z. h (e ∙ z)) ∙ rw e
 
+-- std's test, whose cases are grouped otherwise
+hex-ascii : (b : ℕ) → is_ascii_hexdigit b ≡ is_hex b
+unfolding is_hex is_digit
+hex-ascii b = or_assoc (is_in_range 48 57 b) (is_in_range 65 70 b) (is_in_range 97 102 b)
+
 -- hexadecimal digits at the start of a slice's end, `len` of them at the most
 pub passed-hex : (len m : ℕ) {s : List ℕ} {at n : ℕ} → at ≤ length s → m ≡ min len (length s - at)
-    → Counted (λ b r. r ≡ is_hex b) (take m (take (length s - at) (drop at s))) n → Passed s at (min len (run is_hex (drop at s))) (at + n)
+    → Counted (λ b r. r ≡ is_ascii_hexdigit b) (take m (take (length s - at) (drop at s))) n → Passed s at (min len (run is_hex (drop at s))) (at + n)
 passed-hex len m {s} {at} {n} l k h =
     let d : length (drop at s) ≡ length s - at = length-drop at s in
     let q : length (drop at s) ≤ length s - at = omega arith in
-    let f : run is_hex (take m (drop at s)) ≡ n = rw (take_all (length s - at) (drop at s) q) at (run-counted is_hex h) in
+    let f : run is_hex (take m (drop at s)) ≡ n = rw (take_all (length s - at) (drop at s) q) at (run-counted is_hex (counted-by is_hex (λ b r e. e ∙ hex-ascii b) h)) in
     let e = run_take is_hex m (drop at s) in
     let w = run-le is_hex (drop at s) in
     record { end = omega arith; within = omega arith }

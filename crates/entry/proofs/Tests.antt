@@ -1,15 +1,16 @@
 -- Tests that the code makes, and what stands at a place of a source.
-use Rattle.std.specs.Prelude.{◌≡◌, ℕ, ◌+◌, ◌<◌, ◌≤◌, Bool, true, false, ◌&&◌, eqb, ltb, List, [], ◌∷◌, length, get_or, drop, Option, Some, None}
-use Rattle.std.specs.Option.{is_some, IfSome, option_copied}
+use Rattle.std.specs.Prelude.{◌≡◌, ℕ, suc, ◌+◌, ◌-◌, ◌<◌, ◌≤◌, Bool, true, false, ◌&&◌, eqb, ltb, List, [], ◌∷◌, length, get_or, drop, Option, Some, None}
+use Rattle.std.specs.Option.{is_some, IfSome, MatchOption, option_copied}
 use denote.Ref.{Bor}
 use mathlib.Core.Path.{refl, sym, ap, ◌∙◌}
 use native.Mathlib.Numerals.{add-one}
 use native.Mathlib.Omega.{arith}
-use lib.ListN.{drop_of_length-le}
+use Rattle.std.proofs.lemmas.Bool.{false≢true}
+use lib.ListN.{drop_of_length-le, length-drop}
 use lib.Seq.{drop-cons, drop-drop}
 use borrow.Author.Tests.{ltb-true, ltb-false}
 use Rattle.syntax.specs.Bytes.{starts_with, starts, second}
-use Rattle.entry.specs.Place.{Tests}
+use Rattle.entry.specs.Place.{Tests, Starting}
 
 -- a test that the code made, and what came of it
 pub by : {A : Type 0} {a b d : A} → a ≡ b → a ≡ d → b ≡ d
@@ -32,9 +33,6 @@ starts-at p s i h = rw (drop-cons s i 0 h)
 
 pub test-with : (b : ℕ) {s : List ℕ} {i : ℕ} {r : Bool} → Tests (starts (λ y. eqb y b)) s i r → Tests (starts_with b) s i r
 test-with b {s} {i} t = record { is = t.is ∙ sym (starts-with b (drop i s)); here = t.here }
-
-pub test-starts : (b : ℕ) {s : List ℕ} {i : ℕ} {r : Bool} → Tests (starts_with b) s i r → Tests (starts (λ y. eqb y b)) s i r
-test-starts b {s} {i} t = record { is = t.is ∙ starts-with b (drop i s); here = t.here }
 
 -- the byte after the one at a place
 pub second-next : (p : ℕ → Bool) (s : List ℕ) (i : ℕ) → second p (drop i s) ≡ starts p (drop (i + 1) s)
@@ -67,6 +65,25 @@ pub test-got : (p : ℕ → Bool) {s : List ℕ} {i : ℕ} {r : Bool} (o : Optio
 unfolding starts
 test-got p None g e = record { is = e ∙ rw (got_end g) refl; here = λ t. let z : ◌≡◌ {A = ℕ} 0 1 = cc in absurd (omega arith) }
 test-got p (Some x) g e = record { is = e ∙ rw (got-rest g) refl; here = λ t. got_some g }
+
+pub starting-got : (answers : ℕ → Bool → Type 0) {s : List ℕ} {i : ℕ} (r : Bool) (o : Option (Bor ℕ)) → Got s i o
+    → MatchOption o (r ≡ false) (λ x. answers x.now r) → Starting answers (drop i s) r
+unfolding Starting
+starting-got answers r None g e = rw (got_end g) e
+starting-got answers r (Some x) g e = rw (got-rest g) e
+
+-- a test that answers by p
+pub starting-tests : (p : ℕ → Bool) {answers : ℕ → Bool → Type 0} (s : List ℕ) (i : ℕ) {r : Bool}
+    → ((b : ℕ) (r : Bool) → answers b r → r ≡ p b) → Starting answers (drop i s) r → Tests (starts p) s i r
+unfolding Starting starts
+starting-tests p {answers} s i {r} f h = go (drop i s) refl h
+  where
+    go : (x : List ℕ) → drop i s ≡ x → Starting answers x r → Tests (starts p) s i r
+    go [] e q = record { is = rw e q; here = λ t. let z : ◌≡◌ {A = Bool} false true = sym q ∙ t in absurd (false≢true z) }
+    go (b ∷ x) e q =
+        let l : length (drop i s) ≡ length s - i = length-drop i s in
+        let m : length (drop i s) ≡ suc (length x) = ap length e in
+        record { is = rw e (f b r q); here = λ t. omega arith }
 
 -- a byte that stands at a place
 pub record Stands (s : List ℕ) (i b : ℕ) : Type 0 where

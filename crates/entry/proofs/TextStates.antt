@@ -16,7 +16,7 @@ use Rattle.entry.specs.Marks.{Wrote}
 use Rattle.entry.specs.Reads.{Frame}
 use Rattle.entry.specs.Elements.{opening}
 use Rattle.entry.specs.Slice.{crlf_width, position_after}
-use Rattle.entry.specs.Texts.{starts_line, is_part, least_of, standing, text_words, Texted}
+use Rattle.entry.specs.Texts.{starts_line, is_part, least_of, lines_of, standing, text_words, Texted}
 use Rattle.entry.proofs.Steps.{step_then}
 
 -- a test of the enum
@@ -38,6 +38,7 @@ opens_text false e h q = q
 module _ (p p' : Parser) {m : Marks} (st : Reading) (start : ℕ) (x : TextSlice) {k : ℕ} {q : TextElementPosition}
     (bytes : p'.source.bytes ≡ p.source.bytes) (place : p'.source.ptr ≡ p.source.ptr + x.size + crlf_width x.ending)
     (part : is_part (starts_line st.role) x ≡ true) (ek : k ≡ opening (starts_line st.role)) (eq : q ≡ position_after x.ending)
+    {j : ℕ} (ej : j ≡ lines_of (starts_line st.role) p'.tree.now.count st.lines)
     (v : Wrote p.tree.now m (word k start ∷ [])) (w : Wrote m p'.tree.now (word 112 (p.source.ptr + x.size) ∷ [])) where
   frame : Frame p.source p'.source p.tree.now p'.tree.now
   frame =
@@ -53,9 +54,9 @@ module _ (p p' : Parser) {m : Marks} (st : Reading) (start : ℕ) (x : TextSlice
   two = rw (part, ← ek) (step_then v.step v.count (rw v.same.capacity at w.step))
 
   pub text-blank : x.blank ≡ true
-      → Texted st start x p p' (record { role = q; last_non_blank = st.last_non_blank; common_indent = st.common_indent })
-  text-blank b = record { frame = frame; state = rw (part, b, place, count, eq); wrote = two }
+      → Texted st start x p p' (record { role = q; last_non_blank = st.last_non_blank; common_indent = st.common_indent; lines = j })
+  text-blank b = record { frame = frame; state = rw (part, b, place, ej, count, eq); wrote = two }
 
   pub text-full : {c : Option ℕ} → x.blank ≡ false → c ≡ least_of (starts_line st.role) (p.source.ptr - start) st.common_indent
-      → Texted st start x p p' (record { role = q; last_non_blank = Some p'.tree.now.count; common_indent = c })
-  text-full b e = record { frame = frame; state = rw (part, b, place, count, eq, e); wrote = two }
+      → Texted st start x p p' (record { role = q; last_non_blank = Some p'.tree.now.count; common_indent = c; lines = j })
+  text-full b e = record { frame = frame; state = rw (part, b, place, ej, count, eq, e); wrote = two }

@@ -7,7 +7,7 @@ use Rattle.syntax.specs.Pattern.{used_by}
 use Rattle.syntax.specs.Expression.{level}
 use Rattle.syntax.specs.Core as Core
 use Rattle.entry.specs.Tree.{word, Step}
-use Rattle.entry.specs.Did.{told, Did}
+use Rattle.entry.specs.Did.{told, result_by, plain, Did}
 use Rattle.entry.specs.Entry.{entry_of}
 use Rattle.entry.specs.declared.border.BlankBlock.{BlankBlock}
 use Rattle.entry.specs.declared.border.EntryRead.{EntryRead}
@@ -22,7 +22,7 @@ readable l m at n = nat_le l max_length && (nat_le at l && (nat_le n (tree_capac
 -- what was done where it can be read: the words of the two arrays past the entry's marks are open (`Step`)
 abbrev pub ReadAs : List ℕ → (at left n : ℕ) → (t t' : List ℕ) → Option EntryRead → Type 0
 ReadAs s at left n t t' (Some x) =
-    Did entry_of (tree_capacity (length s)) at n t t' (told x.entry x.at x.marks) (Core.get_entry (level left) (drop at s))
+    Did plain (tree_capacity (length s)) at n t t' (told (result_by entry_of x.entry) x.at x.marks) (Core.get_entry (level left) (drop at s))
 ReadAs s at left n t t' None = ⊥
 
 -- what was done, by whether it can be read

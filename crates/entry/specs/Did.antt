@@ -22,6 +22,11 @@ told (Ok x) p m = yes x p m
 told (Err (Error f)) p m = no f p
 told (Err TooDeep) p m = over p
 
+-- a result with the definition's value for the code's
+abbrev pub result_by : {T A : Type 0} → (T → A) → Result T Stop → Result A Stop
+result_by v (Ok x) = Ok (v x)
+result_by v (Err e) = Err e
+
 -- the definition's answer, which counts from the place `at`, after n marks; w is the code's value for the definition's
 abbrev pub answer : {A T : Type 0} → (A → T) → ℕ → ℕ → Out A → Told T
 answer w at n (ok a ms k) = yes (w a) (at + k) (n + length ms)

@@ -11,11 +11,13 @@ use Rattle.syntax.specs.Core.{comment, message, term}
 use Rattle.entry.specs.declared.parser_core.Entry.{Entry}
 use Rattle.entry.specs.declared.parser_core.Entry.TheVariants.{Message, Term, Comment}
 use Rattle.entry.specs.declared.parser_core.Fields.{Fields}
+use Rattle.entry.specs.Level.{number}
 
-abbrev pub entry_of : Core.Entry → Entry
-entry_of message = Message
-entry_of term = Term
-entry_of (comment l) = Comment l
+-- the definition's entry, a comment with the number of its level
+abbrev pub entry_of : Entry → Core.Entry
+entry_of Message = message
+entry_of Term = term
+entry_of (Comment l) = comment (number l)
 
 abbrev pub fields_of : Core.Fields → Fields
 fields_of x = record { name = x.name; value = x.value; attributes = x.attributes }

@@ -4,6 +4,7 @@ pub mod Place
 pub mod Marks
 pub mod Did
 pub mod Reads
+pub mod Level
 pub mod Entry
 pub mod Names
 pub mod Shape

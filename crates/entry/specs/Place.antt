@@ -1,5 +1,5 @@
 -- Places of the source: what the functions that write no marks ask and answer.
-use Rattle.std.specs.Prelude.{◌≡◌, ℕ, ◌+◌, ◌-◌, ◌<◌, ◌≤◌, Bool, true, false, List, [], ◌∷◌, length, drop, slice_index, nat_lt}
+use Rattle.std.specs.Prelude.{◌≡◌, ℕ, zero, suc, ◌+◌, ◌-◌, ◌<◌, ◌≤◌, Bool, true, false, Option, None, Some, List, [], ◌∷◌, length, drop, slice_index, nat_lt}
 use Rattle.syntax.specs.Bytes.{eol}
 use Rattle.syntax.specs.declared.errors.ParserError.{ParserError}
 use Rattle.syntax.specs.Errors.{up_fault}
@@ -9,6 +9,11 @@ use Rattle.syntax.specs.Reader.{Out, ok, bad, deep}
 pub record Tests (p : List ℕ → Bool) (s : List ℕ) (at : ℕ) (r : Bool) : Type 0 where
   pub is : r ≡ p (drop at s)
   pub here : r ≡ true → at < length s
+
+-- the first byte passes a test or not, by what a call of it may answer; at the end none does
+unfoldable pub Starting : (ℕ → Bool → Type 0) → List ℕ → Bool → Type 0
+Starting answers [] r = r ≡ false
+Starting answers (b ∷ bs) r = answers b r
 
 -- n bytes at the start pass a test, by what a call of it may answer, and not the byte after them
 pub record Counted (answers : ℕ → Bool → Type 0) (s : List ℕ) (n : ℕ) : Type 0 where
@@ -53,6 +58,10 @@ pub record Found {A : Type 0} (s : List ℕ) (at : ℕ) (o : Out A) (r : Place) 
   pub answers : r ≡ placed at o
   pub bare : Bare o
   pub within : reached r ≤ length s
+
+-- how long the line end is that stands at the start, if one does
+unfoldable pub line_end : List ℕ → Option ℕ
+line_end s = elim (eol s) [ zero ↦ None | suc n ↦ Some (suc n) ]
 
 -- whether a line ends here, by a line end or with the source
 unfoldable pub is_eol : List ℕ → Bool

@@ -1,12 +1,12 @@
 -- What the contracts say of moves over a source, and of readers with marks.
-use Rattle.std.specs.Prelude.{◌≡◌, ℕ, ◌+◌, ◌≤◌, Result, Ok, Err, List, drop}
+use Rattle.std.specs.Prelude.{◌≡◌, ℕ, ◌+◌, ◌≤◌, Bool, Result, Ok, Err, List, drop}
 use Rattle.syntax.specs.Layout.{tree_capacity}
 use Rattle.syntax.specs.Reader.{Out}
 use Rattle.entry.specs.declared.errors.Stop.{Stop}
 use Rattle.entry.specs.declared.errors.Stop.TheVariants.{Error, TooDeep}
 use Rattle.entry.specs.declared.source.Source.{Source}
 use Rattle.entry.specs.declared.parser.Parser.{Parser}
-use Rattle.entry.specs.Place.{Place, At, Bad, Passed, Went, Found}
+use Rattle.entry.specs.Place.{Place, At, Bad, Counted, Passed, Went, Found}
 use Rattle.entry.specs.declared.marks.Marks.{Marks}
 use Rattle.entry.specs.Marks.{Same}
 use Rattle.entry.specs.Did.{told, Did}
@@ -21,6 +21,12 @@ rest s = drop s.ptr s.bytes.now
 pub record Passes (s s' : Source) (k : ℕ) : Type 0 where
   pub bytes : s'.bytes ≡ s.bytes
   pub passed : Passed s.bytes.now s.ptr k s'.ptr
+
+-- the n bytes were passed that pass a test, by what a call of it may answer, and not the byte after them
+pub record Skips (answers : ℕ → Bool → Type 0) (s s' : Source) (n : ℕ) : Type 0 where
+  pub bytes : s'.bytes ≡ s.bytes
+  pub counted : Counted answers (rest s) n
+  pub end : s'.ptr ≡ s.ptr + n
 
 -- n bytes were passed, and are told
 pub record Counts (s s' : Source) (n r : ℕ) : Type 0 where

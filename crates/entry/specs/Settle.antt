@@ -4,8 +4,10 @@ use Rattle.syntax.specs.Byte as Byte
 use Rattle.syntax.specs.Kind as Kind
 use Rattle.syntax.specs.Bytes.{spaces}
 use Rattle.syntax.specs.Pattern.{trimmed}
+use Rattle.entry.specs.declared.marks.Marks.{Marks}
 use Rattle.entry.specs.declared.parser.Parser.{Parser}
 use Rattle.entry.specs.Tree.{Word, word, marks_in, Step}
+use Rattle.entry.specs.Marks.{Same}
 use Rattle.entry.specs.Reads.{Frame}
 
 -- the kind, until its pattern ends, of the mark that opens a text at the start of a line; in the end no mark has it
@@ -38,17 +40,16 @@ Within s (w ∷ []) = Unit {0}
 Within s (word k a ∷ word j e ∷ []) = j ≡ Kind.closing Kind.text → (a ≤ e) × (e ≤ length s)
 Within s (w ∷ v ∷ u ∷ ws) = Within s (v ∷ u ∷ ws)
 
--- nothing but marks that stand already was changed
-pub record Remarks (p p' : Parser) : Type 0 where
-  pub frame : Frame p.source p'.source p.tree.now p'.tree.now
-  pub place : p'.source.ptr ≡ p.source.ptr
-  pub count : p'.tree.now.count ≡ p.tree.now.count
+-- no mark opens a text that starts a line
+abbrev pub NoLines : List Word → Type 0
+NoLines [] = Unit {0}
+NoLines (word k p ∷ ws) = (k ≡ line_start → ⊥) × NoLines ws
 
 -- the marks from the i-th on were settled
-pub record Settled (i common : ℕ) (p p' : Parser) : Type 0 where
-  pub kept : Remarks p p'
-  pub settled : Step p.tree.now.capacity i p.tree.now.words.now p'.tree.now.words.now
-      (map (settle_word p.source.bytes.now common) (drop i (marks_in p.tree.now.capacity p.tree.now.count p.tree.now.words.now)))
+pub record Settled (s : List ℕ) (i common : ℕ) (m m' : Marks) : Type 0 where
+  pub same : Same m m'
+  pub count : m'.count ≡ m.count
+  pub settled : Step m.capacity i m.words.now m'.words.now (map (settle_word s common) (drop i (marks_in m.capacity m.count m.words.now)))
 
 -- the last two marks
 abbrev pub last_two : Parser → List Word
@@ -59,6 +60,12 @@ pub record Trimmable (p : Parser) : Type 0 where
   pub some : 2 ≤ p.tree.now.count
   pub room : p.tree.now.count ≤ p.tree.now.capacity
   pub within : Within p.source.bytes.now (last_two p)
+
+-- nothing but marks that stand already was changed
+pub record Remarks (p p' : Parser) : Type 0 where
+  pub frame : Frame p.source p'.source p.tree.now p'.tree.now
+  pub place : p'.source.ptr ≡ p.source.ptr
+  pub count : p'.tree.now.count ≡ p.tree.now.count
 
 -- they were trimmed
 pub record Trimmed (p p' : Parser) : Type 0 where

@@ -19,6 +19,7 @@ use Rattle.entry.specs.declared.pattern.Reading.{Reading}
 use Rattle.entry.specs.Tree.{Word, word, Step}
 use Rattle.entry.specs.Did.{Did, plain, told}
 use Rattle.entry.specs.Reads.{rest, Frame}
+use Rattle.entry.specs.Settle.{NoLines}
 use Rattle.entry.specs.Slice.{crlf_width, is_feed, position_after}
 use Rattle.entry.specs.Elements.{opening, provisional, Sound}
 
@@ -38,6 +39,11 @@ least_of true indent None = Some indent
 least_of true indent (Some c) = Some (min indent c)
 least_of false indent common = common
 
+-- the count of marks through the last text that starts a line, after a text that ends after n marks
+abbrev pub lines_of : Bool → ℕ → ℕ → ℕ
+lines_of true n lines = n
+lines_of false n lines = lines
+
 -- whether a text is an element of its pattern, by whether it starts a line
 unfoldable pub is_part : Bool → TextSlice → Bool
 is_part line x = nat_lt 0 x.size && (not line || (not x.blank || is_feed x.ending))
@@ -51,10 +57,11 @@ pub record Standing : Type 0 where
   pub role : TextElementPosition
   pub last_non_blank : Option ℕ
   pub common_indent : Option ℕ
+  pub lines : ℕ
 
 abbrev pub standing : ℕ → ℕ → Reading → Standing
 standing at n st =
-    record { at = at; n = n; role = st.role; last_non_blank = st.last_non_blank; common_indent = st.common_indent }
+    record { at = at; n = n; role = st.role; last_non_blank = st.last_non_blank; common_indent = st.common_indent; lines = st.lines }
 
 abbrev pub stands : Parser → Reading → Standing
 stands p st = standing p.source.ptr p.tree.now.count st
@@ -80,6 +87,10 @@ least_after true true line indent common = common
 least_after true false line indent common = least_of line indent common
 least_after false blank line indent common = common
 
+abbrev pub lines_after : Bool → Bool → ℕ → ℕ → ℕ
+lines_after true line n lines = lines_of line (n + 2) lines
+lines_after false line n lines = lines
+
 -- the marks of a text at a place a, past an indent, and the state after it
 abbrev pub text_words : Standing → ℕ → TextSlice → List Word
 text_words st a x = part_words (is_part (starts_line st.role) x) (starts_line st.role) st.at (a + x.size)
@@ -92,6 +103,7 @@ after_text st a x =
       role = position_after x.ending;
       last_non_blank = last_after (is_part (starts_line st.role) x) x.blank st.n st.last_non_blank;
       common_indent = least_after (is_part (starts_line st.role) x) x.blank (starts_line st.role) (a - st.at) st.common_indent;
+      lines = lines_after (is_part (starts_line st.role) x) (starts_line st.role) st.n st.lines;
     }
 
 -- a text was marked, if it is an element
@@ -108,6 +120,7 @@ after_placeable st n =
       role = Continuation;
       last_non_blank = Some n;
       common_indent = least_of (starts_line st.role) 0 st.common_indent;
+      lines = st.lines;
     }
 
 -- the state where a pattern starts
@@ -140,6 +153,7 @@ pub record Holds (s : List ℕ) (cap at n : ℕ) (t t' : List ℕ) (st : Standin
   pub kept : st.last_non_blank ≡ last_of d.kept (n + 1 + length (provisional at (take d.kept d.elements)))
   pub few : d.kept ≤ length d.elements
   pub common : st.common_indent ≡ option_of d.common
+  pub lines : NoLines (drop (st.lines - (n + 1)) (provisional at d.elements))
   pub sound : Sound (drop at s) d.elements
 
 -- there is one

@@ -2,13 +2,14 @@
 ghost use Rattle.std.specs.Prelude.{◌≡◌};
 ghost use Rattle.entry.specs.Border.{readable, DidTry, roomy, DidPut, Skipped};
 
+pub use crate::comment::Level;
 pub use crate::errors::Stop;
 use crate::helper::blank_block;
 use crate::marks::Marks;
 use crate::parser::Parser;
 pub use crate::parser_core::Entry;
 use crate::source::Source;
-use syntax::layout::{MARKS_A_BYTE, SIZES, TREE_WORDS_A_BYTE};
+use syntax::layout::{MARKS_A_BYTE, tree_words};
 use syntax::limits::MAX_LENGTH;
 
 // What came of reading an entry: what it is, or why reading stopped; the place after it, or where reading stopped; and, of an entry
@@ -32,8 +33,7 @@ fn is_readable(length: usize, words: usize, at: usize, n: usize) -> bool
     ensures { result ≡ readable length words at n }
 {
     length <= MAX_LENGTH
-        && (at <= length
-            && (n <= MARKS_A_BYTE * at + 1 && SIZES + TREE_WORDS_A_BYTE * length <= words))
+        && (at <= length && (n <= MARKS_A_BYTE * at + 1 && tree_words(length) <= words))
 }
 
 // Reads the entry at a place into the tree, after n marks, with `left` openings allowed. None is read where the source is too

@@ -3,29 +3,28 @@ ghost use Rattle.std.specs.Prelude.{◌≡◌, ◌||◌, ◌==◌};
 ghost use Rattle.syntax.specs.Byte as Byte;
 ghost use Rattle.syntax.specs.Bytes.{is_digit, is_name_part, is_callee_part};
 
-use syntax::bytes::{is_ascii_alphabetic, is_ascii_digit, is_ascii_uppercase};
-
 // A byte of an identifier after its first.
-#[tactic(auto, unfolding(syntax::specs::Bytes::is_name_part))]
+#[tactic(auto, unfolding(syntax::specs::Bytes::is_name_part, syntax::specs::Bytes::is_letter, syntax::specs::Bytes::is_digit))]
 pub fn is_name_part(b: u8) -> bool
     ensures { result ≡ is_name_part b }
 {
-    is_ascii_alphabetic(b) || is_ascii_digit(b) || b == b'-' || b == b'_'
+    b.is_ascii_alphabetic() || b.is_ascii_digit() || b == b'-' || b == b'_'
 }
 
 // A byte of a callee.
-#[tactic(auto, unfolding(syntax::specs::Bytes::is_callee_part))]
+#[tactic(auto, unfolding(syntax::specs::Bytes::is_callee_part, syntax::specs::Bytes::is_upper, syntax::specs::Bytes::is_digit))]
 pub fn is_callee_part(b: u8) -> bool
     ensures { result ≡ is_callee_part b }
 {
-    is_ascii_uppercase(b) || is_ascii_digit(b) || b == b'-' || b == b'_'
+    b.is_ascii_uppercase() || b.is_ascii_digit() || b == b'-' || b == b'_'
 }
 
 // The first byte of a number.
+#[tactic(auto, unfolding(syntax::specs::Bytes::is_digit))]
 pub fn is_number_byte(b: u8) -> bool
     ensures { result ≡ (is_digit b || b == Byte.minus) }
 {
-    is_ascii_digit(b) || b == b'-'
+    b.is_ascii_digit() || b == b'-'
 }
 
 pub fn is_space(b: u8) -> bool

@@ -4,35 +4,57 @@ ghost use Rattle.syntax.specs.Comment.{level_of, line_length, line_end_used, get
 ghost use Rattle.entry.specs.Place.{is_eol};
 ghost use Rattle.entry.specs.Marks.{Holds};
 ghost use Rattle.entry.specs.Line.{LineRead};
+ghost use Rattle.entry.specs.Level.{number_if};
+ghost use Rattle.entry.specs.Did.{result_by};
 ghost use Rattle.entry.specs.Reads.{rest, Passes, Counts, Entered, Reads};
 
 use crate::errors::Stop;
 use crate::parser::Parser;
 use crate::source::Source;
+use memchr::memchr;
 use syntax::errors::ErrorKind;
 use syntax::kind::Kind;
 
+// How many '#' each line of a comment starts with.
+#[derive(Clone, Copy, PartialEq, Eq, Debug)]
+pub enum Level {
+    Regular = 1,
+    Group = 2,
+    Resource = 3,
+}
+
+// How long a line's text is, which ends before a line feed, before a CRLF, or with the source.
+fn line_length(rest: &[u8]) -> usize
+    ensures { result ≡ line_length rest.now }
+{
+    match memchr(b'\n', rest) {
+        Some(end) if rest[..end].last() == Some(&b'\r') => end - 1,
+        Some(end) => end,
+        None => rest.len(),
+    }
+}
+
 impl Source<'_> {
     // Past the '#' here, of which there are three at most.
-    fn get_comment_level(&mut self) -> usize
-        ensures { Counts self.old self.new (level_of (rest self.old)) result }
+    fn get_comment_level(&mut self) -> Option<Level>
+        ensures { Counts self.old self.new (level_of (rest self.old)) (number_if result) }
     {
-        if !self.take_byte_if(b'#') {
-            return 0;
+        let rest = &self.bytes[self.ptr..];
+        let hashes = rest.iter().take(3).take_while(|&&b| b == b'#').count();
+        self.ptr += hashes;
+        match hashes {
+            0 => None,
+            1 => Some(Level::Regular),
+            2 => Some(Level::Group),
+            _ => Some(Level::Resource),
         }
-        if !self.take_byte_if(b'#') {
-            return 1;
-        }
-        if self.take_byte_if(b'#') { 3 } else { 2 }
     }
 
     // To the end of a line's text.
     fn get_comment_line(&mut self)
         ensures { Passes self.old self.new (line_length (rest self.old)) }
     {
-        while !self.is_eol() {
-            self.ptr += 1;
-        }
+        self.ptr += line_length(&self.bytes[self.ptr..]);
     }
 
     // Past a line's end, whose line feed is left where neither a comment nor the end of the source follows.
@@ -47,11 +69,12 @@ impl Source<'_> {
     }
 }
 
-// Whether a comment ends here: a line of another level is none of its lines. It has the level 0 before its first.
-fn is_over(level: usize, line_level: usize) -> bool
-    ensures { result ≡ (nat_eq line_level 0 || (not (level == 0) && not (nat_eq line_level level))) }
+// Whether a comment ends here: a line of another level is none of its lines. It has no level before its first.
+fn is_over(level: Option<Level>, line_level: Option<Level>) -> bool
+    ensures { result ≡ (nat_eq (number_if line_level) 0
+        || (not (number_if level == 0) && not (nat_eq (number_if line_level) (number_if level)))) }
 {
-    line_level == 0 || (level != 0 && line_level != level)
+    line_level.is_none() || (level.is_some() && line_level != level)
 }
 
 impl Parser<'_, '_, '_> {
@@ -67,13 +90,13 @@ impl Parser<'_, '_, '_> {
         self.source.skip_line_end();
     }
 
-    // A comment, with a text for each of its lines. Answers its level.
-    pub(crate) fn get_comment(&mut self) -> Result<usize, Stop>
+    // A comment, with a text for each of its lines. Answers its level, none where no '#' stands.
+    pub(crate) fn get_comment(&mut self) -> Result<Option<Level>, Stop>
         requires { Entered self.old }
         ensures same { self.new.tree.ghost_name ≡ self.old.tree.ghost_name }
-        ensures reads { Reads (λ l. l) self.old self.new result (get_comment (rest self.old.source)) }
+        ensures reads { Reads (λ l. l) self.old self.new (result_by number_if result) (get_comment (rest self.old.source)) }
     {
-        let mut level = 0;
+        let mut level = None;
         loop {
             let start = self.source.ptr;
             let line_level = self.source.get_comment_level();
@@ -85,7 +108,7 @@ impl Parser<'_, '_, '_> {
                 return Ok(line_level);
             }
             if !self.source.is_eol() && !self.source.take_byte_if(b' ') {
-                if level == 0 {
+                if level.is_none() {
                     return self.source.error(ErrorKind::ExpectedToken(b' '));
                 }
                 self.source.ptr = start;

@@ -23,7 +23,6 @@ use crate::errors::Stop;
 use crate::helper::is_callee;
 use crate::parser::Parser;
 use crate::source::Source;
-use syntax::bytes::{is_ascii_alphabetic, is_ascii_digit};
 use syntax::errors::{CharRange, ErrorKind};
 use syntax::kind::{CLOSING, Kind};
 use syntax::layout::SIZES;
@@ -58,6 +57,24 @@ pub enum Start {
 pub enum Argument {
     Positional,
     Named,
+}
+
+// What the inline expression starts with that stands at the start.
+#[tactic(auto, unfolding(crate::specs::Shape::start_of, crate::specs::Shape::no_start, crate::specs::Shape::non_literal_start, syntax::specs::Bytes::is_digit, syntax::specs::Bytes::is_letter, syntax::specs::Bytes::starts))]
+fn start_of(rest: &[u8], only_literal: bool) -> Result<Start, ErrorKind>
+    ensures { result ≡ start_of only_literal rest.now }
+{
+    match rest {
+        [b'"', ..] => Ok(Start::String),
+        [b'0'..=b'9', ..] => Ok(Start::Number),
+        [b'a'..=b'z' | b'A'..=b'Z', ..] => Ok(Start::Reference),
+        _ if only_literal => Err(ErrorKind::ExpectedLiteral),
+        [b'-', b'a'..=b'z' | b'A'..=b'Z', ..] => Ok(Start::Term),
+        [b'-', ..] => Ok(Start::Number),
+        [b'$', ..] => Ok(Start::Variable),
+        [b'{', ..] => Ok(Start::Placeable),
+        _ => Err(ErrorKind::ExpectedInlineExpression),
+    }
 }
 
 // ---- get_expression
@@ -100,8 +117,7 @@ impl Source<'_> {
         ensures { Followed self.old self.new exp result }
     {
         self.skip_blank();
-        let next = self.ptr + 1;
-        if !self.is_current_byte(b'-') || !self.is_byte_at(b'>', next) {
+        if !self.bytes[self.ptr..].starts_with(b"->") {
             self.check_placeable(exp)?;
             return Ok(false);
         }
@@ -129,34 +145,9 @@ impl Source<'_> {
     pub(crate) fn inline_start(self, only_literal: bool) -> Result<Start, Stop>
         ensures { result ≡ start_at self.entry.ptr (start_of only_literal (rest self.entry)) }
     {
-        let missing = if only_literal {
-            ErrorKind::ExpectedLiteral
-        } else {
-            ErrorKind::ExpectedInlineExpression
-        };
-        let Some(&b) = self.bytes.get(self.ptr) else {
-            return self.error(missing);
-        };
-        match b {
-            b'"' => Ok(Start::String),
-            _ if is_ascii_digit(b) => Ok(Start::Number),
-            _ if is_ascii_alphabetic(b) => Ok(Start::Reference),
-            _ if only_literal => self.error(missing),
-            b'-' => {
-                let next = self.ptr + 1;
-                if self
-                    .bytes
-                    .get(next)
-                    .is_some_and(|&b| is_ascii_alphabetic(b))
-                {
-                    Ok(Start::Term)
-                } else {
-                    Ok(Start::Number)
-                }
-            }
-            b'$' => Ok(Start::Variable),
-            b'{' => Ok(Start::Placeable),
-            _ => self.error(missing),
+        match start_of(&self.bytes[self.ptr..], only_literal) {
+            Ok(start) => Ok(start),
+            Err(kind) => self.error(kind),
         }
     }
 
@@ -177,7 +168,7 @@ impl Source<'_> {
     pub(crate) fn is_argument(self) -> bool
         ensures { result ≡ is_argument (rest self.entry) }
     {
-        self.bytes.get(self.ptr).is_some_and(|&b| b != b')')
+        self.starts(|b| b != b')')
     }
 
     // Where the name ends that an inline expression is: a message reference without an attribute, if a ':' follows past blanks.
@@ -226,6 +217,7 @@ impl Parser<'_, '_, '_> {
         requires { HasName self.now.source.bytes.now self.now.tree.now.words.now self.now.tree.now.capacity i }
         ensures { result.now ≡ name_at self.now.source.bytes.now self.now.tree.now.words.now self.now.tree.now.capacity i }
     {
+        // By index: tried as `place(i + 1)`, and that this sum fits did not close, as nothing bounds i but the words' length.
         let places = SIZES + self.tree.capacity + i;
         let start = self.tree.words[places + 1] as usize;
         let end = self.tree.words[places + 2] as usize;
@@ -242,7 +234,7 @@ impl Parser<'_, '_, '_> {
             if depth == 0 && self.name_at(i) == name {
                 return true;
             }
-            if self.tree.words[SIZES + i] < CLOSING {
+            if self.tree.kind(i) < CLOSING {
                 depth += 1;
             } else {
                 depth -= 1;

@@ -2,18 +2,17 @@
 ghost use Rattle.std.specs.Prelude.{◌≡◌, ◌≤◌, ◌||◌, length, drop, ◌==◌};
 ghost use Rattle.syntax.specs.Byte as Byte;
 ghost use Rattle.utf8.specs.Utf8.{width_of_first};
-ghost use Rattle.syntax.specs.Bytes.{starts_with, starts, eol, run, all, is_letter, is_digit, is_name_part, is_callee_part};
+ghost use Rattle.syntax.specs.Bytes.{starts_with, starts, run, all, is_letter, is_digit, is_name_part, is_callee_part};
 ghost use Rattle.syntax.specs.Helper.{take_byte_if, skip_blank, skip_blank_block, expect_byte, skip_digits, skip_eol, skip_blank_inline};
 ghost use Rattle.syntax.specs.Helper.{number, skip_unicode_escape_sequence};
 ghost use Rattle.syntax.specs.Pattern.{is_continuation};
-ghost use Rattle.entry.specs.Place.{Tests, Counted, Went, is_eol};
-ghost use Rattle.entry.specs.Reads.{rest, Passes, Goes, Finds};
+ghost use Rattle.entry.specs.Place.{Tests, Starting, Counted, Went, is_eol, line_end};
+ghost use Rattle.entry.specs.Reads.{rest, Passes, Skips, Goes, Finds};
 
 use crate::border::BlankBlock;
 use crate::bytes::{is_callee_part, is_name_part, is_number_byte, is_space};
 use crate::errors::Stop;
 use crate::source::Source;
-use syntax::bytes::{is_ascii_alphabetic, is_ascii_digit, is_ascii_hexdigit};
 use syntax::errors::{CharRange, ErrorKind};
 
 // The first bytes of characters of two, three and four bytes follow these.
@@ -55,23 +54,18 @@ fn count_while<F: Fn(u8) -> bool>(bytes: &[u8], test: F) -> usize
     requires { F.IsAlwaysCallable test }
     ensures { Counted (F.post test) bytes.now result }
 {
-    for (i, &b) in bytes.iter().enumerate() {
-        if !test(b) {
-            return i;
-        }
-    }
-    bytes.len()
+    bytes.iter().position(|&b| !test(b)).unwrap_or(bytes.len())
 }
 
-// How long the line end is that stands at the start; 0 where none does.
-#[tactic(auto, unfolding(syntax::specs::Bytes::eol, syntax::specs::Bytes::starts_with))]
-fn eol_length(bytes: &[u8]) -> usize
-    ensures { result ≡ eol bytes.now }
+// How long the line end is that stands at the start, if one does.
+#[tactic(auto, unfolding(crate::specs::Place::line_end, syntax::specs::Bytes::eol, syntax::specs::Bytes::starts_with))]
+fn eol_length(bytes: &[u8]) -> Option<usize>
+    ensures { result ≡ line_end bytes.now }
 {
     match bytes {
-        [b'\n', ..] => 1,
-        [b'\r', b'\n', ..] => 2,
-        _ => 0,
+        [b'\n', ..] => Some(1),
+        [b'\r', b'\n', ..] => Some(2),
+        _ => None,
     }
 }
 
@@ -84,40 +78,39 @@ pub(crate) fn blank_block(source: &[u8], at: usize) -> BlankBlock
     let mut count = 0;
     loop {
         let line_end = end + count_while(&source[end..], is_space);
-        let n = eol_length(&source[line_end..]);
-        if n == 0 {
+        let Some(n) = eol_length(&source[line_end..]) else {
             return BlankBlock { end, count };
-        }
+        };
         end = line_end + n;
         count += 1;
     }
 }
 
 impl Source<'_> {
-    pub(crate) fn is_byte_at(self, b: u8, pos: usize) -> bool
-        ensures { Tests (starts_with b) self.entry.bytes.now pos result }
+    // Whether a byte stands here that passes a test.
+    pub(crate) fn starts<F: Fn(u8) -> bool>(self, test: F) -> bool
+        requires { F.IsAlwaysCallable test }
+        ensures { Starting (F.post test) (rest self.entry) result }
     {
-        self.bytes.get(pos) == Some(&b)
+        self.bytes.get(self.ptr).is_some_and(|&b| test(b))
     }
 
     pub(crate) fn is_current_byte(self, b: u8) -> bool
         ensures { Tests (starts_with b) self.entry.bytes.now self.entry.ptr result }
     {
-        self.is_byte_at(b, self.ptr)
+        self.starts(|c| c == b)
     }
 
     pub(crate) fn is_identifier_start(self) -> bool
         ensures { Tests (starts is_letter) self.entry.bytes.now self.entry.ptr result }
     {
-        self.bytes
-            .get(self.ptr)
-            .is_some_and(|&b| is_ascii_alphabetic(b))
+        self.starts(|b| b.is_ascii_alphabetic())
     }
 
     pub(crate) fn is_number_start(self) -> bool
         ensures { Tests (starts (λ b. is_digit b || b == Byte.minus)) self.entry.bytes.now self.entry.ptr result }
     {
-        self.bytes.get(self.ptr).is_some_and(|&b| is_number_byte(b))
+        self.starts(is_number_byte)
     }
 
     pub(crate) fn take_byte_if(&mut self, b: u8) -> bool
@@ -134,9 +127,11 @@ impl Source<'_> {
     pub(crate) fn skip_eol(&mut self) -> bool
         ensures { Goes self.old self.new (skip_eol (rest self.old)) result }
     {
-        let n = eol_length(&self.bytes[self.ptr..]);
+        let Some(n) = eol_length(&self.bytes[self.ptr..]) else {
+            return false;
+        };
         self.ptr += n;
-        n > 0
+        true
     }
 
     // Whether a line ends here, by a line end or with the source.
@@ -156,12 +151,20 @@ impl Source<'_> {
         Ok(())
     }
 
+    // Past the bytes that pass a test. Answers how many.
+    fn skip_while<F: Fn(u8) -> bool>(&mut self, test: F) -> usize
+        requires { F.IsAlwaysCallable test }
+        ensures { Skips (F.post test) self.old self.new result }
+    {
+        let n = count_while(&self.bytes[self.ptr..], test);
+        self.ptr += n;
+        n
+    }
+
     pub(crate) fn skip_blank_inline(&mut self) -> usize
         ensures { Goes self.old self.new (skip_blank_inline (rest self.old)) result }
     {
-        let n = count_while(&self.bytes[self.ptr..], is_space);
-        self.ptr += n;
-        n
+        self.skip_while(is_space)
     }
 
     pub(crate) fn skip_blank(&mut self)
@@ -182,11 +185,9 @@ impl Source<'_> {
     pub(crate) fn skip_digits(&mut self) -> Result<(), Stop>
         ensures { Finds self.old self.new (skip_digits (rest self.old)) result }
     {
-        let n = count_while(&self.bytes[self.ptr..], is_ascii_digit);
-        if n == 0 {
+        if self.skip_while(|b| b.is_ascii_digit()) == 0 {
             return self.error(ErrorKind::ExpectedCharRange(CharRange::Digits));
         }
-        self.ptr += n;
         Ok(())
     }
 
@@ -206,7 +207,7 @@ impl Source<'_> {
     pub(crate) fn skip_name(&mut self)
         ensures { Passes self.old self.new (run is_name_part (rest self.old)) }
     {
-        self.ptr += count_while(&self.bytes[self.ptr..], is_name_part);
+        self.skip_while(is_name_part);
     }
 
     pub(crate) fn skip_unicode_escape_sequence(&mut self, length: usize) -> Result<(), Stop>
@@ -214,7 +215,8 @@ impl Source<'_> {
     {
         let start = self.ptr;
         let rest = &self.bytes[start..];
-        let n = count_while(&rest[..length.min(rest.len())], is_ascii_hexdigit);
+        // By `count_while`, since `skip_while` knows no limit.
+        let n = count_while(&rest[..length.min(rest.len())], |b| b.is_ascii_hexdigit());
         self.ptr += n;
         if n == length {
             return Ok(());

@@ -1,7 +1,7 @@
 // Marks in a lent tree: two words of sizes, then as many kinds as the tree holds, then as many places.
 ghost use Rattle.std.specs.Prelude.{◌+◌, ◌*◌, ◌≤◌, length};
 
-use syntax::kind::{CLOSING, Kind};
+use syntax::kind::Kind;
 use syntax::layout::SIZES;
 
 #[derive(Drop)]
@@ -13,10 +13,25 @@ pub struct Marks<'t> {
 }
 
 impl Marks<'_> {
-    ghost use Rattle.std.specs.Prelude.{◌≡◌, ◌^◌, ◌<◌, [], ◌∷◌};
+    ghost use Rattle.std.specs.Prelude.{◌≡◌, ◌^◌, ◌<◌, [], ◌∷◌, slice_index};
     ghost use Rattle.syntax.specs.Kind.{number_of, closing};
     ghost use Rattle.entry.specs.Tree.{word};
     ghost use Rattle.entry.specs.Marks.{Holds, Wrote, Put};
+
+    // The number of the i-th mark's kind.
+    pub(crate) fn kind(&self, i: usize) -> u32
+        requires { 2 + i < length self.now.words.now }
+        ensures { result ≡ slice_index self.now.words.now (2 + i) }
+    {
+        self.words[SIZES + i]
+    }
+
+    pub(crate) fn place(&self, i: usize) -> usize
+        requires { 2 + self.now.capacity + i < length self.now.words.now }
+        ensures { result ≡ slice_index self.now.words.now (2 + self.now.capacity + i) }
+    {
+        self.words[SIZES + self.capacity + i] as usize
+    }
 
     // A mark, by the number of its kind.
     pub(crate) fn put(&mut self, kind: u32, place: usize)
@@ -40,7 +55,7 @@ impl Marks<'_> {
         requires { Holds self.old 1 }
         ensures { Wrote self.old self.new (word (closing (number_of kind)) 0 ∷ []) }
     {
-        self.put(CLOSING + kind.number(), 0);
+        self.close_at(kind, 0);
     }
 
     // The closing mark of a text that ends at a place.
@@ -49,7 +64,7 @@ impl Marks<'_> {
         requires place_bound { place < 2 ^ 32 }
         ensures { Wrote self.old self.new (word (closing (number_of kind)) place ∷ []) }
     {
-        self.put(CLOSING + kind.number(), place);
+        self.put(kind.closing(), place);
     }
 
     // The two marks of a text.

@@ -6,11 +6,12 @@ ghost use Rattle.syntax.specs.Helper.{get_identifier, get_number_literal};
 ghost use Rattle.syntax.specs.Expression.{level, get_attribute_accessor, get_variant_key, key_text};
 ghost use Rattle.syntax.specs.Core.{get_attribute, get_attributes, fields, term_fields, as_message, as_term, get_entry};
 ghost use Rattle.entry.specs.declared.errors.Stop.TheVariants.{Error};
-ghost use Rattle.entry.specs.Did.{plain, silent};
+ghost use Rattle.entry.specs.Did.{plain, silent, result_by};
 ghost use Rattle.entry.specs.Reads.{rest, Room, Entered, Reads};
 ghost use Rattle.entry.specs.Entry.{get_name, entry_of, fields_of};
 ghost use Rattle.entry.specs.Next.{NextIs};
 
+use crate::comment::Level;
 use crate::errors::Stop;
 use crate::parser::Parser;
 use crate::source::Source;
@@ -18,11 +19,11 @@ use syntax::errors::{CharRange, ErrorKind, ParserError};
 use syntax::kind::Kind;
 
 // What an entry is. A comment has its level.
-#[derive(Clone, Copy)]
+#[derive(Clone, Copy, PartialEq, Eq, Debug)]
 pub enum Entry {
     Message,
     Term,
-    Comment(usize),
+    Comment(Level),
 }
 
 // What a message or a term has: its identifier's length, whether it has a pattern, and how many attributes.
@@ -204,10 +205,13 @@ impl Parser<'_, '_, '_> {
     pub(crate) fn get_entry(&mut self, left: usize) -> Result<Entry, Stop>
         requires { Entered self.old }
         ensures same { self.new.tree.ghost_name ≡ self.old.tree.ghost_name }
-        ensures reads { Reads entry_of self.old self.new result (get_entry (level left) (rest self.old.source)) }
+        ensures reads { Reads plain self.old self.new (result_by entry_of result)
+            (get_entry (level left) (rest self.old.source)) }
     {
         if self.source.is_current_byte(b'#') {
-            return Ok(Entry::Comment(self.get_comment()?));
+            // Of a line that starts with '#' there is a level.
+            let level = self.get_comment()?.unwrap();
+            return Ok(Entry::Comment(level));
         }
         if self.source.is_current_byte(b'-') {
             self.get_term(left)?;

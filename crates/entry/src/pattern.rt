@@ -1,32 +1,36 @@
 // pattern.rs: patterns. The common indent is known only where a pattern ends. Until then a text at the start of a line is marked
 // from the line's start on, by a kind of its own; at the end the marks are settled. get_pattern itself stands in expression.rt.
+ghost use Rattle.syntax.specs.Limits.{max_length};
 ghost use Rattle.std.specs.Prelude.{◌≡◌, ◌+◌, ◌-◌, ◌<◌, ◌≤◌, min, false, length, drop};
 ghost use Rattle.syntax.specs.Byte as Byte;
 ghost use Rattle.syntax.specs.Bytes.{starts_with, spaces};
 ghost use Rattle.syntax.specs.Pattern.{goes_on, get_text_slice, trimmed, with_text, text_turn};
 ghost use Rattle.entry.specs.Marks.{Holds};
-ghost use Rattle.entry.specs.Settle.{is_trimmed, Settled, Trimmable, Trimmed};
+ghost use Rattle.entry.specs.Tree.{marks_in};
+ghost use Rattle.entry.specs.Settle.{is_trimmed, NoLines, Settled, Trimmable, Trimmed};
 ghost use Rattle.entry.specs.Reads.{rest, Room};
 ghost use Rattle.entry.specs.Slice.{width_of};
-ghost use Rattle.entry.specs.Texts.{starts_line, is_part, least_of, after_placeable, standing, stands, Started, Ready};
+ghost use Rattle.entry.specs.Texts.{starts_line, is_part, least_of, lines_of, after_placeable, standing, stands, Started, Ready};
 ghost use Rattle.entry.specs.Texts.{Texted, Turns, in_pattern, Ends, Ended};
 
 use crate::errors::Stop;
 use crate::helper::is_byte_pattern_continuation;
+use crate::marks::Marks;
 use crate::parser::Parser;
 use crate::source::Source;
 use crate::text::{TextElementPosition, TextElementTermination, TextSlice, get_text_slice};
 use syntax::errors::ErrorKind;
-use syntax::kind::{Kind, TEXT_END};
+use syntax::kind::Kind;
 use syntax::layout::SIZES;
 
 // What is known while a pattern is read: where the next text stands; the count of marks through the last element that is not blank;
-// the common indent.
+// the common indent; the count of marks through the last text at the start of a line, behind which none has to be settled.
 #[derive(Clone, Copy)]
 pub struct Reading {
     pub role: TextElementPosition,
     pub last_non_blank: Option<usize>,
     pub common_indent: Option<usize>,
+    pub lines: usize,
 }
 
 impl Reading {
@@ -38,6 +42,7 @@ impl Reading {
             role: TextElementPosition::Continuation,
             last_non_blank: Some(n),
             common_indent: least_indent(self.role, 0, self.common_indent),
+            ..self
         }
     }
 }
@@ -53,6 +58,17 @@ fn least_indent(role: TextElementPosition, indent: usize, common: Option<usize>)
         return common;
     }
     Some(common.map_or(indent, |least| least.min(indent)))
+}
+
+// The count of marks through the last text at the start of a line, after one that ends after n marks.
+fn lines_with(role: TextElementPosition, n: usize, lines: usize) -> usize
+    ensures { result ≡ lines_of (starts_line role) n lines }
+{
+    if role == TextElementPosition::LineStart {
+        n
+    } else {
+        lines
+    }
 }
 
 // Whether a text is an element of its pattern.
@@ -116,30 +132,34 @@ impl Source<'_> {
             role,
             last_non_blank: None,
             common_indent: None,
+            lines: 0,
+        }
+    }
+}
+
+impl Marks<'_> {
+    // Each text that starts a line, among the marks from `from` on, loses the common indent. From `to` on there is none.
+    fn settle(&mut self, source: &[u8], from: usize, to: usize, common: usize)
+        requires from_le_count { from ≤ self.old.count }
+        requires room { Holds self.old 0 }
+        requires short { length source.now ≤ max_length }
+        requires none_after { NoLines (drop (to - from) (drop from (marks_in self.old.capacity self.old.count self.old.words.now))) }
+        ensures { Settled source.now from common self.old self.new }
+    {
+        let places = SIZES + self.capacity;
+        let words = &mut *self.words;
+        // By index: over both arrays by `iter_mut` and `zip` the proof did not close, since nothing is known of what these leave.
+        for i in from..to.min(self.count) {
+            if words[SIZES + i] == LINE_START {
+                let start = words[places + i] as usize;
+                words[SIZES + i] = Kind::Text.number();
+                words[places + i] = (start + indent(source, start, common)) as u32;
+            }
         }
     }
 }
 
 impl Parser<'_, '_, '_> {
-    // Each text that starts a line, among the marks from `from` on, loses the common indent.
-    fn settle(&mut self, from: usize, common: usize)
-        requires from_le_count { from ≤ self.old.tree.now.count }
-        requires room { Holds self.old.tree.now 0 }
-        ensures same { self.new.tree.ghost_name ≡ self.old.tree.ghost_name }
-        ensures reads { Settled from common self.old self.new }
-    {
-        // By index: each turn reads a place and writes it in both arrays of one slice.
-        for i in from..self.tree.count {
-            let kind = SIZES + i;
-            let place = SIZES + self.tree.capacity + i;
-            if self.tree.words[kind] == LINE_START {
-                let start = self.tree.words[place] as usize;
-                self.tree.words[kind] = Kind::Text.number();
-                self.tree.words[place] = (start + indent(self.source.bytes, start, common)) as u32;
-            }
-        }
-    }
-
     // If the last two marks are a text's, the text is trimmed.
     fn trim(&mut self)
         requires { Trimmable self.old }
@@ -147,12 +167,11 @@ impl Parser<'_, '_, '_> {
         ensures reads { Trimmed self.old self.new }
     {
         let last = self.tree.count - 1;
-        if self.tree.words[SIZES + last] == TEXT_END {
-            let places = SIZES + self.tree.capacity;
-            let start = self.tree.words[places + last - 1] as usize;
-            let end = self.tree.words[places + last] as usize;
+        if self.tree.kind(last) == Kind::Text.closing() {
+            let start = self.tree.place(last - 1);
+            let end = self.tree.place(last);
             let length = trimmed_length(&self.source.bytes[start..end]);
-            self.tree.words[places + last] = (start + length) as u32;
+            self.tree.words[SIZES + self.tree.capacity + last] = (start + length) as u32;
         }
     }
 
@@ -178,13 +197,15 @@ impl Parser<'_, '_, '_> {
         };
         self.tree.put(opening, start);
         self.tree.close_at(Kind::Text, end);
+        let lines = lines_with(st.role, self.tree.count, st.lines);
         if slice.blank {
-            return Reading { role, ..st };
+            return Reading { role, lines, ..st };
         }
         Reading {
             role,
             last_non_blank: Some(self.tree.count),
             common_indent: least_indent(st.role, indent, st.common_indent),
+            lines,
         }
     }
 
@@ -239,10 +260,9 @@ impl Parser<'_, '_, '_> {
             return false;
         };
         self.tree.count = last;
-        self.settle(
-            before + 1,
-            st.common_indent.unwrap_or(self.source.bytes.len()),
-        );
+        let source = self.source.bytes;
+        let common = st.common_indent.unwrap_or(source.len());
+        self.tree.settle(source, before + 1, st.lines, common);
         self.trim();
         self.tree.close(Kind::Pattern);
         true

@@ -51,11 +51,7 @@ impl TextElementTermination {
     pub fn crlf_width(self) -> usize
         ensures { result ≡ crlf_width self }
     {
-        if self == TextElementTermination::Crlf {
-            1
-        } else {
-            0
-        }
+        usize::from(self == TextElementTermination::Crlf)
     }
 }
 

@@ -6,7 +6,7 @@ ghost use Rattle.std.specs.Prelude.{◌≡◌, ◌<◌, ◌≤◌, length, take,
 use std::io;
 use std::io::Read;
 
-// Why there is no source.
+// Why there is no source. No Display, and no function for what three programs do with it: each says it in a sentence with its own limit.
 #[derive(Clone, Copy, Debug)]
 pub enum InputError {
     Unreadable,
@@ -22,6 +22,8 @@ pub fn read_source<R: Read>(input: &mut R, buffer: &mut [u8]) -> Result<usize, I
         → IfSome (R.remaining input.old) (λ bytes. length buffer.old ≤ length bytes) }
 {
     let mut length = 0;
+    // A loop of its own: no contract says which bytes std's `copy` into a slice leaves there. It reads again where a read was
+    // interrupted, and has a bound, since no reader promises an end.
     for _ in 0..u64::MAX {
         if length >= buffer.len() {
             return Err(InputError::TooLong);

@@ -22,7 +22,8 @@ use Rattle.laws.specs.Sets.{sets_first}
 use Rattle.laws.specs.File.{parse-room}
 use Rattle.laws.specs.Call.{Read, read_of}
 use Rattle.parser.specs.Call.{DidRead}
-use Rattle.output.specs.Put.{Put}
+use Rattle.output.specs.declared.text.Output.{Output}
+use Rattle.output.specs.Put.{DidPut}
 use Rattle.output.proofs.Puts.{put-length, put-exact}
 use Rattle.marks.specs.Rows.{read_rows, Held}
 use Rattle.marks.specs.Report.{printed, Lent, Reported}
@@ -36,14 +37,16 @@ pub record Ready (s t e out : List ℕ) : Type 0 where
   pub room : length (printed s) ≤ length out
 
 -- a text that is printed, and for which there is room
-pub reported : {s out out' : List ℕ} {r : ℕ} → length (printed s) ≤ length out → length out < 2 ^ 64 → Put out out' 0 r (printed s)
-    → Reported s out out' r
-reported {s} {out} {r = r} fits l h =
+pub reported : {s out out' : List ℕ} {o o' : Output} → length (printed s) ≤ length out → length out < 2 ^ 64
+    → DidPut o o' (printed s) → o.bytes.now ≡ out → o.at ≡ 0 → out' ≡ o'.bytes.now → Reported s out out' o'.at
+reported {s} {out} {o' = o'} fits l d b z e =
+    let r = o'.at in
+    let h = rw (b, z) at d.put in
     let n : r ≡ length (printed s) = omega (arith, put-exact h (omega arith)) in
     record {
-      text = h.stored ∙ sets_first out (printed s) fits ∙ ap (λ k. printed s ++ drop k out) (sym n);
+      text = e ∙ h.stored ∙ sets_first out (printed s) fits ∙ ap (λ k. printed s ++ drop k out) (sym n);
       size = n;
-      within = omega (arith, put-length h);
+      within = omega (arith, put-length h, ap length e);
     }
 
 module _ {s t e out : List ℕ} (l : Lent s t e out) where

@@ -8,6 +8,7 @@ mod listing;
 
 use crate::listing::{put_pair, put_reading};
 use input::{InputError, read_source};
+use output::text::Output;
 use parser::read::read;
 use std::io;
 use syntax::layout::{ERROR_WORDS_A_BYTE, SIZES, TREE_WORDS_A_BYTE};
@@ -23,9 +24,16 @@ fn report(source: &[u8], tree: &mut [u32], errors: &mut [u32], output: &mut [u8]
     requires { Lent source.now tree.old errors.old output.old }
     ensures { Reported source.now output.old output.new result }
 {
+    let mut lent = Output::new(output);
     match read(source, tree, errors) {
-        Ok(_) => put_reading(tree, errors, output),
-        Err(refusal) => put_pair(output, 0, u64::from(refusal.number()), refusal.value()),
+        Ok(_) => {
+            put_reading(tree, errors, &mut lent);
+            lent.at
+        }
+        Err(refusal) => {
+            put_pair(&mut lent, u64::from(refusal.number()), refusal.value());
+            lent.at
+        }
     }
 }
 

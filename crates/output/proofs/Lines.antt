@@ -7,9 +7,10 @@ use lib.ListN.{length, length-append}
 use Rattle.syntax.specs.Byte as Byte
 use Rattle.syntax.specs.Decimal.{max_digits, decimal}
 use Rattle.syntax.specs.Listing.{line}
-use Rattle.output.specs.Put.{Put}
+use Rattle.output.specs.declared.text.Output.{Output}
+use Rattle.output.specs.Put.{DidPut}
 use Rattle.output.proofs.Digits.{decimal-few}
-use Rattle.output.proofs.Puts.{put_as, put_then}
+use Rattle.output.proofs.Puts.{did_as, did_then}
 
 -- a number and the byte that ends it have at most so many bytes
 abbrev pub field_room : ℕ
@@ -25,12 +26,11 @@ pub line_first : (x y : ℕ) (ys : List ℕ) → (decimal x ++ (Byte.space ∷ [
 unfolding line
 line_first x y ys = append_assoc (decimal x) (Byte.space ∷ []) (line (y ∷ ys))
 
-pub put_first : {o o₁ o₂ : List ℕ} {a a₁ a₂ : ℕ} (x y : ℕ) (ys : List ℕ) → length o < 2 ^ 64
-    → Put o o₁ a a₁ (decimal x ++ (Byte.space ∷ [])) → Put o₁ o₂ a₁ a₂ (line (y ∷ ys)) → Put o o₂ a a₂ (line (x ∷ y ∷ ys))
-put_first x y ys l h k = put_as (put_then l h k) (line_first x y ys)
+pub put_first : {o o₁ o₂ : Output} (x y : ℕ) (ys : List ℕ) → length o.bytes.now < 2 ^ 64
+    → DidPut o o₁ (decimal x ++ (Byte.space ∷ [])) → DidPut o₁ o₂ (line (y ∷ ys)) → DidPut o o₂ (line (x ∷ y ∷ ys))
+put_first x y ys l h k = did_as (did_then h l k) (line_first x y ys)
 
 -- a line's last number
-pub put_last : {o o' : List ℕ} {a a' : ℕ} (x : ℕ) → Put o o' a a' (decimal x ++ (Byte.line_feed ∷ []))
-    → Put o o' a a' (line (x ∷ []))
+pub put_last : {o o' : Output} (x : ℕ) → DidPut o o' (decimal x ++ (Byte.line_feed ∷ [])) → DidPut o o' (line (x ∷ []))
 unfolding line
 put_last x h = h

@@ -10,17 +10,14 @@ use lib.Seq.{sets, length-sets}
 use borrow.Author.Tests.{ltb-true, ltb-false}
 use Rattle.laws.specs.Bytes.{by_case}
 use Rattle.laws.specs.Sets.{sets-append}
-use Rattle.output.specs.Put.{Put}
+use Rattle.output.specs.declared.text.Output.{Output}
+use Rattle.output.specs.Put.{Put, DidPut}
 use Rattle.output.proofs.Stores.{sets-past}
 
 module _ {o o' : List ℕ} {a a' : ℕ} {t : List ℕ} (h : Put o o' a a' t) where
   -- the output stays as long as it is
   pub put-length : length o' ≡ length o
   put-length = ap length h.stored ∙ length-sets o a t
-
-  -- the same text otherwise written
-  pub put_as : {u : List ℕ} → t ≡ u → Put o o' a a' u
-  put_as e = rw e at h
 
   -- a count that fits is exact
   pub put-exact : a + length t < 2 ^ 64 → a' ≡ a + length t
@@ -49,3 +46,14 @@ put_then {o} {o₁} {a = a} {a₁} {t = t} {u} l h k =
         let far = ltb-false end (2 ^ 64) q in
         let room : length (sets o a t) ≡ length o = length-sets o a t in
         sets-past o₁ a₁ u (omega (arith, h.next, put-length h)) ∙ h.stored ∙ sym (sets-past (sets o a t) end u (omega arith))
+
+-- the same over one output
+module _ {o o' : Output} {t : List ℕ} (h : DidPut o o' t) where
+  pub did-length : length o'.bytes.now ≡ length o.bytes.now
+  did-length = put-length h.put
+
+  pub did_as : {u : List ℕ} → t ≡ u → DidPut o o' u
+  did_as e = rw e at h
+
+  pub did_then : {o'' : Output} {u : List ℕ} → length o.bytes.now < 2 ^ 64 → DidPut o' o'' u → DidPut o o'' (t ++ u)
+  did_then l k = record { same_reference = k.same_reference ∙ h.same_reference; put = put_then l h.put k.put }

@@ -1,5 +1,5 @@
 // Text into a lent output, with its count: a byte is stored where there is room for it, and counted everywhere. So with no output
-// a text is counted only. Each function answers the count after what it put.
+// a text is counted only. Each method moves the count past what it put.
 #![tactic(auto)]
 
 pub mod number;

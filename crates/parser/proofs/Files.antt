@@ -10,7 +10,7 @@ use lib.ListN.{length, get_or, drop, set, length-set, length-append, length-drop
 use lib.Seq.{drop-cons, drop-drop}
 use borrow.Author.Tests.{eqb-true, lt-ltb, le-ltb}
 use Rattle.std.proofs.Common.{Ok, Err, Option, Some, None}
-use Rattle.std.specs.Bool.{then_some}
+use denote.Ref.{Bor}
 use Rattle.syntax.specs.Limits.{max_open}
 use Rattle.syntax.specs.Kind.{closing}
 use Rattle.syntax.specs.declared.errors.ParserError.{ParserError}
@@ -20,7 +20,7 @@ use Rattle.syntax.specs.Reader.{Out, ok, next, ◌>>=◌, fail}
 use Rattle.syntax.specs.Helper.{skip_blank_block, get_identifier}
 use Rattle.syntax.specs.Pattern.{Inside, used_by}
 use Rattle.syntax.specs.Expression.{level}
-use Rattle.syntax.specs.Core.{Entry, comment, fields, as_message, get_entry, to_next_entry, line_starts_at, junk_end, Error}
+use Rattle.syntax.specs.Core.{Entry, comment, fields, as_message, get_entry, line_starts_at, junk_end, Error}
 use Rattle.syntax.specs.Core.{up_error, read, refused, following, is_named, count, kind_of_entry, entries, parse}
 use Rattle.syntax.specs.Reading.{marks_of, errors_of}
 use Rattle.laws.specs.Bytes.{by_case}
@@ -28,19 +28,22 @@ use Rattle.laws.specs.Bounds.{Uses, ok-uses, bad-within}
 use Rattle.laws.specs.Bounds.Entry.{entry-bounds}
 use Rattle.laws.specs.Bounds.Pattern.{block-le}
 use Rattle.laws.specs.Bounds.Expression.{level-bounds}
-use Rattle.laws.specs.File.{Small, First, entry, junk, near, small_of, first-uses, entries-first, entries_far, entries-fuel}
+use Rattle.laws.specs.File.{First, entry, junk, near, first-uses, entries-first, entries_far, entries-fuel}
 use Rattle.laws.specs.Lines.{starts-add}
 use Rattle.laws.specs.Lines.Lands.{block-starts}
 use Rattle.laws.specs.Lines.Starts.{first-stays}
 use Rattle.laws.specs.Moving.{move_up-append, move_up-length, move_up-nil, following-twice}
 use Rattle.entry.specs.Tree.{Word, word, words_at, marks_in, Step, Fits}
 use Rattle.parser.specs.ErrorList.{ErrorStep, with_junk}
-use Rattle.entry.specs.Place.{Passed}
 use Rattle.entry.specs.Border.{Skipped}
+use Rattle.entry.specs.Level.{number}
+use Rattle.entry.specs.Entry.{entry_of}
+use Rattle.entry.specs.declared.parser_core.Entry.{Entry as CodeEntry}
+use Rattle.entry.specs.declared.parser_core.Entry.TheVariants.{Message, Term, Comment}
 use Rattle.entry.specs.declared.border.BlankBlock.{BlankBlock}
 use Rattle.parser.specs.Call.{Sized, DidParse}
-use Rattle.parser.specs.Resource.{regular, kept, Attachable, attached, Moved, junk_till, Junked, Open, Pending, Held, Framed}
-use Rattle.parser.specs.declared.resource.State.{State}
+use Rattle.parser.specs.Resource.{regular, kept, Attachable, attached, past, Closed, EntryClosed, junk_till, Junked, Open, Pending, Held, Framed}
+use Rattle.parser.specs.declared.resource.Resource.{Resource}
 use Rattle.parser.proofs.Seeks.{starts-later}
 use Rattle.entry.proofs.Steps.{step-none, step_cut, step_then}
 use Rattle.parser.proofs.Changed.{step-kind}
@@ -53,24 +56,25 @@ top = level max_open
 
 -- ---- past the blank lines after an entry
 
-module _ {s : List ℕ} {k : ℕ} {b : BlankBlock} (n e : ℕ) (x : Option ℕ) (w : Skipped s k b) where
-  pub moved-kept : b.count < 2 → Moved s k n e x (record { at = b.end; marks = n; errors = e; comment = x })
+module _ (x : Resource) {b : BlankBlock} (w : Skipped x.source.now x.at b) where
+  pub past-kept : b.count < 2 → record x { at = b.end } ≡ past x
   unfolding kept
-  moved-kept h = record { at = w.end; marks = refl; errors = refl; comment = rw (← w.count, kept, lt-ltb b.count 2 h) }
+  past-kept h = rw (← w.count, kept, lt-ltb b.count 2 h, ← w.end) refl
 
-  pub moved-lost : 2 ≤ b.count → Moved s k n e x (record { at = b.end; marks = n; errors = e; comment = None })
+  pub past-lost : 2 ≤ b.count → record x { at = b.end; comment = None } ≡ past x
   unfolding kept
-  moved-lost h = record { at = w.end; marks = refl; errors = refl; comment = rw (← w.count, kept, le-ltb b.count 2 h) }
+  past-lost h = rw (← w.count, kept, le-ltb b.count 2 h, ← w.end) refl
 
-pub junked : {s t t₁ t' e e' : List ℕ} {x : State} {f : ParserError} {k end o m c : ℕ} {r : State}
-    → Passed s k (to_next_entry (line_starts_at k s) (drop k s)) end
-    → Step (8 * length s) x.marks t t₁ (word 7 x.at ∷ []) → o ≡ x.marks + 1
-    → Step (8 * length s) o t₁ t' (word 107 end ∷ []) → m ≡ o + 1
-    → ErrorStep (length s) x.errors e e' (with_junk f x.at end ∷ []) → c ≡ x.errors + 1
-    → Moved s end m c None r → Junked s t t' e e' x f k r
-junked {x = x} {o = o} {m = m} p a i z q b j d =
-    let n : m ≡ x.marks + 2 = omega arith in
-    record { tree = rw p.end at (step_then a i z); list = rw p.end at b; moved = rw (p.end, n, j) at d }
+-- past the blank lines after what ends at k
+record Moved (s : List ℕ) (k n e : ℕ) (c : Option ℕ) (r : Resource) : Type 0 where
+  pub at : r.at ≡ k + used_by (skip_blank_block (drop k s))
+  pub marks : r.marks ≡ n
+  pub error_count : r.error_count ≡ e
+  pub comment : r.comment ≡ kept c (count (skip_blank_block (drop k s)))
+
+moved : (s : List ℕ) (y : Resource) (k n e : ℕ) (c : Option ℕ) → y.source.now ≡ s → y.at ≡ k → y.marks ≡ n → y.error_count ≡ e
+    → y.comment ≡ c → Moved s k n e c (past y)
+moved s y k n e c q a m d o = rw (q, a, m, d, o) (record { at = refl; marks = refl; error_count = refl; comment = refl })
 
 -- ---- steps whose start does not matter
 
@@ -174,9 +178,6 @@ regular-other : (l n : ℕ) → eqb l 1 ≡ false → regular l n ≡ None
 unfolding regular
 regular-other l n q = rw (q, regular)
 
-pub regular-is : (l n : ℕ) → then_some (eqb l 1) n ≡ regular l n
-regular-is l n = by_case (eqb l 1) (λ q. rw (q, regular-one l n q)) (λ q. rw (q, regular-other l n q))
-
 kind-other : (l : ℕ) (b : Bool) → eqb l 1 ≡ false → kind_of_entry (comment l) b ≡ 2 + l
 unfolding kind_of_entry
 kind-other l b q = rw (q, kind_of_entry)
@@ -221,7 +222,7 @@ module _ (M : List Mark) (at : ℕ) (ms : List Mark) (l c n : ℕ) (e : n ≡ le
 
 -- ---- the next entry
 
-module _ {s t e : List ℕ} {x : State} (h : Held s t e x) (l : x.at < length s) where
+module _ {s : List ℕ} {x : Resource} (h : Held s x) (l : x.at < length s) where
   first_byte : drop x.at s ≡ get_or s x.at 0 ∷ drop (suc x.at) s
   first_byte = drop-cons s x.at 0 l
 
@@ -244,14 +245,15 @@ module _ {s t e : List ℕ} {x : State} (h : Held s t e x) (l : x.at < length s)
         (rw first_byte at (ap (entries (length s) top) (drop-drop k x.at s))
         ∙ entries-fuel (level-bounds max_open) (length s) (suc (length s)) (drop (x.at + k) s) short (omega arith))
 
-    pub held_next : {t' e' : List ℕ} (y : State) (marks : Bool → List Mark) → y.at ≡ x.at + k
+    held_next : (y : Resource) (marks : Bool → List Mark) → y.at ≡ x.at + k
         → marks (is_named (get_entry top (drop y.at s))) ≡ h.marks (is_named (get_entry top (drop x.at s)))
         ++ move_up x.at ns
         → length (marks false) ≡ x.marks + length ns → y.marks ≡ x.marks + length ns
-        → y.errors ≡ x.errors + length fs → Pending y.comment marks
-        → Step (8 * length s) 0 t t' (words_at 0 (marks false)) → ErrorStep (length s) 0 e e' (h.faults ++ map (up_error x.at) fs)
-        → Framed s t t' e e' × Held s t' e' y × (x.at < y.at)
-    held_next {t'} {e'} y marks a q w n c p S R =
+        → y.error_count ≡ x.error_count + length fs → Pending y.comment marks
+        → Step (8 * length s) 0 x.tree.now y.tree.now (words_at 0 (marks false))
+        → ErrorStep (length s) 0 x.errors.now y.errors.now (h.faults ++ map (up_error x.at) fs)
+        → Framed s x.tree.now y.tree.now x.errors.now y.errors.now × Held s y × (x.at < y.at)
+    held_next y marks a q w n c p S R =
         let (u, few) = uses in
         let i = u.within in
         let r = u.room in
@@ -278,8 +280,15 @@ module _ {s t e : List ℕ} {x : State} (h : Held s t e x) (l : x.at < length s)
           omega arith,
         )
 
+  -- what is as it was, but for the tree and the place
+  pub record Since (z : Resource) : Type 0 where
+    pub source : z.source.now ≡ s
+    pub list : z.errors.now ≡ x.errors.now
+    pub error_count : z.error_count ≡ x.error_count
+    pub comment : z.comment ≡ x.comment
+
   -- an opening mark was put, and an entry y was read after it
-  module _ {opened : ℕ} {t₁ : List ℕ} (o : opened ≡ x.marks + 1) (p : Step (8 * length s) x.marks t t₁ (word 1 0 ∷ [])) where
+  module _ {opened : ℕ} {t₁ : List ℕ} (o : opened ≡ x.marks + 1) (p : Step (8 * length s) x.marks x.tree.now t₁ (word 1 0 ∷ [])) where
     module _ {y : Entry} {t₂ : List ℕ} {end m : ℕ}
         (g : Got y (8 * length s) x.at opened end m t₁ t₂ (get_entry top (drop x.at s))) where
       within : Uses 6 (drop x.at s) g.ms g.k
@@ -291,10 +300,7 @@ module _ {s t e : List ℕ} {x : State} (h : Held s t e x) (l : x.at < length s)
       pub entry-room : (x.marks < m) × (m + 1 ≤ 8 * length s)
       entry-room = let r = within.room in let w = entry-inside in (omega (arith, g.count), omega (arith, g.count, g.place, h.room))
 
-      pub entry-small : Small y
-      entry-small = small_of top (drop x.at s) g.is
-
-      pub entry-long : length t₂ ≡ length t
+      pub entry-long : length t₂ ≡ length x.tree.now
       entry-long = g.wrote.long ∙ p.long
 
       spacious : 2 + 16 * length s ≤ length t₂
@@ -307,22 +313,22 @@ module _ {s t e : List ℕ} {x : State} (h : Held s t e x) (l : x.at < length s)
       pub entry-fits : Fits t₂ (8 * length s) m 1
       entry-fits = record { fits = entry-room.1; layout = omega (arith, spacious) }
 
-      words : Step (8 * length s) 0 t t₂ (words_at 0 (h.marks false) ++ (word 1 0 ∷ words_at x.at g.ms))
+      words : Step (8 * length s) 0 x.tree.now t₂ (words_at 0 (h.marks false) ++ (word 1 0 ∷ words_at x.at g.ms))
       words = step_then h.tree (omega (arith, h.counted, words-length 0 (h.marks false))) (step_then p o g.wrote)
 
       blocks : skip_blank_block (drop g.k (drop x.at s)) ≡ skip_blank_block (drop end s)
       blocks = ap skip_blank_block (drop-drop g.k x.at s ∙ ap (λ (i : ℕ). drop i s) (sym g.place))
 
-      module _ {m' : ℕ} {c : Option ℕ} {r : State} (e' : m' ≡ m + 1) (v : Moved s end m' x.errors c r) where
+      module _ {c : Option ℕ} {r : Resource} (v : Moved s end (m + 1) x.error_count c r) (d : r.errors.now ≡ x.errors.now) where
         place : r.at ≡ x.at + (g.k + used_by (skip_blank_block (drop g.k (drop x.at s))))
         place = omega (arith, v.at, ap used_by blocks, g.place)
 
-        pub held-named : {t₃ : List ℕ} (κ : ℕ) → c ≡ None → is_named (ok y g.ms g.k) ≡ true
+        held-named : (κ : ℕ) → c ≡ None → is_named (ok y g.ms g.k) ≡ true
             → ((b : Bool) → kind_of_entry y b ≡ κ)
-            → Step (8 * length s) m (set (attached x.comment x.marks t₂) (x.marks + 2) κ) t₃
+            → Step (8 * length s) m (set (attached x.comment x.marks t₂) (x.marks + 2) κ) r.tree.now
             (word (closing κ) 0 ∷ [])
-            → Framed s t t₃ e e × Held s t₃ e r × (x.at < r.at)
-        held-named κ n d f z =
+            → Framed s x.tree.now r.tree.now x.errors.now r.errors.now × Held s r × (x.at < r.at)
+        held-named κ n i f z =
             let (a, b) = entry-room in
             let M = h.marks true in
             let size = pending-length x.comment h.marks h.pending in
@@ -330,7 +336,7 @@ module _ {s t e : List ℕ} {x : State} (h : Held s t e x) (l : x.at < length s)
             comment-attached h.marks (word 1 0 ∷ words_at x.at g.ms) x.marks x.comment
             h.pending words h.counted (omega arith) (omega (arith, spacious)) in
             held_next (entry g.is) r (λ b. M ++ move_up x.at (node κ g.ms)) place
-            (rw (g.is, d, f (near top (drop x.at s) g.k)))
+            (rw (g.is, i, f (near top (drop x.at s) g.k)))
             (omega (
               arith,
               h.counted,
@@ -341,11 +347,11 @@ module _ {s t e : List ℕ} {x : State} (h : Held s t e x) (l : x.at < length s)
               node-length (kind_of_entry y (near top (drop x.at s) g.k)) g.ms,
             ))
             (omega (arith, v.marks, g.count, node-length (kind_of_entry y (near top (drop x.at s) g.k)) g.ms))
-            (omega (arith, v.errors))
+            (omega (arith, v.error_count))
             (rw (v.comment, n, kept-none) refl)
             (entry_closed x.at x.marks m κ M g.ms after (omega (arith, h.counted, size))
             (omega (arith, g.count)) (omega arith) (omega (arith, spacious, after.long, entry-long)) z)
-            (rw append-nil h.list)
+            (rw (d, append-nil) h.list)
 
         nearby : near top (drop x.at s) g.k ≡ ltb (count (skip_blank_block (drop end s))) 2 && is_named (get_entry top (drop r.at s))
         nearby =
@@ -353,11 +359,11 @@ module _ {s t e : List ℕ} {x : State} (h : Held s t e x) (l : x.at < length s)
             (drop-drop (g.k + used_by (skip_blank_block (drop g.k (drop x.at s)))) x.at s
             ∙ ap (λ (i : ℕ). drop i s) (sym place))
 
-        pub held-comment : {t₃ : List ℕ} (j : ℕ) → y ≡ comment j → c ≡ regular j x.marks
-            → Step (8 * length s) m (set t₂ (x.marks + 2) (2 + j)) t₃ (word (closing (2 + j)) 0 ∷ [])
-            → Framed s t t₃ e e × Held s t₃ e r × (x.at < r.at)
+        held-comment : (j : ℕ) → y ≡ comment j → c ≡ regular j x.marks
+            → Step (8 * length s) m (set t₂ (x.marks + 2) (2 + j)) r.tree.now (word (closing (2 + j)) 0 ∷ [])
+            → Framed s x.tree.now r.tree.now x.errors.now r.errors.now × Held s r × (x.at < r.at)
         unfolding is_named
-        held-comment j n d z =
+        held-comment j n u z =
             let (a, b) = entry-room in
             let M = h.marks false in
             let q = count (skip_blank_block (drop end s)) in
@@ -374,12 +380,32 @@ module _ {s t e : List ℕ} {x : State} (h : Held s t e x) (l : x.at < length s)
               node-length (kind_of_entry (comment j) (near top (drop x.at s) g.k)) g.ms,
             ))
             (omega (arith, v.marks, g.count, node-length (kind_of_entry (comment j) (near top (drop x.at s) g.k)) g.ms))
-            (omega (arith, v.errors))
-            (rw (v.comment, d) (comment-pending M x.at g.ms j q x.marks h.counted))
+            (omega (arith, v.error_count))
+            (rw (v.comment, u) (comment-pending M x.at g.ms j q x.marks h.counted))
             (rw (kind-free j (ltb q 2))
             (entry_closed x.at x.marks m (2 + j) M g.ms words h.counted (omega (arith, g.count))
             (omega arith) (omega (arith, spacious)) z))
-            (rw append-nil h.list)
+            (rw (d, append-nil) h.list)
+
+      -- it was closed
+      pub held-entry : (z r : Resource) → Since z → z.at ≡ end → z.marks ≡ m → z.tree.now ≡ t₂ → (e : CodeEntry) → y ≡ entry_of e → EntryClosed e x.marks z r
+          → Framed s x.tree.now r.tree.now x.errors.now r.errors.now × Held s (past r) × (x.at < (past r).at)
+      unfolding is_named kind_of_entry
+      held-entry z r q i n j e u v = go e u v
+        where
+          past-it : {κ : ℕ} {c : Option ℕ} {t : List ℕ} → Closed x.marks κ c t z r → Moved s end (m + 1) x.error_count c (past r)
+          past-it v =
+              moved s r _ _ _ _ (ap (λ (b : Bor (List ℕ)). b.now) v.aside.same.source ∙ q.source) (v.aside.at ∙ i) (rw n at v.marks)
+              (v.aside.error_count ∙ q.error_count) v.comment
+
+          go : (e : CodeEntry) → y ≡ entry_of e → EntryClosed e x.marks z r → Framed s x.tree.now r.tree.now x.errors.now r.errors.now × Held s (past r) × (x.at < (past r).at)
+          go Message u v =
+              held-named (past-it v) (v.aside.list ∙ q.list) 1 refl (ap (λ (w : Entry). is_named (ok w g.ms g.k)) u)
+              (λ b. ap (λ (w : Entry). kind_of_entry w b) u) (rw (q.source, q.comment, j, n) at v.step)
+          go Term u v =
+              held-named (past-it v) (v.aside.list ∙ q.list) 2 refl (ap (λ (w : Entry). is_named (ok w g.ms g.k)) u)
+              (λ b. ap (λ (w : Entry). kind_of_entry w b) u) (rw (q.source, q.comment, j, n) at v.step)
+          go (Comment l) u v = held-comment (past-it v) (v.aside.list ∙ q.list) (number l) u refl (rw (q.source, j, n) at v.step)
 
     -- it could not be read, and reading stopped at k
     module _ {t₂ : List ℕ} {f : ParserError} {k : ℕ} (w : Step (8 * length s) opened t₁ t₂ [])
@@ -390,7 +416,7 @@ module _ {s t e : List ℕ} {x : State} (h : Held s t e x) (l : x.at < length s)
       pub lost-inside : k ≤ length s
       lost-inside = omega (arith, stopped, g.place, length-drop x.at s)
 
-      pub lost-long : length t₂ ≡ length t
+      pub lost-long : length t₂ ≡ length x.tree.now
       lost-long = w.long ∙ p.long
 
       ends : junk_till k s ≡ x.at + junk_end g.k (drop x.at s)
@@ -399,38 +425,41 @@ module _ {s t e : List ℕ} {x : State} (h : Held s t e x) (l : x.at < length s)
           let inside : x.at + g.k ≤ length s = omega (arith, stopped, length-drop x.at s) in
           rw (g.place, starts-later s x.at g.k (h.starts l) inside, drop-drop) (add_assoc x.at g.k _)
 
-      pub held-junk : {t₃ e₃ : List ℕ} {r : State} → Junked s t₂ t₃ e e₃ x f k r → Framed s t t₃ e e₃ × Held s t₃ e₃ r × (x.at < r.at)
+      pub held-junk : (z r : Resource) → Since z → z.at ≡ x.at → z.marks ≡ x.marks → z.tree.now ≡ t₂ → Junked f k z r
+          → Framed s x.tree.now r.tree.now x.errors.now r.errors.now × Held s (past r) × (x.at < (past r).at)
       unfolding is_named text_node up_error
-      held-junk {t₃} {e₃} {r} v =
+      held-junk z r q i n j v =
           let J = junk_end g.k (drop x.at s) in
           let M = h.marks false in
           let blocks : skip_blank_block (drop J (drop x.at s)) ≡ skip_blank_block (drop (junk_till k s) s) =
           ap skip_blank_block (drop-drop J x.at s ∙ ap (λ (i : ℕ). drop i s) (sym ends)) in
           let S =
           step_then h.tree (omega (arith, h.counted, words-length 0 M))
-          (step_then (step-failed p o w) (sym (add-zero x.marks)) v.tree) in
-          let R = rows_then h.list (omega (arith, h.listed)) v.list in
+          (step_then (step-failed p o w) (sym (add-zero x.marks)) (rw (q.source, i, n, j) at v.tree)) in
+          let R = rows_then h.list (omega (arith, h.listed)) (rw (q.source, i, q.list, q.error_count) at v.list) in
           let err : with_junk f x.at (junk_till k s) ≡ up_error x.at
           (record { fault = g.fault; junk_from = 0; junk_till = J }) =
           λ i. record { fault = g.moved i; junk_from = sym (add-zero x.at) i; junk_till = ends i } in
-          held_next (junk g.is) r (λ b. M ++ move_up x.at (text_node 7 0 J)) (omega (arith, v.moved.at, ap used_by blocks, ends))
+          let y = moved s r (junk_till k s) (x.marks + 2) (x.error_count + 1) None (ap (λ (b : Bor (List ℕ)). b.now) v.same.source ∙ q.source)
+          (rw q.source at v.at) (rw n at v.marks) (rw q.error_count at v.error_count) v.comment in
+          held_next (junk g.is) (past r) (λ b. M ++ move_up x.at (text_node 7 0 J)) (omega (arith, y.at, ap used_by blocks, ends))
           (rw g.is)
           (omega (arith, h.counted, length-append M (move_up x.at (text_node 7 0 J)), move_up-length x.at (text_node 7 0 J)))
-          v.moved.marks
-          v.moved.errors
-          (rw (v.moved.comment, kept-none) refl)
+          y.marks
+          y.error_count
+          (rw (y.comment, kept-none) refl)
           (rw (words_append, words_up, zero-add, text-placed x.at x.at (junk_till k s) 0 J 7 (sym (add-zero x.at)) ends) S)
-          (subst (λ (u : Error). ErrorStep (length s) 0 e e₃ (h.faults ++ (u ∷ []))) err R)
+          (subst (λ (u : Error). ErrorStep (length s) 0 x.errors.now r.errors.now (h.faults ++ (u ∷ []))) err R)
 
     -- an opening nests too deep
-    pub held-far : {t₂ : List ℕ} {k : ℕ} → Step (8 * length s) opened t₁ t₂ []
-        → Far x.at k (get_entry top (drop x.at s)) → Framed s t t₂ e e × (parse max_open s ≡ refused k)
+    pub held-far : {t' e' : List ℕ} {k : ℕ} → Step (8 * length s) opened t₁ t' [] → e' ≡ x.errors.now
+        → Far x.at k (get_entry top (drop x.at s)) → Framed s x.tree.now t' x.errors.now e' × (parse max_open s ≡ refused k)
     unfolding following
-    held-far w g = (
+    held-far w d g = (
       record {
         tree =
             step_cut (step_then h.tree (omega (arith, h.counted, words-length 0 (h.marks false))) (step-failed p o w));
-        list = rows_none (length s) e;
+        list = rw d (rows_none (length s) x.errors.now);
       },
       h.answer
           ∙ ap (following (h.marks (is_named (get_entry top (drop x.at s)))) h.faults x.at) deeper
@@ -442,22 +471,25 @@ module _ {s t e : List ℕ} {x : State} (h : Held s t e x) (l : x.at < length s)
 
 -- ---- the first entry, and the end
 
-pub held_start : {s t e : List ℕ} {r : State} → Sized s t e → Moved s 0 0 0 None r → Held s t e r
+pub held_start : (x : Resource) → Sized x.source.now x.tree.now x.errors.now → x.at ≡ 0 → x.marks ≡ 0 → x.error_count ≡ 0 → x.comment ≡ None
+    → Held x.source.now (past x)
 unfolding parse following used_by
-held_start {s} {t} {e} {r} z v =
-    let a : r.at ≡ used_by (skip_blank_block s) = omega (arith, v.at) in
+held_start x z i n k c =
+    let s = x.source.now in
+    let v = moved s x 0 0 0 None refl i n k c in
+    let a : (past x).at ≡ used_by (skip_blank_block s) = omega (arith, v.at) in
     record {
       sized = z;
-      inside = omega (arith, block-le s);
+      inside = omega (arith, a, block-le s);
       starts = λ l. rw a (block-starts s);
       marks = λ b. [];
       faults = [];
       room = omega (arith, v.marks);
-      few = omega (arith, v.errors);
+      few = omega (arith, v.error_count);
       counted = v.marks;
-      listed = v.errors;
-      tree = rw words-none (step-none (8 * length s) 0 t);
-      list = rows_none (length s) e;
+      listed = v.error_count;
+      tree = rw words-none (step-none (8 * length s) 0 x.tree.now);
+      list = rows_none (length s) x.errors.now;
       pending = rw (v.comment, kept-none) refl;
       answer = rw a;
     }
@@ -467,12 +499,13 @@ unfolding get_entry starts_with fields get_identifier starts fail ◌>>=◌ next
 nothing-named sub = refl
 
 module _ {s t t' e e' : List ℕ} (f : Framed s t t' e e') where
-  pub did-end : {x : State} → Held s t' e' x → length s ≤ x.at → DidParse s t t' e e' (Ok (record { marks = x.marks; errors = x.errors })) (parse max_open s)
+  pub did-end : {x : Resource} → Held s x → x.tree.now ≡ t' → x.errors.now ≡ e' → length s ≤ x.at
+      → DidParse s t t' e e' (Ok (record { marks = x.marks; errors = x.error_count })) (parse max_open s)
   unfolding marks_of errors_of
-  did-end {x} h n = record {
+  did-end {x} h i j n = record {
     answers = rw all (ap₂ (λ n k. Ok (record { marks = n; errors = k })) h.counted h.listed);
-    tree = rw all (step_then f.tree refl h.tree);
-    errors = rw all (rows_then f.list refl h.list);
+    tree = rw all (step_then f.tree refl (rw i at h.tree));
+    errors = rw all (rows_then f.list refl (rw j at h.list));
   }
     where
       none : drop x.at s ≡ []

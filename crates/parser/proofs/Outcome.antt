@@ -97,8 +97,8 @@ module _ (s t t₁ e e₁ : List ℕ) (r : Result Counts ℕ) (z : Sized s t e) 
       }
 
   pub too-deep : (j : ℕ) (t₂ e₂ : List ℕ) → r ≡ Err j
-      → t₂ ≡ take 0 t₁ ++ (replicate (2 + 16 * length s - 0) 0 ++ drop (2 + 16 * length s) t₁)
-      → e₂ ≡ take 0 e₁ ++ (replicate (2 + 7 * length s - 0) 0 ++ drop (2 + 7 * length s) e₁) → DidReadInto s t t₂ e e₂ (Err (TooDeep j))
+      → t₂ ≡ take 0 t₁ ++ (replicate (tree_layout (length s) - 0) 0 ++ drop (tree_layout (length s)) t₁)
+      → e₂ ≡ take 0 e₁ ++ (replicate (error_layout (length s) - 0) 0 ++ drop (error_layout (length s)) e₁) → DidReadInto s t t₂ e e₂ (Err (TooDeep j))
   unfolding answer_of slice_after effect_of slice_by
   too-deep j t₂ e₂ h x y = go (parse max_open s) refl
     where
@@ -108,16 +108,10 @@ module _ (s t t₁ e e₁ : List ℕ) (r : Result Counts ℕ) (z : Sized s t e) 
       go (refused k) q =
           let a : r ≡ Err k = d.answers ∙ ap parsed_of q in
           let same : j ≡ k = cc in
-          let n : 2 + 16 * length s ≡ 2 + 2 * (8 * length s) = omega arith in
           record {
             answers = rw q (ap (λ i. Err (TooDeep i)) same);
-            tree =
-                rw q
-                (x
-                ∙ zeroed-all (2 + 16 * length s) t t₁
-                (ap (λ i. drop i t₁) n ∙ d.tree.rest ∙ ap (λ i. drop i t) (sym n))
-                ∙ ap (λ i. replicate i 0 ++ drop i t) n);
-            errors = rw q (y ∙ zeroed-all (2 + 7 * length s) e e₁ d.errors.rest);
+            tree = rw q (x ∙ zeroed-all (tree_layout (length s)) t t₁ d.tree.rest);
+            errors = rw q (y ∙ zeroed-all (error_layout (length s)) e e₁ d.errors.rest);
           }
 
 -- the tests before the reading, in their order
@@ -150,35 +144,34 @@ module _ (s t e : List ℕ) where
     short = le-ltb 1000000 (length s) h
 
     module _ (f : first_ill_formed s ≡ none) where
-      pub tree-short : length t < 2 + 16 * length s → DidRead s t t e e (Err (TreeTooShort (2 + 16 * length s)))
+      pub tree-short : {n : ℕ} → n ≡ tree_layout (length s) → length t < n → DidRead s t t e e (Err (TreeTooShort n))
       unfolding read_answer tree_after errors_after slice_after effect_of slice_by
-      tree-short l =
-          let n : 2 + 16 * length s ≡ tree_layout (length s) = omega arith in
-          let q = lt-ltb (length t) (tree_layout (length s)) (omega arith) in
+      tree-short n l =
+          let q = lt-ltb (length t) (tree_layout (length s)) (omega (arith, n, l)) in
           record {
             answers = answered (rw (short, read_answer, f, q) (ap (λ i. Err (TreeTooShort i)) n));
             tree = rw (short, read_answer, f, q);
             errors = rw (short, read_answer, f, q);
           }
 
-      module _ (l : 2 + 16 * length s ≤ length t) where
+      module _ {n k : ℕ} (a : n ≡ tree_layout (length s)) (l : n ≤ length t) (b : k ≡ error_layout (length s)) where
         roomy : ltb (length t) (tree_layout (length s)) ≡ false
-        roomy = le-ltb (length t) (tree_layout (length s)) (omega arith)
+        roomy = le-ltb (length t) (tree_layout (length s)) (omega (arith, a, l))
 
-        pub errors-short : length e < 2 + 7 * length s → DidRead s t t e e (Err (ErrorsTooShort (2 + 7 * length s)))
+        pub errors-short : length e < k → DidRead s t t e e (Err (ErrorsTooShort k))
         unfolding read_answer tree_after errors_after slice_after effect_of slice_by
         errors-short g =
-            let q = lt-ltb (length e) (error_layout (length s)) g in
+            let q = lt-ltb (length e) (error_layout (length s)) (omega (arith, b, g)) in
             record {
-              answers = answered (rw (short, read_answer, f, roomy, q));
+              answers = answered (rw (short, read_answer, f, roomy, q) (ap (λ i. Err (ErrorsTooShort i)) b));
               tree = rw (short, read_answer, f, roomy, q);
               errors = rw (short, read_answer, f, roomy, q);
             }
 
-        pub none-short : (t' e' : List ℕ) (r : Answer) → 2 + 7 * length s ≤ length e → DidReadInto s t t' e e' r → DidRead s t t' e e' r
+        pub none-short : (t' e' : List ℕ) (r : Answer) → k ≤ length e → DidReadInto s t t' e e' r → DidRead s t t' e e' r
         unfolding read_answer tree_after errors_after
         none-short t' e' r g d =
-            let q = le-ltb (length e) (error_layout (length s)) g in
+            let q = le-ltb (length e) (error_layout (length s)) (omega (arith, b, g)) in
             record {
               answers = answered (rw (short, read_answer, f, roomy, q) d.answers);
               tree = rw (short, read_answer, f, roomy, q) d.tree;

@@ -34,7 +34,7 @@ use Rattle.laws.specs.Bounds.Expression.{level-bounds}
 use Rattle.laws.specs.Bounds.Entry.{entry-bounds}
 use Rattle.laws.specs.Progress.{junk-moves}
 use Rattle.laws.specs.Tests.{refusal-of, none_of, source-passes}
-use Rattle.entry.specs.Did.{told, answer, Did}
+use Rattle.entry.specs.Did.{told, result_by, plain, answer, Did}
 use Rattle.entry.specs.Entry.{entry_of}
 use Rattle.entry.specs.Border.{Skipped}
 use Rattle.parser.specs.Next.{StopIn, Stoppable, extent_of, stopped_at}
@@ -78,7 +78,7 @@ module _ (s : List ℕ) (a : ℕ) (l : a < length s) where
       (sym (drop-drop (suc k) a s))
 
   stops_as : (o : Out Entry) → get_entry (level max_open) (drop a s) ≡ o
-      → extent_of s a (answer entry_of a 0 o) ≡ stopped a (stop_of (drop a s) o)
+      → extent_of s a (answer plain a 0 o) ≡ stopped a (stop_of (drop a s) o)
   unfolding stop_of stopped junk_end
   stops_as (ok message ms k) h = refl
   stops_as (ok term ms k) h = refl
@@ -87,10 +87,10 @@ module _ (s : List ℕ) (a : ℕ) (l : a < length s) where
   stops_as (deep k) h = refl
 
   pub stoppable : length s ≤ 1000000 → (r : EntryRead)
-      → told r.entry r.at r.marks ≡ answer entry_of a 0 (get_entry (level max_open) (drop a s)) → Stoppable s r
+      → told (result_by entry_of r.entry) r.at r.marks ≡ answer plain a 0 (get_entry (level max_open) (drop a s)) → Stoppable s r
   stoppable m r e = rw e (go (get_entry (level max_open) (drop a s)) refl)
     where
-      go : (o : Out Entry) → get_entry (level max_open) (drop a s) ≡ o → StopIn s (answer entry_of a 0 o)
+      go : (o : Out Entry) → get_entry (level max_open) (drop a s) ≡ o → StopIn s (answer plain a 0 o)
       go (ok message ms k) h = tt
       go (ok term ms k) h = tt
       go (ok (comment j) ms k) h = tt
@@ -104,7 +104,7 @@ module _ (s : List ℕ) (a : ℕ) (l : a < length s) where
 
   -- an entry was read into the tree
   pub entry_read : {t t₁ : List ℕ} (r : EntryRead) {x : Maybe Extent}
-      → Did entry_of (8 * length s) a 0 t t₁ (told r.entry r.at r.marks) (get_entry (level max_open) (drop a s)) → x ≡ stopped_at s a r
+      → Did plain (8 * length s) a 0 t t₁ (told (result_by entry_of r.entry) r.at r.marks) (get_entry (level max_open) (drop a s)) → x ≡ stopped_at s a r
       → (x ≡ stopped a (stop_of (drop a s) (get_entry (level max_open) (drop a s)))) × Scratched (tree_layout (length s)) t t₁
   entry_read r d e = (
     e ∙ ap (extent_of s a) d.answers
@@ -152,18 +152,17 @@ module _ (s : List ℕ) (at : ℕ) (t : List ℕ) where
         here : ltb b.end (length s) ≡ true
         here = lt-ltb b.end (length s) g
 
-        pub asked-short : length t < 2 + 16 * length s → Answers s at t t (Err (TreeTooShort (2 + 16 * length s)))
+        pub asked-short : {n : ℕ} → n ≡ tree_layout (length s) → length t < n → Answers s at t t (Err (TreeTooShort n))
         unfolding ahead_from answer_by
-        asked-short m =
-            let n : 2 + 16 * length s ≡ tree_layout (length s) = omega arith in
-            let q = lt-ltb (length t) (tree_layout (length s)) (omega arith) in
-            finds short t (from-there ∙ rw (here, ahead_from, q)) (ap (λ i. Err (TreeTooShort i)) n) refl
+        asked-short e m =
+            let q = lt-ltb (length t) (tree_layout (length s)) (omega (arith, e, m)) in
+            finds short t (from-there ∙ rw (here, ahead_from, q)) (ap (λ i. Err (TreeTooShort i)) e) refl
 
-        pub asked_entry : 2 + 16 * length s ≤ length t → {t' : List ℕ} {x : Maybe Extent}
+        pub asked_entry : {n : ℕ} → n ≡ tree_layout (length s) → n ≤ length t → {t' : List ℕ} {x : Maybe Extent}
             → (x ≡ stopped b.end (stop_of (drop b.end s) (get_entry (level max_open) (drop b.end s))))
             × Scratched (tree_layout (length s)) t t' → Answers s at t t' (Ok x)
         unfolding ahead_from answer_by
-        asked_entry m {t'} (e, y) = let q = le-ltb (length t) (tree_layout (length s)) (omega arith) in
+        asked_entry n m {t'} (e, y) = let q = le-ltb (length t) (tree_layout (length s)) (omega (arith, n, m)) in
             finds (entry_at b.end) t' (from-there ∙ rw (here, ahead_from, q)) (ap (λ o. Ok o) e) y
 
 -- ---- the first place

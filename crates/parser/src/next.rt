@@ -11,7 +11,7 @@ use crate::junk::skip_to_next_entry_start;
 use crate::marks::get_entry;
 use entry::border::{EntryRead, Stop, skip_blank_lines};
 use syntax::answer::Refusal;
-use syntax::layout::{SIZES, TREE_WORDS_A_BYTE};
+use syntax::layout::tree_words;
 use syntax::limits::{MAX_LENGTH, MAX_OPEN};
 use syntax::next::{Extent, Next};
 use syntax::test::test_source;
@@ -60,7 +60,7 @@ fn answer(source: &[u8], at: usize, tree: &mut [u32]) -> Next
     if length <= start {
         return Ok(None);
     }
-    let words = SIZES + TREE_WORDS_A_BYTE * length;
+    let words = tree_words(length);
     if tree.len() < words {
         return Err(Refusal::TreeTooShort(words as u64));
     }

@@ -4,7 +4,7 @@ ghost use Rattle.parser.specs.Call.{Sized, DidRead, DidReadInto};
 use crate::layout::{finish, zero};
 use crate::resource::{Counts, parse};
 use syntax::answer::{Answer, Refusal};
-use syntax::layout::{ERROR_WORDS_A_BYTE, GROUP_SIZE, MARKS_A_BYTE, SIZES, TREE_WORDS_A_BYTE};
+use syntax::layout::{GROUP_SIZE, MARKS_A_BYTE, error_words, tree_words};
 use syntax::test::test_source;
 
 // Reads a source into a tree of marks and a list of errors, both lent. The tests come in the order of the refusals 1 to 5.
@@ -13,11 +13,11 @@ pub fn read(source: &[u8], tree: &mut [u32], errors: &mut [u32]) -> Answer
 {
     test_source(source)?;
     let length = source.len();
-    let words = SIZES + TREE_WORDS_A_BYTE * length;
+    let words = tree_words(length);
     if tree.len() < words {
         return Err(Refusal::TreeTooShort(words as u64));
     }
-    let rows = SIZES + ERROR_WORDS_A_BYTE * length;
+    let rows = error_words(length);
     if errors.len() < rows {
         return Err(Refusal::ErrorsTooShort(rows as u64));
     }
@@ -43,8 +43,8 @@ fn read_into(source: &[u8], tree: &mut [u32], errors: &mut [u32]) -> Answer
             Ok(0)
         }
         Err(at) => {
-            zero(tree, 0, SIZES + TREE_WORDS_A_BYTE * length);
-            zero(errors, 0, SIZES + ERROR_WORDS_A_BYTE * length);
+            zero(tree, 0, tree_words(length));
+            zero(errors, 0, error_words(length));
             Err(Refusal::TooDeep(at as u64))
         }
     }

@@ -1,19 +1,19 @@
 // core.rs: a file, entry by entry.
-ghost use Rattle.std.specs.Prelude.{◌+◌, ◌*◌, ◌<◌, ◌≤◌, ◌≡◌, [], ◌∷◌, length, set, None};
-ghost use Rattle.syntax.specs.Kind.{number_of, closing};
+ghost use Rattle.std.specs.Prelude.{◌+◌, ◌*◌, ◌<◌, ◌≤◌, ◌≡◌, [], ◌∷◌, length};
+ghost use Rattle.syntax.specs.Kind.{number_of};
 ghost use Rattle.syntax.specs.Core as Core;
 ghost use Rattle.syntax.specs.Limits.{max_open};
-ghost use Rattle.entry.specs.Tree.{word, Step, Fits};
+ghost use Rattle.entry.specs.Level.{number};
 ghost use Rattle.parser.specs.Call.{Sized, DidParse};
-ghost use Rattle.parser.specs.Resource.{attached, Attachable, regular, Moved, Troubled, Junked, Held, Turned};
+ghost use Rattle.parser.specs.Resource.{regular, Attachable, joined, Holds, Closable, Closed, EntryClosed};
+ghost use Rattle.parser.specs.Resource.{past, Same, Troubled, Junked, Held, Turned};
 
 use crate::junk::skip_to_next_entry_start;
-use crate::list::put_error;
-use crate::marks::{get_entry, put, set_kind};
-use entry::border::{Entry, Stop, skip_blank_lines};
+use crate::marks::get_entry;
+use entry::border::{Entry, Level, Stop, skip_blank_lines};
 use syntax::errors::ParserError;
 use syntax::kind::Kind;
-use syntax::layout::MARKS_A_BYTE;
+use syntax::layout::SIZES;
 use syntax::limits::MAX_OPEN;
 
 // How many marks and errors were read.
@@ -23,140 +23,131 @@ pub struct Counts {
     pub errors: usize,
 }
 
-// How far a file is read: the place of an entry, the counts of marks and of errors, and where the opening mark stands of the comment
-// that is attached if a message or a term comes next.
-#[derive(Clone, Copy)]
-pub struct State {
+// A file that is read up to a place: its marks and errors so far stand in the lent slices.
+#[derive(Drop)]
+pub struct Resource<'s, 't> {
+    pub source: &'s [u8],
+    pub tree: &'t mut [u32],
+    pub errors: &'t mut [u32],
     pub at: usize,
     pub marks: usize,
-    pub errors: usize,
+    pub error_count: usize,
+    // Where the opening mark stands of the comment that is attached if a message or a term comes next.
     pub comment: Option<usize>,
 }
 
 // A comment before which n marks stand, if it is a regular one.
-fn last_comment(level: usize, n: usize) -> Option<usize>
-    ensures { result ≡ regular level n }
+#[tactic(auto, unfolding(crate::specs::Resource::regular))]
+fn last_comment(level: Level, n: usize) -> Option<usize>
+    ensures { result ≡ regular (number level) n }
 {
-    (level == 1).then_some(n)
+    (level == Level::Regular).then_some(n)
 }
 
 // The kind of a comment of a level that is not attached.
-fn comment_kind(level: usize) -> Kind
-    requires { (0 < level) × (level ≤ 3) }
-    ensures { number_of result ≡ 2 + level }
+fn comment_kind(level: Level) -> Kind
+    ensures { number_of result ≡ 2 + number level }
 {
     match level {
-        1 => Kind::Comment,
-        2 => Kind::GroupComment,
-        _ => Kind::ResourceComment,
+        Level::Regular => Kind::Comment,
+        Level::Group => Kind::GroupComment,
+        Level::Resource => Kind::ResourceComment,
     }
 }
 
-// Attaches a comment that n marks end: its opening and its closing mark change their kinds.
-fn attach_comment(tree: &mut [u32], comment: Option<usize>, n: usize)
-    requires { Attachable tree.old comment n }
-    ensures { tree.new ≡ attached comment n tree.old }
-{
-    if let Some(i) = comment {
-        set_kind(tree, i, Kind::AttachedComment.number());
-        set_kind(tree, n - 1, Kind::AttachedComment.closing());
+impl Resource<'_, '_> {
+    // Attaches the last comment, which n marks end: its opening and its closing mark change their kinds.
+    fn attach_comment(&mut self, n: usize)
+        requires { Attachable self.old.tree.now self.old.comment n }
+        ensures { self.new ≡ joined n self.old }
+    {
+        if let Some(i) = self.comment.take() {
+            self.tree[SIZES + i] = Kind::AttachedComment.number();
+            self.tree[SIZES + (n - 1)] = Kind::AttachedComment.closing();
+        }
     }
-}
 
-// Gives an entry whose opening mark is the n-th its kind, and closes it after m marks.
-fn close_entry(tree: &mut [u32], cap: usize, n: usize, kind: Kind, m: usize) -> usize
-    requires fits { Fits tree.old cap m 1 }
-    requires n_lt_m { n < m }
-    ensures { (result ≡ m + 1)
-        × Step cap m (set tree.old (n + 2) (number_of kind)) tree.new (word (closing (number_of kind)) 0 ∷ []) }
-{
-    set_kind(tree, n, kind.number());
-    put(tree, cap, m, kind.closing(), 0)
-}
-
-// Closes a message or a term, to which the last comment is attached.
-fn close_named(tree: &mut [u32], cap: usize, state: State, kind: Kind, m: usize) -> usize
-    requires attachable { Attachable tree.old state.comment state.marks }
-    requires fits { Fits tree.old cap m 1 }
-    requires marks_lt_m { state.marks < m }
-    ensures { (result ≡ m + 1)
-        × Step cap m (set (attached state.comment state.marks tree.old) (state.marks + 2) (number_of kind))
-        tree.new (word (closing (number_of kind)) 0 ∷ []) }
-{
-    let n = state.marks;
-    attach_comment(tree, state.comment, n);
-    close_entry(tree, cap, n, kind, m)
-}
-
-// Past the blank lines after an entry. A comment after which there are two line ends is not attached.
-fn go_on(source: &[u8], end: usize, marks: usize, errors: usize, comment: Option<usize>) -> State
-    ensures { Moved source.now end marks errors comment result }
-{
-    let block = skip_blank_lines(source, end);
-    let at = block.end;
-    let comment = if block.count < 2 { comment } else { None };
-    State {
-        at,
-        marks,
-        errors,
-        comment,
+    // Gives the entry that the n-th mark opens its kind, and closes it.
+    fn close(&mut self, n: usize, kind: Kind)
+        requires room { Holds self.old 1 }
+        requires n_lt_marks { n < self.old.marks }
+        ensures { Closed n (number_of kind) self.old.comment self.old.tree.now self.old self.new }
+    {
+        self.tree[SIZES + n] = kind.number();
+        self.put(kind.closing(), 0);
     }
-}
 
-// Junk, from an entry's start through to the next entry, and its error. Reading stopped at k.
-fn put_junk(
-    source: &[u8],
-    tree: &mut [u32],
-    errors: &mut [u32],
-    state: State,
-    e: ParserError,
-    k: usize,
-) -> State
-    requires { Troubled source.now tree.old errors.old state k }
-    ensures { Junked source.now tree.old tree.new errors.old errors.new state e k result }
-{
-    let length = source.len();
-    let at = state.at;
-    let end = skip_to_next_entry_start(source, k);
-    let cap = MARKS_A_BYTE * length;
-    let opened = put(tree, cap, state.marks, Kind::Junk.number(), at);
-    let marks = put(tree, cap, opened, Kind::Junk.closing(), end);
-    let count = put_error(errors, length, state.errors, e, at, end);
-    go_on(source, end, marks, count, None)
-}
+    // Closes an entry: the last comment is attached to a message or a term.
+    fn close_entry(&mut self, n: usize, entry: Entry)
+        requires { Closable n self.old }
+        ensures { EntryClosed entry n self.old self.new }
+    {
+        match entry {
+            Entry::Message => {
+                self.attach_comment(n);
+                self.close(n, Kind::Message);
+            }
+            Entry::Term => {
+                self.attach_comment(n);
+                self.close(n, Kind::Term);
+            }
+            Entry::Comment(level) => {
+                self.comment = last_comment(level, n);
+                self.close(n, comment_kind(level));
+            }
+        }
+    }
 
-// An entry, or junk, with the blank lines after it; or the place of an opening that nests too deep.
-fn parse_entry(
-    source: &[u8],
-    tree: &mut [u32],
-    errors: &mut [u32],
-    state: State,
-) -> Result<State, usize>
-    requires held { Held source.now tree.old errors.old state }
-    requires at_in_bounds { state.at < length source.now }
-    ensures { Turned source.now tree.old tree.new errors.old errors.new state result }
-{
-    let cap = MARKS_A_BYTE * source.len();
-    let at = state.at;
-    let n = state.marks;
-    let opened = put(tree, cap, n, Kind::Message.number(), 0);
-    let read = get_entry(source, at, MAX_OPEN, tree, opened);
-    match read.entry {
-        Ok(Entry::Message) => {
-            let marks = close_named(tree, cap, state, Kind::Message, read.marks);
-            Ok(go_on(source, read.at, marks, state.errors, None))
+    // Junk, from here through to the next entry, and its error. Reading stopped at k.
+    fn put_junk(&mut self, e: ParserError, k: usize)
+        requires { Troubled self.old k }
+        ensures { Junked e k self.old self.new }
+    {
+        let start = self.at;
+        let end = skip_to_next_entry_start(self.source, k);
+        self.put(Kind::Junk.number(), start);
+        self.put(Kind::Junk.closing(), end);
+        self.put_error(e, start, end);
+        self.at = end;
+        self.comment = None;
+    }
+
+    // An entry, or junk; or the place of an opening that nests too deep.
+    fn parse_entry(&mut self) -> Result<(), usize>
+        requires held { Held self.old.source.now self.old }
+        requires at_in_bounds { self.old.at < length self.old.source.now }
+        ensures same { Same self.old self.new }
+        ensures turned { Turned self.old.source.now self.old self.new result }
+    {
+        let entry_start = self.at;
+        let n = self.marks;
+        self.put(Kind::Message.number(), 0);
+        let read = get_entry(self.source, entry_start, MAX_OPEN, self.tree, self.marks);
+        match read.entry {
+            Ok(entry) => {
+                self.at = read.at;
+                self.marks = read.marks;
+                self.close_entry(n, entry);
+                Ok(())
+            }
+            Err(Stop::Error(e)) => {
+                self.marks = n;
+                self.put_junk(e, read.at);
+                Ok(())
+            }
+            Err(Stop::TooDeep) => Err(read.at),
         }
-        Ok(Entry::Term) => {
-            let marks = close_named(tree, cap, state, Kind::Term, read.marks);
-            Ok(go_on(source, read.at, marks, state.errors, None))
+    }
+
+    // Past blank lines. A comment after which there are two line ends is not attached.
+    fn skip_blank_block(&mut self)
+        ensures { self.new ≡ past self.old }
+    {
+        let block = skip_blank_lines(self.source, self.at);
+        self.at = block.end;
+        if 2 <= block.count {
+            self.comment = None;
         }
-        Ok(Entry::Comment(level)) => {
-            let comment = last_comment(level, n);
-            let marks = close_entry(tree, cap, n, comment_kind(level), read.marks);
-            Ok(go_on(source, read.at, marks, state.errors, comment))
-        }
-        Err(Stop::Error(e)) => Ok(put_junk(source, tree, errors, state, e, read.at)),
-        Err(Stop::TooDeep) => Err(read.at),
     }
 }
 
@@ -166,11 +157,25 @@ pub fn parse(source: &[u8], tree: &mut [u32], errors: &mut [u32]) -> Result<Coun
     ensures { DidParse source.now tree.old tree.new errors.old errors.new result
         (Core.parse max_open source.now) }
 {
-    let mut state = go_on(source, 0, 0, 0, None);
-    // No iterator: each turn answers the state from which the next goes on.
-    while state.at < source.len() {
-        state = parse_entry(source, tree, errors, state)?;
+    let mut resource = Resource {
+        source,
+        tree,
+        errors,
+        at: 0,
+        marks: 0,
+        error_count: 0,
+        comment: None,
+    };
+    resource.skip_blank_block();
+    // No iterator: each turn moves the place from which the next goes on.
+    while resource.at < source.len() {
+        resource.parse_entry()?;
+        resource.skip_blank_block();
     }
-    let State { marks, errors, .. } = state;
+    let Resource {
+        marks,
+        error_count: errors,
+        ..
+    } = resource;
     Ok(Counts { marks, errors })
 }

@@ -15,8 +15,7 @@ use Rattle.syntax.specs.Serializer.{nodes_from, nodes, Piece, ◌⊕◌, each, t
 use borrow.Author.Tests.{eqb-true}
 use Rattle.laws.specs.Bytes.{by_case, clash}
 use Rattle.laws.specs.Shape.Run.{otherwise, rule}
-use Rattle.serializer.specs.declared.writer.TextWriter.{TextWriter}
-use Rattle.serializer.specs.Writer.{Room, Wrote}
+use Rattle.serializer.specs.Writer.{Place, Room, Wrote}
 use Rattle.tree.specs.Walk.{kind_at, node_at, after, inner_at, At, TextAt, Inside}
 use Rattle.serializer.specs.Comment.{CommentAt, is_comment, line_of}
 use Rattle.serializer.proofs.Pieces.{row, Going, going, room-first, going_on, gone}
@@ -54,7 +53,7 @@ each_row f (x ∷ xs) = ap (λ p. f x ⊕ p) (each_row f xs)
 
 module _ (source tree prefix : List ℕ) where
   -- in the comment, at the mark m
-  pub record Lines (o₀ o : List ℕ) (w₀ w : TextWriter) (m₀ m : ℕ) : Type 0 where
+  pub record Lines (o₀ o : List ℕ) (w₀ w : Place) (m₀ m : ℕ) : Type 0 where
     pub kind : ℕ
     pub lines : is_comment kind ≡ true
     pub here : Inside (is_boundary source) (marks_in tree) m kind start
@@ -62,7 +61,7 @@ module _ (source tree prefix : List ℕ) where
         (map (comment_line source prefix) (nodes (inner_at (marks_in tree) m)))
     pub till : m + length (inner_at (marks_in tree) m) ≡ m₀ + length (inner_at (marks_in tree) m₀)
 
-  pub lines-first : (o : List ℕ) (w : TextWriter) (i : ℕ) → CommentAt (is_boundary source) (marks_in tree) i
+  pub lines-first : (o : List ℕ) (w : Place) (i : ℕ) → CommentAt (is_boundary source) (marks_in tree) i
       → Room w (comment source prefix (node_at (marks_in tree) i).inner) → Lines o o w w (i + 1) (i + 1)
   unfolding comment
   lines-first o w i a r =
@@ -76,13 +75,13 @@ module _ (source tree prefix : List ℕ) where
       }
 
   -- a line more
-  pub record Turn (o₀ o : List ℕ) (w₀ w : TextWriter) (m₀ m : ℕ) : Type 0 where
+  pub record Turn (o₀ o : List ℕ) (w₀ w : Place) (m₀ m : ℕ) : Type 0 where
     pub text : TextAt (is_boundary source) (marks_in tree) m
     pub room : Room w (line_of prefix (text_of source (node_at (marks_in tree) m)))
-    pub on : (o' : List ℕ) (w' : TextWriter) → Wrote o o' w w' (line_of prefix (text_of source (node_at (marks_in tree) m)))
+    pub on : (o' : List ℕ) (w' : Place) → Wrote o o' w w' (line_of prefix (text_of source (node_at (marks_in tree) m)))
         → Lines o₀ o' w₀ w' m₀ (m + 2)
 
-  module _ {o₀ o : List ℕ} {w₀ w : TextWriter} {m₀ m : ℕ} (s : Lines o₀ o w₀ w m₀ m) where
+  module _ {o₀ o : List ℕ} {w₀ w : Place} {m₀ m : ℕ} (s : Lines o₀ o w₀ w m₀ m) where
     turn-from : (j r : ℕ) → j ≡ Kind.comment_line → r ≡ start → At (is_boundary source) (marks_in tree) m j
         → Inside (is_boundary source) (marks_in tree) (after (marks_in tree) m) s.kind r
         → nodes (inner_at (marks_in tree) m) ≡ node_at (marks_in tree) m
@@ -132,7 +131,7 @@ module _ (source tree prefix : List ℕ) where
         go (ends c z f) = (gone (rw z at s.way), omega (arith, s.till, ap length z))
         go (goes j r t a n ns l) = absurd (k (at-kind a ∙ (comment-child s.kind start j r s.lines t).0))
 
-  pub lines-done : {o₀ o : List ℕ} {w₀ w : TextWriter} {m : ℕ} (i : ℕ) → CommentAt (is_boundary source) (marks_in tree) i
+  pub lines-done : {o₀ o : List ℕ} {w₀ w : Place} {m : ℕ} (i : ℕ) → CommentAt (is_boundary source) (marks_in tree) i
       → Lines o₀ o w₀ w (i + 1) m → (kind_at (marks_in tree) m ≡ Kind.comment_line → ⊥)
       → Wrote o₀ o w₀ w (comment source prefix (node_at (marks_in tree) i).inner) × (m + 1 ≡ after (marks_in tree) i)
   lines-done i a s k =

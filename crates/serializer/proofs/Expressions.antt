@@ -7,6 +7,7 @@ use mathlib.Core.List.{List, [], ◌∷◌}
 use lib.Dec.{eqb}
 use lib.ListN.{length}
 use borrow.Author.Tests.{eqb-true, eq-eqb, ne_eqb}
+use Rattle.std.specs.Int.{from_bool}
 use Rattle.utf8.specs.Utf8.{is_boundary}
 use Rattle.syntax.specs.Kind as Kind
 use Rattle.syntax.specs.Bytes.{ascii}
@@ -27,6 +28,11 @@ use Rattle.serializer.proofs.Pieces.{Row, two, three, four, row_same, then-assoc
 use Rattle.tree.proofs.Walk.{at-kind, node-kind, enter, Entered}
 use Rattle.tree.proofs.Children.{must, only, at-as, others, keeps, omits}
 use Rattle.tree.proofs.Contents.{Pair, variant-pair, argument-pair, Held, held}
+
+-- a `bool` as a number
+pub from-one : (b : Bool) → from_bool b ≡ one_if b
+from-one true = refl
+from-one false = refl
 
 -- an inline expression
 module _ (source : List ℕ) {boundary : ℕ → Bool} {ms : List Mark} {i : ℕ} (a : OneAt boundary inline ms i) where

@@ -12,15 +12,12 @@ use Rattle.syntax.specs.Bytes.{ascii}
 use Rattle.syntax.specs.Layout.{marks_in}
 use Rattle.syntax.specs.Marks.{Mark}
 use Rattle.syntax.specs.Shape.{named, among}
-use Rattle.syntax.specs.Tests.{sizes_fit}
 use Rattle.syntax.specs.Serializer.{Node, nodes_from, nodes, ◌⊕◌, empty, literal, newline, indented, each, first}
 use Rattle.syntax.specs.Serializer.{is_empty, of_kind, name, attribute, attributes}
 use Rattle.laws.specs.Text.{attribute-is, message-is}
-use Rattle.serializer.specs.declared.serializer.Serializer.{Serializer}
-use Rattle.serializer.specs.declared.writer.TextWriter.{TextWriter}
-use Rattle.serializer.specs.Writer.{Wrote}
+use Rattle.serializer.specs.Writer.{Place, Wrote}
 use Rattle.tree.specs.Walk.{kind_at, node_at, after, inner_at, OneAt, Inside}
-use Rattle.serializer.specs.Serialize.{pattern_in, raise, lower, Ready, Done}
+use Rattle.serializer.specs.Serialize.{State, pattern_in, raise, lower, Ready, Done}
 use Rattle.serializer.specs.Message.{naming, values, message_in, term_in, ReadyFor, Valued}
 use Rattle.serializer.proofs.Pieces.{Row, two, then-assoc, then-empty, Going, going, room-first, going_on, gone}
 use Rattle.serializer.proofs.Pieces.{room_within, wrote-within}
@@ -152,7 +149,7 @@ attributes-each source (n ∷ ns) = refl
 
 module _ (source tree : List ℕ) where
   -- in the loop, m₀ being the mark of the first
-  pub record Attributes (o₀ o : List ℕ) (w₀ : TextWriter) (m₀ : ℕ) (s : Serializer) : Type 0 where
+  pub record Attributes (o₀ o : List ℕ) (w₀ : Place) (m₀ : ℕ) (s : State) : Type 0 where
     pub kind : ℕ
     pub one : among kind named ≡ true
     pub here : Inside (is_boundary source) (marks_in tree) s.mark kind 2
@@ -161,7 +158,7 @@ module _ (source tree : List ℕ) where
         (map (attribute source) (nodes (inner_at (marks_in tree) s.mark)))
     pub till : s.mark + length (inner_at (marks_in tree) s.mark) ≡ m₀ + length (inner_at (marks_in tree) m₀)
 
-  pub attributes-first : (o : List ℕ) (s : Serializer) → ReadyFor source tree s 2 (attributes source)
+  pub attributes-first : (o : List ℕ) (s : State) → ReadyFor source tree s 2 (attributes source)
       → Attributes o o (raise true s.writer) s.mark (record { writer = raise true s.writer; mark = s.mark })
   attributes-first o s h =
       let ns = nodes (inner_at (marks_in tree) s.mark) in
@@ -176,11 +173,11 @@ module _ (source tree : List ℕ) where
         till = refl;
       }
 
-  module _ {o₀ o : List ℕ} {w₀ : TextWriter} {m₀ : ℕ} {s : Serializer} (h : Attributes o₀ o w₀ m₀ s) where
+  module _ {o₀ o : List ℕ} {w₀ : Place} {m₀ : ℕ} {s : State} (h : Attributes o₀ o w₀ m₀ s) where
     -- one more
     pub record AttributeNext : Type 0 where
-      pub ready : sizes_fit tree ≡ true → Ready source tree s (Kind.attribute ∷ []) (attribute source)
-      pub on : (o' : List ℕ) (s' : Serializer) → Done tree o o' s s' (attribute source) → Attributes o₀ o' w₀ m₀ s'
+      pub ready : Ready source tree s (Kind.attribute ∷ []) (attribute source)
+      pub on : (o' : List ℕ) (s' : State) → Done tree o o' s s' (attribute source) → Attributes o₀ o' w₀ m₀ s'
 
     pub attribute-next : kind_at (marks_in tree) s.mark ≡ Kind.attribute → AttributeNext
     unfolding among after
@@ -199,8 +196,7 @@ module _ (source tree : List ℕ) where
             let n₂ : Inside (is_boundary source) ms (after ms s.mark) h.kind 2 = rw (third h.kind h.one j r t).1 at n in
             record {
               ready =
-                  λ fit. record {
-                    fit = fit;
+                  record {
                     node = record { kind = j; one = rw (sym (at-kind a) ∙ e); at = a };
                     shallow = h.shallow;
                     room = room-first g;
@@ -229,7 +225,7 @@ module _ (source tree : List ℕ) where
         go (ends c z f) = record { wrote = gone (rw z at h.way); end = omega (arith, h.till, ap length z) }
         go (goes j r t a n ns l) = absurd (e (at-kind a ∙ (third h.kind h.one j r t).0))
 
-  pub attributes-wrote : {o₀ o : List ℕ} {w w' : TextWriter} (m : ℕ)
+  pub attributes-wrote : {o₀ o : List ℕ} {w w' : Place} (m : ℕ)
       → Wrote o₀ o (raise true w) w' (each (attribute source) (nodes (inner_at (marks_in tree) m)))
       → Wrote o₀ o w (lower true w') (attributes source (nodes (inner_at (marks_in tree) m)))
   attributes-wrote {w = w} m h = let ns = nodes (inner_at (marks_in tree) m) in

@@ -19,10 +19,12 @@ use Rattle.laws.specs.Tests.{Passes, passes, refusal-of, none_of, refusal-keeps}
 use Rattle.laws.specs.Sets.{sets-nothing, sets_first}
 use Rattle.laws.specs.Text.Length.{text-short}
 use Rattle.tree.proofs.Sizes.{sizes, no-mark}
-use Rattle.serializer.specs.declared.writer.TextWriter.{TextWriter}
-use Rattle.serializer.specs.Writer.{begun, Room, Wrote}
+use Rattle.serializer.specs.Writer.{begun, Room}
 use Rattle.laws.specs.Answered.{answered}
 use Rattle.serializer.specs.Call.{DidWriteInto, DidWrite}
+
+pub stored_as : {a b c : List ℕ} → b ≡ c → a ≡ b → a ≡ c
+stored_as e f = f ∙ e
 
 -- the writing of a tree that is well formed
 module _ (s t : List ℕ) (junk : Bool) where
@@ -39,31 +41,26 @@ module _ (s t : List ℕ) (junk : Bool) where
       let few = ap length (no-mark t fit (count t) (omega arith)) in
       omega (arith, text-short s junk (marks_in t) z.short (omega (arith, length-drop (count t) (marks_in t))))
 
-  -- the first pass, into an empty part of the output: n is what it left there, w where it ended
-  module _ (o n : List ℕ) (w : TextWriter) (d : Wrote [] n begun w piece) where
+  -- the first pass, into an empty part of the output: n is what it left there, and k what it counted
+  module _ (o n : List ℕ) (k : ℕ) (stored : n ≡ sets [] 0 text) (counted : k ≡ length text) where
     none-stored : n ++ o ≡ o
-    none-stored = ap (λ m. m ++ o) (d.stored ∙ sets-nothing 0 (piece 0 0))
+    none-stored = ap (λ m. m ++ o) (stored ∙ sets-nothing 0 text)
 
-    all-counted : w.at ≡ length text
-    unfolding serialize
-    all-counted = omega (arith, d.end)
-
-    pub no_room : length (n ++ o) < w.at → DidWriteInto text o (n ++ o) (Err (OutputTooShort w.at))
+    pub no_room : length (n ++ o) < k → DidWriteInto text o (n ++ o) (Err (OutputTooShort k))
     unfolding text_answer slice_after effect_of slice_by
     no_room h =
-        let q = lt-ltb (length o) (length text) (omega (arith, ap length none-stored, all-counted)) in
-        record { answers = rw (q, text_answer) (ap (λ k. Err (OutputTooShort k)) all-counted); output = rw (q, text_answer) none-stored }
+        let q = lt-ltb (length o) (length text) (omega (arith, ap length none-stored, counted)) in
+        record { answers = rw (q, text_answer) (ap (λ j. Err (OutputTooShort j)) counted); output = rw (q, text_answer) none-stored }
 
     -- and the second, over all of it
-    pub with-room : (o' : List ℕ) (w' : TextWriter) → w.at ≤ length (n ++ o) → Wrote (n ++ o) o' begun w' piece
-        → DidWriteInto text o o' (Ok w.at)
-    unfolding serialize text_answer slice_after effect_of slice_by
-    with-room o' w' h f =
-        let l : length text ≤ length o = omega (arith, ap length none-stored, all-counted) in
+    pub with-room : (o' : List ℕ) → k ≤ length (n ++ o) → o' ≡ sets (n ++ o) 0 text → DidWriteInto text o o' (Ok k)
+    unfolding text_answer slice_after effect_of slice_by
+    with-room o' h f =
+        let l : length text ≤ length o = omega (arith, ap length none-stored, counted) in
         let q = le-ltb (length o) (length text) l in
         record {
-          answers = rw (q, text_answer) (ap (λ k. Ok k) all-counted);
-          output = rw (q, text_answer) (f.stored ∙ ap (λ m. sets m 0 text) none-stored ∙ sets_first o text l);
+          answers = rw (q, text_answer) (ap (λ j. Ok j) counted);
+          output = rw (q, text_answer) (f ∙ ap (λ m. sets m 0 text) none-stored ∙ sets_first o text l);
         }
 
 -- the tests before the writing: the call answers the refusal that they give, and changes nothing; or it writes

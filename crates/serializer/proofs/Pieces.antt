@@ -16,9 +16,11 @@ use Rattle.syntax.specs.Bytes.{ascii}
 use Rattle.syntax.specs.Marks.{Mark}
 use Rattle.syntax.specs.Serializer.{Piece, last_of, ◌⊕◌, empty, indent_width, literal, newline, indented, star, if}
 use Rattle.syntax.specs.Serializer.{blank_line, comment, free_comment}
-use Rattle.output.specs.Put.{Put}
+use Rattle.output.specs.declared.text.Output.{Output}
+use Rattle.output.specs.Put.{DidPut}
+use Rattle.output.proofs.Puts.{put-exact}
 use Rattle.serializer.specs.declared.writer.TextWriter.{TextWriter}
-use Rattle.serializer.specs.Writer.{text_at, bytes, Room, Wrote}
+use Rattle.serializer.specs.Writer.{Place, place_of, text_at, bytes, Room, Wrote, HasWritten}
 use Rattle.serializer.specs.Comment.{line_of}
 use Rattle.serializer.specs.Serialize.{one_if, raise, lower}
 
@@ -28,25 +30,19 @@ last_of-append b [] t = refl
 last_of-append b (x ∷ s) t = last_of-append x s t
 
 -- nothing is written
-pub wrote_nothing : {o : List ℕ} {w : TextWriter} → Wrote o o w w empty
+pub wrote_nothing : {o : List ℕ} {w : Place} → Wrote o o w w empty
 unfolding empty last_of
 wrote_nothing {w = w} = record { stored = refl; end = sym (add-zero w.at); ending = refl; level = refl }
 
-pub wrote_none : {o : List ℕ} {w : TextWriter} → Wrote o o w w (bytes [])
+pub wrote_none : {o : List ℕ} {w : Place} → Wrote o o w w (bytes [])
 unfolding last_of
 wrote_none {w = w} = record { stored = refl; end = sym (add-zero w.at); ending = refl; level = refl }
 
--- the output stays as long as it is
-pub wrote-length : {o o' : List ℕ} {w w' : TextWriter} {p : Piece} → Wrote o o' w w' p → length o' ≡ length o
-wrote-length {o} {w = w} {p = p} h = ap length h.stored ∙ length-sets o w.at (text_at w p)
-
--- bytes that were put, and the writer past them
-pub wrote-put : {o o' : List ℕ} {w w' : TextWriter} {a : ℕ} (t : List ℕ) → Put o o' w.at a t
-    → w' ≡ (record { at = w.at + length t; last = last_of w.last t; indent = w.indent }) → Wrote o o' w w' (bytes t)
-wrote-put t e f = record { stored = e.stored; end = ap (λ z. z.at) f; ending = ap (λ z. z.last) f; level = ap (λ z. z.indent) f }
+pub has_empty : {o : List ℕ} {w : TextWriter} → HasWritten o o w w empty
+has_empty = record { wrote = wrote_nothing }
 
 -- another piece with the same bytes here
-pub wrote_as : {o o' : List ℕ} {w w' : TextWriter} {p : Piece} (q : Piece) → text_at w p ≡ text_at w q → Wrote o o' w w' p → Wrote o o' w w' q
+pub wrote_as : {o o' : List ℕ} {w w' : Place} {p : Piece} (q : Piece) → text_at w p ≡ text_at w q → Wrote o o' w w' p → Wrote o o' w w' q
 wrote_as {o} {w = w} q e h =
     record {
       stored = h.stored ∙ ap (λ t. sets o w.at t) e;
@@ -55,12 +51,21 @@ wrote_as {o} {w = w} q e h =
       level = h.level;
     }
 
+-- nothing is written, where the piece has no byte
+pub has_nothing : {o : List ℕ} {w : TextWriter} {p : Piece} → text_at (place_of w) p ≡ [] → HasWritten o o w w p
+has_nothing {p = p} e = record { wrote = wrote_as p (sym e) wrote_none }
+
+-- another piece with the same bytes here
+pub has_as : {o o' : List ℕ} {w w' : TextWriter} {p : Piece} (q : Piece) → text_at (place_of w) p ≡ text_at (place_of w) q
+    → HasWritten o o' w w' p → HasWritten o o' w w' q
+has_as q e h = record { wrote = wrote_as q e h.wrote }
+
 -- a piece, and then another
-module _ {o o₁ : List ℕ} {w w₁ : TextWriter} {p : Piece} (h : Wrote o o₁ w w₁ p) (q : Piece) where
+module _ {o o₁ : List ℕ} {w w₁ : Place} {p : Piece} (h : Wrote o o₁ w w₁ p) (q : Piece) where
   second : text_at w₁ q ≡ q w.indent (last_of w.last (text_at w p))
   second = ap₂ q h.level h.ending
 
-  pub wrote_then : {o₂ : List ℕ} {w₂ : TextWriter} → Wrote o₁ o₂ w₁ w₂ q → Wrote o o₂ w w₂ (p ⊕ q)
+  pub wrote_then : {o₂ : List ℕ} {w₂ : Place} → Wrote o₁ o₂ w₁ w₂ q → Wrote o o₂ w w₂ (p ⊕ q)
   unfolding ◌⊕◌
   wrote_then l =
       let t = text_at w p in
@@ -76,9 +81,13 @@ module _ {o o₁ : List ℕ} {w w₁ : TextWriter} {p : Piece} (h : Wrote o o₁
   unfolding ◌⊕◌
   room_after r = omega (arith, length-append (text_at w p) (q w.indent (last_of w.last (text_at w p))), ap length second, h.end)
 
-pub room-before : (w : TextWriter) (p q : Piece) → Room w (p ⊕ q) → Room w p
+pub room-before : (w : Place) (p q : Piece) → Room w (p ⊕ q) → Room w p
 unfolding ◌⊕◌
 room-before w p q r = omega (arith, length-append (text_at w p) (q w.indent (last_of w.last (text_at w p))))
+
+pub has_then : {o o₁ o₂ : List ℕ} {w w₁ w₂ : TextWriter} {p : Piece} → HasWritten o o₁ w w₁ p → (q : Piece)
+    → HasWritten o₁ o₂ w₁ w₂ q → HasWritten o o₂ w w₂ (p ⊕ q)
+has_then h q l = record { wrote = wrote_then h.wrote q l.wrote }
 
 -- the spaces of an indent
 spaces-last : (b n : ℕ) → 1 ≤ n → last_of b (replicate n Byte.space) ≡ Byte.space
@@ -87,21 +96,23 @@ spaces-last b zero h = absurd (omega arith)
 spaces-last b (suc zero) h = refl
 spaces-last b (suc (suc n)) h = spaces-last Byte.space (suc n) (omega arith)
 
-pub wrote-spaces : {o o' : List ℕ} {w w' : TextWriter} {a : ℕ} → 1 ≤ w.indent
-    → Put o o' w.at a (replicate (indent_width * w.indent) Byte.space)
-    → w' ≡ (record { at = w.at + indent_width * w.indent; last = Byte.space; indent = w.indent })
-    → Wrote o o' w w' (bytes (replicate (indent_width * w.indent) Byte.space))
-wrote-spaces {w = w} h e f =
-    let width = indent_width * w.indent in
+pub has-spaces : {o o' : Output} {out : List ℕ} {b i : ℕ} → 1 ≤ i → o.at + indent_width * i < 2 ^ 63
+    → DidPut o o' (replicate (indent_width * i) Byte.space) → out ≡ o'.bytes.now
+    → HasWritten o.bytes.now out (record { at = o.at; last = b; indent_level = i })
+    (record { at = o'.at; last = Byte.space; indent_level = i }) (bytes (replicate (indent_width * i) Byte.space))
+has-spaces {b = b} {i} h l d e =
+    let width = indent_width * i in
     record {
-      stored = e.stored;
-      end = ap (λ z. z.at) f ∙ ap (λ n. w.at + n) (sym (length-replicate width Byte.space));
-      ending = ap (λ z. z.last) f ∙ sym (spaces-last w.last width (omega arith));
-      level = ap (λ z. z.indent) f;
+      wrote = record {
+        stored = e ∙ d.put.stored;
+        end = put-exact d.put (omega (arith, length-replicate width Byte.space));
+        ending = sym (spaces-last b width (omega arith));
+        level = refl;
+      };
     }
 
 -- the bytes of a line end, and of a literal, where the writer stands
-module _ (w : TextWriter) where
+module _ (w : Place) where
   pub newline-doubled : w.last ≡ Byte.carriage_return → text_at w newline ≡ Byte.carriage_return ∷ Byte.line_feed ∷ []
   unfolding newline
   newline-doubled e = rw (eq-eqb w.last Byte.carriage_return e, newline)
@@ -132,10 +143,10 @@ module _ (w : TextWriter) where
   pub room-line : (t : List ℕ) → Room w (literal t) → Room w (literal [])
   room-line t r = room-before w (literal []) (bytes t) (rw (literal-split t) r)
 
-  pub room-literal : {o o₁ : List ℕ} {w₁ : TextWriter} (t : List ℕ) → Wrote o o₁ w w₁ (literal []) → Room w (literal t) → Room w₁ (bytes t)
+  pub room-literal : {o o₁ : List ℕ} {w₁ : Place} (t : List ℕ) → Wrote o o₁ w w₁ (literal []) → Room w (literal t) → Room w₁ (bytes t)
   room-literal t h r = room_after h (bytes t) (rw (literal-split t) r)
 
-  pub wrote-literal : {o o₁ o₂ : List ℕ} {w₁ w₂ : TextWriter} (t : List ℕ) → Wrote o o₁ w w₁ (literal [])
+  pub wrote-literal : {o o₁ o₂ : List ℕ} {w₁ w₂ : Place} (t : List ℕ) → Wrote o o₁ w w₁ (literal [])
       → Wrote o₁ o₂ w₁ w₂ (bytes t) → Wrote o o₂ w w₂ (literal t)
   wrote-literal t h k = wrote_as (literal t) (literal-split t) (wrote_then h (bytes t) k)
 
@@ -152,7 +163,7 @@ module _ (w : TextWriter) where
   room-star h r = omega (arith, star-length h)
 
   -- the star in the place of the last space
-  pub wrote-star : {o o₁ o₂ : List ℕ} {w₁ w₂ w₃ : TextWriter} → 1 ≤ w.indent
+  pub wrote-star : {o o₁ o₂ : List ℕ} {w₁ w₂ w₃ : Place} → 1 ≤ w.indent
       → Wrote o o₁ w w₁ (bytes (replicate (indent_width * w.indent) Byte.space))
       → w₂.at ≡ w₁.at - 1 → w₂.indent ≡ w₁.indent → Wrote o₁ o₂ w₂ w₃ (bytes (Byte.star ∷ [])) → Wrote o o₂ w w₃ star
   unfolding star last_of
@@ -172,6 +183,10 @@ module _ (w : TextWriter) where
         ending = b.ending ∙ sym (last_of-append w.last (replicate m Byte.space) (Byte.star ∷ []));
         level = b.level ∙ i ∙ a.level;
       }
+
+pub has-literal : {o o₁ o₂ : List ℕ} {w w₁ w₂ : TextWriter} (t : List ℕ) → HasWritten o o₁ w w₁ (literal [])
+    → HasWritten o₁ o₂ w₁ w₂ (bytes t) → HasWritten o o₂ w w₂ (literal t)
+has-literal {w = w} t h k = record { wrote = wrote-literal (place_of w) t h.wrote k.wrote }
 
 -- pieces in a row
 pub then-assoc : (p q r : Piece) → ((p ⊕ q) ⊕ r) ≡ (p ⊕ (q ⊕ r))
@@ -200,22 +215,22 @@ pub record Row (whole : Piece) (rest : List Piece) : Type 0 where
   pub same : whole ≡ row rest
 
 -- On the way: with the rest written, the whole is.
-pub record Going (out₀ out : List ℕ) (w₀ w : TextWriter) (whole : Piece) (rest : List Piece) : Type 0 where
+pub record Going (out₀ out : List ℕ) (w₀ w : Place) (whole : Piece) (rest : List Piece) : Type 0 where
   pub room : Room w (row rest)
-  pub done : (out' : List ℕ) (w' : TextWriter) → Wrote out out' w w' (row rest) → Wrote out₀ out' w₀ w' whole
+  pub done : (out' : List ℕ) (w' : Place) → Wrote out out' w w' (row rest) → Wrote out₀ out' w₀ w' whole
 
-pub going : {whole : Piece} {rest : List Piece} (o : List ℕ) (w : TextWriter) → Row whole rest → Room w whole → Going o o w w whole rest
+pub going : {whole : Piece} {rest : List Piece} (o : List ℕ) (w : Place) → Row whole rest → Room w whole → Going o o w w whole rest
 going o w e r = record { room = rw e.same at r; done = λ o' w' h. rw e.same h }
 
-module _ {o₀ o : List ℕ} {w₀ w : TextWriter} {whole p : Piece} {rest : List Piece} (g : Going o₀ o w₀ w whole (p ∷ rest)) where
+module _ {o₀ o : List ℕ} {w₀ w : Place} {whole p : Piece} {rest : List Piece} (g : Going o₀ o w₀ w whole (p ∷ rest)) where
   pub room-first : Room w p
   room-first = room-before w p (row rest) g.room
 
-  pub going_on : {o₁ : List ℕ} {w₁ : TextWriter} → Wrote o o₁ w w₁ p → Going o₀ o₁ w₀ w₁ whole rest
+  pub going_on : {o₁ : List ℕ} {w₁ : Place} → Wrote o o₁ w w₁ p → Going o₀ o₁ w₀ w₁ whole rest
   going_on h = record { room = room_after h (row rest) g.room; done = λ o' w' l. g.done o' w' (wrote_then h (row rest) l) }
 
 -- nothing is left
-pub gone : {o₀ o : List ℕ} {w₀ w : TextWriter} {whole : Piece} → Going o₀ o w₀ w whole [] → Wrote o₀ o w₀ w whole
+pub gone : {o₀ o : List ℕ} {w₀ w : Place} {whole : Piece} → Going o₀ o w₀ w whole [] → Wrote o₀ o w₀ w whole
 gone {o = o} {w = w} g = g.done o w wrote_nothing
 
 -- a piece that is a row itself
@@ -223,7 +238,7 @@ row-append : (ps qs : List Piece) → row (ps ++ qs) ≡ (row ps ⊕ row qs)
 row-append [] qs = sym (empty-then (row qs))
 row-append (p ∷ ps) qs = ap (λ r. p ⊕ r) (row-append ps qs) ∙ sym (then-assoc p (row ps) (row qs))
 
-pub going-as : {o₀ o : List ℕ} {w₀ w : TextWriter} {whole p : Piece} {qs rest : List Piece} → Row p qs
+pub going-as : {o₀ o : List ℕ} {w₀ w : Place} {whole p : Piece} {qs rest : List Piece} → Row p qs
     → Going o₀ o w₀ w whole (p ∷ rest) → Going o₀ o w₀ w whole (qs ++ rest)
 going-as {p = p} {qs} {rest} e g =
     let same : (p ⊕ row rest) ≡ row (qs ++ rest) = ap (λ r. r ⊕ row rest) e.same ∙ sym (row-append qs rest) in
@@ -253,16 +268,16 @@ one-most false = omega arith
 abbrev pub within : Bool → Piece → Piece
 within b p = elim b [ true ↦ indented p | false ↦ p ]
 
-within_text : (b : Bool) (w : TextWriter) (p : Piece) → text_at w (within b p) ≡ text_at (raise b w) p
+within_text : (b : Bool) (w : Place) (p : Piece) → text_at w (within b p) ≡ text_at (raise b w) p
 unfolding indented
 within_text true w p = ap (λ n. p n w.last) (sym (add-one w.indent))
 within_text false w p = ap (λ n. p n w.last) (sym (add-zero w.indent))
 
-module _ (b : Bool) (w : TextWriter) (p : Piece) where
+module _ (b : Bool) (w : Place) (p : Piece) where
   pub room_within : Room w (within b p) → Room (raise b w) p
   room_within r = rw (within_text b w p) at r
 
-  pub wrote-within : {o o' : List ℕ} {w' : TextWriter} → Wrote o o' (raise b w) w' p → Wrote o o' w (lower b w') (within b p)
+  pub wrote-within : {o o' : List ℕ} {w' : Place} → Wrote o o' (raise b w) w' p → Wrote o o' w (lower b w') (within b p)
   wrote-within {o} h =
       let e = sym (within_text b w p) in
       record {
@@ -289,7 +304,7 @@ line-full prefix t e =
           ∙ ap (λ p. literal (ascii " ") ⊕ literal t ⊕ p) (sym (then-empty newline))));
     }
 
-pub line-room : (w : TextWriter) (prefix t : List ℕ) → Room w (line_of prefix t) → Room w (literal prefix)
+pub line-room : (w : Place) (prefix t : List ℕ) → Room w (line_of prefix t) → Room w (literal prefix)
 unfolding line_of
 line-room w prefix t r = room-before w (literal prefix) (if (not (blank_line [] t)) (literal (ascii " ") ⊕ literal t) ⊕ newline) r
 

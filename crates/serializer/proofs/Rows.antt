@@ -10,17 +10,16 @@ use Rattle.syntax.specs.Kind as Kind
 use Rattle.syntax.specs.Layout.{count, marks_in}
 use Rattle.syntax.specs.Tests.{sizes_fit}
 use Rattle.syntax.specs.Serializer.{Node, nodes_from, nodes, Piece, ◌⊕◌, empty}
-use Rattle.serializer.specs.declared.serializer.Serializer.{Serializer}
 use Rattle.serializer.specs.Writer.{Wrote}
 use Rattle.tree.specs.Walk.{kind_at, node_at, after, inner_at, Open}
-use Rattle.serializer.specs.Serialize.{Ready, Done, ReadyIn}
+use Rattle.serializer.specs.Serialize.{State, Ready, Done, ReadyIn}
 use Rattle.tree.proofs.Sizes.{sizes}
 use Rattle.serializer.proofs.Pieces.{Going, going, going-as, going_on, gone, room-first, one, two, row_same}
 use Rattle.tree.proofs.Walk.{inside-count}
 use Rattle.tree.proofs.Children.{Has, goes_on, goes-out}
 
 -- With the children that are left written, which is P of them, the whole is.
-pub record Rows (source tree : List ℕ) (k q : ℕ) (whole : Piece) (P : List Node → Piece) (o₀ o : List ℕ) (s₀ s : Serializer) : Type 0 where
+pub record Rows (source tree : List ℕ) (k q : ℕ) (whole : Piece) (P : List Node → Piece) (o₀ o : List ℕ) (s₀ s : State) : Type 0 where
   pub fit : sizes_fit tree ≡ true
   pub at : Open (is_boundary source) (marks_in tree) s.mark k q
   pub level : s.writer.indent ≡ s₀.writer.indent
@@ -31,16 +30,16 @@ pub record Rows (source tree : List ℕ) (k q : ℕ) (whole : Piece) (P : List N
 
 -- a child is next, whose piece is f of it
 pub record Turn (source tree : List ℕ) (k q : ℕ) (js : List ℕ) (whole : Piece) (f : Node → Piece)
-    (P : List Node → Piece) (o₀ o : List ℕ) (s₀ s : Serializer) : Type 0 where
+    (P : List Node → Piece) (o₀ o : List ℕ) (s₀ s : State) : Type 0 where
   pub ready : Ready source tree s js f
-  pub on : (o' : List ℕ) (s' : Serializer) → Done tree o o' s s' f → Rows source tree k q whole P o₀ o' s₀ s'
+  pub on : (o' : List ℕ) (s' : State) → Done tree o o' s s' f → Rows source tree k q whole P o₀ o' s₀ s'
 
 module _ {source tree : List ℕ} {k q : ℕ} {P : List Node → Piece} where
-  pub rows-first : (o : List ℕ) (s : Serializer) → ReadyIn source tree s k q P
+  pub rows-first : (o : List ℕ) (s : State) → sizes_fit tree ≡ true → ReadyIn source tree s k q P
       → Rows source tree k q (P (nodes (inner_at (marks_in tree) s.mark))) P o o s s
-  rows-first o s r =
+  rows-first o s fit r =
       record {
-        fit = r.fit;
+        fit = fit;
         at = r.at;
         level = refl;
         shallow = r.shallow;
@@ -49,7 +48,7 @@ module _ {source tree : List ℕ} {k q : ℕ} {P : List Node → Piece} where
         later = omega arith;
       }
 
-  module _ {whole : Piece} {o₀ o : List ℕ} {s₀ s : Serializer} (r : Rows source tree k q whole P o₀ o s₀ s) where
+  module _ {whole : Piece} {o₀ o : List ℕ} {s₀ s : State} (r : Rows source tree k q whole P o₀ o s₀ s) where
     -- a mark is there
     pub rows-count : s.mark < count tree
     rows-count = inside-count tree (sizes tree r.fit) r.at.here
@@ -65,7 +64,7 @@ module _ {source tree : List ℕ} {k q : ℕ} {P : List Node → Piece} where
         let ns = nodes (inner_at ms (after ms s.mark)) in
         let w = going-as (row_same (ap P g.follows.split ∙ e n ns) (two (f n) (Q ns))) r.way in
         record {
-          ready = record { fit = r.fit; node = g.follows.child; shallow = r.shallow; room = room-first w };
+          ready = record { node = g.follows.child; shallow = r.shallow; room = room-first w };
           on = λ o' s' d.
               record {
                 fit = r.fit;

@@ -17,11 +17,10 @@ use Rattle.syntax.specs.Shape.{named, among, verdict}
 use Rattle.syntax.specs.Tests.{sizes_fit}
 use Rattle.syntax.specs.Serializer.{Node, nodes_from, nodes, Piece, ◌⊕◌, if, name, comment, free_comment, entry, wrote_by, resource}
 use Rattle.laws.specs.Bytes.{by_case, clash}
-use Rattle.serializer.specs.declared.serializer.Serializer.{Serializer}
 use Rattle.serializer.specs.Writer.{begun, Room, Wrote}
 use Rattle.tree.specs.Walk.{kind_at, node_at, after, entries}
 use Rattle.serializer.specs.Comment.{is_comment, CommentAt}
-use Rattle.serializer.specs.Serialize.{Ready, Done}
+use Rattle.serializer.specs.Serialize.{State, Ready, Done}
 use Rattle.serializer.specs.Message.{message_in, term_in}
 use Rattle.serializer.specs.Resource.{junk_in}
 use Rattle.tree.proofs.Sizes.{sizes, next-mark, no-mark}
@@ -65,7 +64,7 @@ module _ (source : List ℕ) (junk wrote : Bool) (n : Node) where
   entry-resource e = of-kind e
 
 -- An entry is next, and is written by the function of its kind.
-module _ (source tree : List ℕ) (s : Serializer) (junk wrote : Bool) (h : Ready source tree s entries (entry source junk wrote)) where
+module _ (source tree : List ℕ) (s : State) (junk wrote : Bool) (h : Ready source tree s entries (entry source junk wrote)) where
   abbrev this : Node
   this = node_at (marks_in tree) s.mark
 
@@ -77,14 +76,13 @@ module _ (source tree : List ℕ) (s : Serializer) (junk wrote : Bool) (h : Read
 
   pub record As (js : List ℕ) (f : Node → Piece) : Type 0 where
     pub ready : Ready source tree s js f
-    pub done : {o o' : List ℕ} {s' : Serializer} → Done tree o o' s s' f → Done tree o o' s s' (entry source junk wrote)
+    pub done : {o o' : List ℕ} {s' : State} → Done tree o o' s s' f → Done tree o o' s s' (entry source junk wrote)
 
   as-kind : (k : ℕ) (js : List ℕ) (f : Node → Piece) → kind ≡ k → among k js ≡ true → entry source junk wrote this ≡ f this → As js f
   as-kind k js f e a p =
       record {
         ready =
             record {
-              fit = h.fit;
               node = record { kind = h.node.kind; one = rw (sym (at-kind h.node.at) ∙ e) a; at = h.node.at };
               shallow = h.shallow;
               room = rw p at h.room;
@@ -125,7 +123,7 @@ module _ (source tree : List ℕ) (s : Serializer) (junk wrote : Bool) (h : Read
   pub record AsComment (p : Piece) : Type 0 where
     pub at : CommentAt (is_boundary source) (marks_in tree) s.mark
     pub room : Room s.writer p
-    pub done : {o o' : List ℕ} {s' : Serializer} → Wrote o o' s.writer s'.writer p
+    pub done : {o o' : List ℕ} {s' : State} → Wrote o o' s.writer s'.writer p
         → s'.mark ≡ after (marks_in tree) s.mark → Done tree o o' s s' (entry source junk wrote)
 
   as-lines : (k : ℕ) (p : Piece) → kind ≡ k → is_comment k ≡ true → entry source junk wrote this ≡ p → AsComment p
@@ -154,7 +152,7 @@ module _ (source tree : List ℕ) (s : Serializer) (junk wrote : Bool) (h : Read
 
 -- The entries that are left.
 module _ (source tree : List ℕ) (junk : Bool) where
-  pub record Entries (o₀ o : List ℕ) (s : Serializer) (wrote : Bool) : Type 0 where
+  pub record Entries (o₀ o : List ℕ) (s : State) (wrote : Bool) : Type 0 where
     pub here : Top (is_boundary source) (marks_in tree) s.mark
     pub flat : s.writer.indent ≡ 0
     pub way : Going o₀ o begun s.writer (resource source junk false (nodes (marks_in tree)))
@@ -170,11 +168,11 @@ module _ (source tree : List ℕ) (junk : Bool) where
         way = going o begun (one (resource source junk false (nodes (marks_in tree)))) r;
       }
 
-  module _ {o₀ o : List ℕ} {s : Serializer} {wrote : Bool} (fit : sizes_fit tree ≡ true) (h : Entries o₀ o s wrote) where
+  module _ {o₀ o : List ℕ} {s : State} {wrote : Bool} (fit : sizes_fit tree ≡ true) (h : Entries o₀ o s wrote) where
     -- one more
     pub record EntryNext : Type 0 where
       pub ready : Ready source tree s entries (entry source junk wrote)
-      pub on : {o' : List ℕ} {s' : Serializer} (wrote' : Bool) → Done tree o o' s s' (entry source junk wrote)
+      pub on : {o' : List ℕ} {s' : State} (wrote' : Bool) → Done tree o o' s s' (entry source junk wrote)
           → wrote' ≡ wrote_by [] wrote (kind_at (marks_in tree) s.mark) → Entries o₀ o' s' wrote'
 
     pub entry_next : s.mark < count tree → EntryNext
@@ -189,7 +187,7 @@ module _ (source tree : List ℕ) (junk : Bool) where
         let w : Going o₀ o begun s.writer (resource source junk false (nodes ms)) ((p ⊕ q) ∷ []) = rw t.split at h.way in
         let g : Going o₀ o begun s.writer (resource source junk false (nodes ms)) (p ∷ q ∷ []) = going-as (two p q) w in
         record {
-          ready = record { fit = fit; node = t.child; shallow = omega (arith, h.flat); room = room-first g };
+          ready = record { node = t.child; shallow = omega (arith, h.flat); room = room-first g };
           on =
               λ wrote' d e. record {
                 here = rw d.next t.on;

@@ -1,4 +1,5 @@
 -- What the contracts of the writer cite.
+pub mod Walk
 pub mod Writer
 pub mod Comment
 pub mod Serialize

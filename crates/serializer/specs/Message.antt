@@ -4,13 +4,12 @@ use Rattle.utf8.specs.Utf8.{is_boundary}
 use Rattle.syntax.specs.Kind as Kind
 use Rattle.syntax.specs.Bytes.{ascii}
 use Rattle.syntax.specs.Layout.{marks_in}
-use Rattle.syntax.specs.Tests.{sizes_fit}
 use Rattle.syntax.specs.Shape.{named, among}
 use Rattle.syntax.specs.Serializer.{Node, nodes, Piece, ◌⊕◌, literal, each, of_kind, name, message}
 use Rattle.serializer.specs.declared.serializer.Serializer.{Serializer}
 use Rattle.serializer.specs.Writer.{Room}
 use Rattle.tree.specs.Walk.{inner_at, Inside}
-use Rattle.serializer.specs.Serialize.{pattern_in}
+use Rattle.serializer.specs.Serialize.{State, state_of, pattern_in}
 
 module _ (source : List ℕ) where
   -- the name of a message, of a term or of an attribute, up to its value
@@ -29,13 +28,15 @@ module _ (source : List ℕ) where
 
 -- A message or a term is open, in the state q: 1 after its name, 2 after its value. There is room for f of the children that are left,
 -- and the indent can be raised.
-pub record ReadyFor (source tree : List ℕ) (s : Serializer) (q : ℕ) (f : List Node → Piece) : Type 0 where
-  pub fit : sizes_fit tree ≡ true
+pub record ReadyFor (source tree : List ℕ) (s : State) (q : ℕ) (f : List Node → Piece) : Type 0 where
   pub kind : ℕ
   pub one : among kind named ≡ true
   pub here : Inside (is_boundary source) (marks_in tree) s.mark kind q
   pub shallow : s.writer.indent + 1 ≤ s.mark
   pub room : Room s.writer (f (nodes (inner_at (marks_in tree) s.mark)))
+
+abbrev pub IsReadyFor : (s : Serializer) (q : ℕ) (f : List Node → Piece) → Type 0
+IsReadyFor s q f = ReadyFor s.nodes.source.now s.nodes.tree.now (state_of s) q f
 
 -- after the value of the message or term that is open at the mark i, at the mark m: only attributes are left
 pub record Valued (source tree : List ℕ) (i m : ℕ) : Type 0 where

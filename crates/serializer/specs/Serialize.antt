@@ -5,63 +5,91 @@ use Rattle.syntax.specs.Kind as Kind
 use Rattle.syntax.specs.Bytes.{ascii}
 use Rattle.syntax.specs.Marks.{Mark}
 use Rattle.syntax.specs.Layout.{marks_in}
-use Rattle.syntax.specs.Tests.{sizes_fit}
 use Rattle.syntax.specs.Serializer.{Node, nodes, Piece, ◌⊕◌, literal, newline, star, each, if, of_kind, name, reference}
 use Rattle.laws.specs.Text.{pattern_of, select_of, variant_of, arguments_of}
 use Rattle.serializer.specs.declared.serializer.Serializer.{Serializer}
 use Rattle.serializer.specs.declared.writer.TextWriter.{TextWriter}
-use Rattle.serializer.specs.Writer.{Room, Wrote}
+use Rattle.serializer.specs.Writer.{Place, place_of, Room, Wrote}
 use Rattle.tree.specs.Walk.{kind_at, node_at, after, inner_at, OneAt, Open, Call}
+
+-- Where a serializer stands: in the text, and in the marks.
+pub record State : Type 0 where
+  pub writer : Place
+  pub mark : ℕ
+
+abbrev pub state_of : Serializer → State
+state_of s = record { writer = place_of s.writer; mark = s.mark }
 
 -- A node of one of the kinds ks is next, and there is room for its piece, f of it. The indent is at most the mark, since each
 -- level of it has a node around.
-pub record Ready (source tree : List ℕ) (s : Serializer) (ks : List ℕ) (f : Node → Piece) : Type 0 where
-  pub fit : sizes_fit tree ≡ true
+pub record Ready (source tree : List ℕ) (s : State) (ks : List ℕ) (f : Node → Piece) : Type 0 where
   pub node : OneAt (is_boundary source) ks (marks_in tree) s.mark
   pub shallow : s.writer.indent ≤ s.mark
   pub room : Room s.writer (f (node_at (marks_in tree) s.mark))
 
 -- the piece p was written, and the mark m is next
-pub record Went (out out' : List ℕ) (s s' : Serializer) (p : Piece) (m : ℕ) : Type 0 where
+pub record Went (out out' : List ℕ) (s s' : State) (p : Piece) (m : ℕ) : Type 0 where
   pub wrote : Wrote out out' s.writer s'.writer p
   pub next : s'.mark ≡ m
 
 -- the node was written
-abbrev pub Done : (tree out out' : List ℕ) (s s' : Serializer) (f : Node → Piece) → Type 0
+abbrev pub Done : (tree out out' : List ℕ) (s s' : State) (f : Node → Piece) → Type 0
 Done tree out out' s s' f = Went out out' s s' (f (node_at (marks_in tree) s.mark)) (after (marks_in tree) s.mark)
+
+-- the bytes of a serializer's output
+abbrev pub output_of : Serializer → List ℕ
+output_of s = s.output.now
+
+-- The serializer s stands before such a node, with such room.
+abbrev pub IsReady : (s : Serializer) (ks : List ℕ) (f : Node → Piece) → Type 0
+IsReady s ks f = Ready s.nodes.source.now s.nodes.tree.now (state_of s) ks f
+
+-- It went on: the piece p was written, into the same slice, and the mark m is next. Its source and its tree are the same.
+pub record DidGo (s s' : Serializer) (p : Piece) (m : ℕ) : Type 0 where
+  pub same_reference : s'.output.ghost_name ≡ s.output.ghost_name
+  pub went : Went (output_of s) (output_of s') (state_of s) (state_of s') p m
+  pub is : s' ≡ (record s { output = s'.output; writer = s'.writer; mark = m })
+
+-- the node was written
+abbrev pub DidNode : (s s' : Serializer) (f : Node → Piece) → Type 0
+DidNode s s' f = DidGo s s' (f (node_at (marks_in s.nodes.tree.now) s.mark)) (after (marks_in s.nodes.tree.now) s.mark)
 
 -- 1 where b, else 0
 abbrev pub one_if : Bool → ℕ
 one_if b = elim b [ true ↦ 1 | false ↦ 0 ]
 
 -- a level more of indent where b, and a level less
-abbrev pub raise : Bool → TextWriter → TextWriter
+abbrev pub raise : Bool → Place → Place
 raise b w = record { at = w.at; last = w.last; indent = w.indent + one_if b }
 
-abbrev pub lower : Bool → TextWriter → TextWriter
+abbrev pub lower : Bool → Place → Place
 lower b w = record { at = w.at; last = w.last; indent = w.indent - one_if b }
 
 -- serialize_pattern: what stands before the elements, by whether they start on a new line
 unfoldable pub pattern_start : Bool → Piece
 pattern_start b = elim b [ true ↦ newline | false ↦ literal (ascii " ") ]
 
--- it was written, the indent is raised where they start on a new line, and they are next
-pub record Begun (out out' : List ℕ) (s s' : Serializer) (b : Bool) : Type 0 where
-  pub line : TextWriter
-  pub wrote : Wrote out out' s.writer line (pattern_start b)
-  pub next : s' ≡ (record { writer = raise b line; mark = s.mark + 1 })
+-- it was written, and the indent is raised where they start on a new line
+pub record Begun (out out' : List ℕ) (w w' : TextWriter) (b : Bool) : Type 0 where
+  pub line : Place
+  pub wrote : Wrote out out' (place_of w) line (pattern_start b)
+  pub raised : place_of w' ≡ raise b line
 
 -- a node of the kind k is open, in a state from q on, and there is room for the children that are left
-pub record ReadyIn (source tree : List ℕ) (s : Serializer) (k q : ℕ) (f : List Node → Piece) : Type 0 where
-  pub fit : sizes_fit tree ≡ true
+pub record ReadyIn (source tree : List ℕ) (s : State) (k q : ℕ) (f : List Node → Piece) : Type 0 where
   pub at : Open (is_boundary source) (marks_in tree) s.mark k q
   pub shallow : s.writer.indent ≤ s.mark
   pub room : Room s.writer (f (nodes (inner_at (marks_in tree) s.mark)))
 
 -- they were written, and the node is closed
-abbrev pub DoneIn : (tree out out' : List ℕ) (s s' : Serializer) (f : List Node → Piece) → Type 0
+abbrev pub DoneIn : (tree out out' : List ℕ) (s s' : State) (f : List Node → Piece) → Type 0
 DoneIn tree out out' s s' f =
     Went out out' s s' (f (nodes (inner_at (marks_in tree) s.mark))) (s.mark + length (inner_at (marks_in tree) s.mark) + 1)
+
+abbrev pub DidNodeIn : (s s' : Serializer) (f : List Node → Piece) → Type 0
+DidNodeIn s s' f =
+    DidGo s s' (f (nodes (inner_at (marks_in s.nodes.tree.now) s.mark)))
+    (s.mark + length (inner_at (marks_in s.nodes.tree.now) s.mark) + 1)
 
 -- the braces of a pattern's placeable, by the kind of the expression in it, and how many marks they stand for
 unfoldable pub opening_braces : ℕ → List ℕ

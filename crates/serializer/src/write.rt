@@ -4,7 +4,7 @@ ghost use Rattle.syntax.specs.Serializer.{serialize};
 ghost use Rattle.laws.specs.Tests.{Passes};
 ghost use Rattle.serializer.specs.Call.{DidWrite, DidWriteInto};
 
-use crate::resource::serialize_resource;
+use crate::resource::serialize_with_options;
 use syntax::answer::{Answer, Refusal};
 use tree::test::test_tree;
 
@@ -23,11 +23,10 @@ fn write_into(source: &[u8], tree: &[u32], output: &mut [u8], with_junk: bool) -
     ensures { DidWriteInto (serialize source.now with_junk (marks_in tree.now))
         output.old output.new result }
 {
-    let counted = serialize_resource(source, tree, &mut output[..0], with_junk);
-    let length = counted.at;
+    let length = serialize_with_options(source, tree, &mut output[..0], with_junk);
     if output.len() < length {
         return Err(Refusal::OutputTooShort(length as u64));
     }
-    serialize_resource(source, tree, output, with_junk);
+    serialize_with_options(source, tree, output, with_junk);
     Ok(length as u64)
 }

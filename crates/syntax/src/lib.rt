@@ -1,9 +1,8 @@
-// The types that the calls of the parser and the serializer answer with, the numbers that they share, and tests on a byte. What is
-// right is defined in specs/.
+// The types that the calls of the parser and the serializer answer with, and the numbers that they share. What is right is defined
+// in specs/.
 #![tactic(auto)]
 
 pub mod answer;
-pub mod bytes;
 pub mod errors;
 pub mod kind;
 pub mod layout;

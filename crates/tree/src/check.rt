@@ -63,7 +63,8 @@ impl State {
     }
 }
 
-// What a step of the check works on.
+// What a step of the check works on. A mark's kind and place are two parameters: they come side by side from two arrays, and are asked each
+// by itself.
 #[derive(Drop)]
 struct Checker<'a> {
     source: &'a [u8],

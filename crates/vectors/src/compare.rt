@@ -78,10 +78,7 @@ pub fn is_left(answer: Answer, slice: &[u32], a: Arrays, first: &[u8], second: &
 {
     match answer {
         Ok(_) => is_laid_out(slice, a, first, second),
-        // A match of its own: past `Err(Refusal::TooDeep(_))` the proof knows nothing of the refusals that are left.
-        Err(refusal) => match refusal {
-            Refusal::TooDeep(_) => is_zeroed(slice, SIZES + a.capacity + a.size),
-            _ => are_all(slice, FILLING),
-        },
+        Err(Refusal::TooDeep(_)) => is_zeroed(slice, SIZES + a.capacity + a.size),
+        Err(_) => are_all(slice, FILLING),
     }
 }

@@ -121,7 +121,7 @@ impl Case {
         )
     }
 
-    // The same for the list of errors.
+    // The same for the list of errors. What both share is `is_left`; they differ in every size.
     fn is_list(self, answer: Answer, n: usize, listing: &[u8], errors: &[u32]) -> bool
         requires { Lists self n listing.now }
         ensures { Tells result

@@ -48,7 +48,7 @@ pub fn short(bytes: &[u8; SHORT]) -> u32
     u32::from(u16::from_le_bytes(*bytes))
 }
 
-// The number of the four bytes at a place.
+// The number of the four bytes at a place. Not of an array, as `short`: a head's chunks would be told apart by an index too.
 pub fn long(bytes: &[u8], at: usize) -> u32
     requires { at + 4 ≤ length bytes.now }
     ensures { result ≡ long_at bytes.now at }
@@ -56,7 +56,8 @@ pub fn long(bytes: &[u8], at: usize) -> u32
     u32::from_le_bytes([bytes[at], bytes[at + 1], bytes[at + 2], bytes[at + 3]])
 }
 
-// Repeats the first n bytes of a source to its end.
+// Repeats the first n bytes of a source to its end. By index, since a byte is copied from one that was copied before: `copy_within`
+// would need a loop over parts.
 pub fn repeat(source: &mut [u8], n: usize)
     ensures { Repeats n source.old source.new }
 {

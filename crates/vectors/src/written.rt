@@ -68,7 +68,7 @@ impl Written {
     }
 }
 
-// Copies stored words.
+// Copies stored words. By index: of words passed by `iter_mut` and `zip` the proof knows nothing afterwards.
 fn copy(words: &mut [u32], stored: &[u8])
     requires { length stored.now ≡ 4 * length words.old }
     ensures { words.new ≡ longs stored.now }

@@ -1,19 +1,16 @@
 -- `border::is_readable` meets its contract, test by test.
-use Rattle.std.specs.Prelude.{◌≡◌, ℕ, ◌+◌, ◌*◌, leb}
+use Rattle.std.specs.Prelude.{leb}
 use mathlib.Core.Path.{ap}
 use native.Mathlib.Omega.{arith}
 use borrow.Author.Tests.{le-leb, lt-leb}
 use Rattle.entry.specs.Border.{readable}
 use Rattle.entry.proofs.border.is_readable.Goals as goal
 
-words : (l : ℕ) → 2 + 16 * l ≡ 2 + 2 * (8 * l)
-words l = omega arith
-
 pub returns-then-n-at : goal.returns-then-n-at
 unfolding readable
 returns-then-n-at c =
     rw (le-leb _ _ c.if-length-le-MAX_LENGTH.true, le-leb _ _ c.if-at-length.true, le-leb _ _ c.if-n-at.true)
-    (ap (λ i. leb i c.args.words) (words _))
+    (ap (λ i. leb i c.args.words) (omega (arith, c.tree_words.ensures, c.if-length-le-MAX_LENGTH.true)))
 
 pub returns-else-n-at : goal.returns-else-n-at
 unfolding readable

@@ -1,38 +1,22 @@
 -- `put_error` meets its contract.
-use native.Mathlib.Omega.{arith}
-use mathlib.Core.Path.{refl, ap}
+use Rattle.std.proofs.Common.{ap, ap₂, ◌∙◌, arith, [], ◌∷◌, get_or}
 use Rattle.syntax.specs.Listing.{line}
-use Rattle.output.proofs.Puts.{put-length, put_as}
+use Rattle.output.proofs.Puts.{did-length, did_as}
 use Rattle.output.proofs.Lines.{put_first}
-use Rattle.marks.proofs.Lines.{error-row, group-held, put-after}
+use Rattle.marks.proofs.Lines.{put-after, six}
 use Rattle.marks.proofs.listing.put_error.Goals as goal
-
-pub put_span-position-requires : goal.put_span-position-requires
-put_span-position-requires c =
-    omega (arith, group-held c.args.errors.now c.args.i c.word.result c.requires.held c.requires.i_bound c.word.ensures)
-
-pub put_span-junk-requires : goal.put_span-junk-requires
-put_span-junk-requires c =
-    omega (arith, group-held c.args.errors.now c.args.i c.word.result c.requires.held c.requires.i_bound c.word.ensures)
-
-pub word-requires-3 : goal.word-requires-3
-word-requires-3 c =
-    omega (arith, group-held c.args.errors.now c.args.i c.word.result c.requires.held c.requires.i_bound c.word.ensures)
-
-pub word-requires-4 : goal.word-requires-4
-word-requires-4 c =
-    omega (arith, group-held c.args.errors.now c.args.i c.word.result c.requires.held c.requires.i_bound c.word.ensures)
 
 pub returns : goal.returns
 returns c =
-    let capacity = c.word in
-    let first = c.word-2 in
-    let kind = c.put_field-kind.ensures in
-    let position = c.put_span-position.ensures in
-    let junk = c.put_span-junk.ensures in
-    let last = put-after _ _ _ _ (omega (arith, put-length kind, put-length position)) junk c.put_pair.ensures in
-    let rest = put-after _ _ _ _ (omega (arith, put-length kind)) position last in
-    put_as (put_first first.result _ _ (omega arith) kind rest)
-    (ap line
-    (error-row c.args.errors.now c.args.i capacity.result _ capacity.ensures refl first.ensures c.word-3.ensures
-    c.word-4.ensures))
+    let kind = c.put_field.ensures in
+    let position = c.put_span.ensures in
+    let junk = c.put_span-2.ensures in
+    let last = put-after _ _ _ _ (omega (arith, did-length kind, did-length position)) junk c.put_pair.ensures in
+    let rest = put-after _ _ _ _ (omega (arith, did-length kind)) position last in
+    did_as (put_first _ _ _ (omega arith) kind rest) (ap line
+    (ap₂ (λ k ws. k ∷ ws) c.from.ensures
+    (ap₂
+    (λ x y. get_or c.args.group.now 0 0 ∷ get_or c.args.group.now 1 0 ∷ get_or c.args.group.now 2 0
+    ∷ get_or c.args.group.now 3 0 ∷ x ∷ y ∷ [])
+    c.from-2.ensures c.from-3.ensures
+    ∙ six c.args.group.now c.told-group)))

@@ -1,14 +1,69 @@
 -- `put_marks` meets its contract: in the loop the lines so far have been put.
-use native.Mathlib.Omega.{arith}
-use Rattle.syntax.specs.Layout.{count}
-use Rattle.marks.proofs.Lines.{put-no-row, put-row}
+use Rattle.std.proofs.Common.{◌≡◌, ◌<◌, ◌∙◌, sym, ap, arith, length, take, get_or}
+use Rattle.std.specs.Iterator.Adapters.{zip_first, zip_second}
+use Rattle.std.specs.Slice.Iter.{iter_rest}
+use Rattle.std.proofs.lemmas.List.{length_push}
+use lib.Seq.{length-take-le}
+use Rattle.std.proofs.lemmas.Slice.Zip.{zip_turn, zip_end}
+use Rattle.syntax.specs.Layout.{count, capacity}
+use Rattle.syntax.specs.Listing.{line, lines}
+use Rattle.output.proofs.Puts.{did_as}
+use Rattle.marks.specs.Rows.{rows, mark_row}
+use Rattle.marks.proofs.Lines.{put-no-row, put-row, mark-row}
 use Rattle.marks.proofs.listing.put_marks.Goals as goal
 
-pub loop-i-init : goal.loop-i-init
-unfolding count
-loop-i-init c = (c.word-n.ensures, (omega arith, put-no-row _ (omega arith)))
+pub split_at-requires : goal.split_at-requires
+unfolding capacity count
+split_at-requires c = omega (arith, c.requires.held.counted, c.requires.held.words)
 
-pub loop-i-preserved : goal.loop-i-preserved
-loop-i-preserved c =
-    let inv = c.loop-i.invariant in
-    let row = put-row _ _ (omega arith) inv.1.1 c.put_mark-next.ensures in (inv.0, (omega (arith, c.loop-i-test.true), row))
+pub slice_bounds-iter-end : goal.slice_bounds-iter-end
+unfolding capacity count
+slice_bounds-iter-end c = sym (length-take-le _ _ (omega (arith, c.split_at.ensures.front_len, c.requires.held.counted)))
+
+pub loop-kind-init : goal.loop-kind-init
+loop-kind-init c = put-no-row _ c.requires.fits
+
+pub loop-kind-preserved : goal.loop-kind-preserved
+unfolding count capacity
+loop-kind-preserved c =
+    let t = c.args.tree.now in
+    let n = get_or t 0 0 in
+    let i = length c.loop-kind.yielded in
+    let e : iter_rest (zip_first c.into_iter-kind-iterator.result) ≡ take n c.split_at.result.0.now = cc in
+    let g : iter_rest (zip_second c.into_iter-kind-iterator.result) ≡ c.split_at.result.1.now = cc in
+    let h =
+    zip_turn _ _ _ c.into_iter-kind-iterator.result _ c.next.new.self _ e g c.loop-kind.yielded_by _ c.in-Some.is
+    c.next.ensures.steps in
+    let l : i < n =
+    omega (
+      arith,
+      h.0,
+      length-take-le n c.split_at.result.0.now
+          (omega (arith, c.split_at.ensures.front_len, c.requires.held.counted)),
+    ) in
+    let k = c.from.ensures ∙ h.2 0 ∙ ap (λ xs. get_or (take n xs) i 0) c.split_at.ensures.front in
+    let p = c.from-in-loop-kind.ensures ∙ h.3 0 ∙ ap (λ xs. get_or xs i 0) c.split_at.ensures.back in
+    rw (length_push c.loop-kind.yielded _)
+    (put-row _ _ (omega arith) c.loop-kind.invariant
+    (did_as c.put_pair.ensures (ap line (mark-row t i _ _ c.requires.held l k p))))
+
+pub returns : goal.returns
+unfolding count capacity
+returns c =
+    let t = c.args.tree.now in
+    let n = get_or t 0 0 in
+    let e : iter_rest (zip_first c.into_iter-kind-iterator.result) ≡ take n c.split_at.result.0.now = cc in
+    let g : iter_rest (zip_second c.into_iter-kind-iterator.result) ≡ c.split_at.result.1.now = cc in
+    let h =
+    zip_end _ _ _ c.into_iter-kind-iterator.result _ c.next.new.self _ e g c.loop-kind.yielded_by c.in-None.is
+    c.next.ensures.steps in
+    let l : length c.loop-kind.yielded ≡ n =
+    omega (
+      arith,
+      h,
+      length-take-le n c.split_at.result.0.now (omega (arith, c.split_at.ensures.front_len, c.requires.held.counted)),
+      c.split_at.ensures.back_len,
+      c.requires.held.counted,
+      c.requires.held.words,
+    ) in
+    did_as c.loop-kind.invariant (ap (λ k. lines (rows (mark_row t) k)) l)

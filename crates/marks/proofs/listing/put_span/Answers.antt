@@ -1,11 +1,11 @@
 -- `put_span` meets its contract.
 use native.Mathlib.Omega.{arith}
 use mathlib.Core.Path.{ap₂}
-use Rattle.output.proofs.Puts.{put_as, put_then}
+use Rattle.output.proofs.Puts.{did_as, did_then}
 use Rattle.marks.specs.Rows.{span}
 use Rattle.marks.proofs.listing.put_span.Goals as goal
 
 pub returns : goal.returns
 unfolding span
 returns c =
-    put_as (put_then (omega arith) c.put_field-next.ensures c.put_field.ensures) (ap₂ span c.word.ensures c.word-2.ensures)
+    did_as (did_then c.put_field.ensures (omega arith) c.put_field-2.ensures) (ap₂ span c.from.ensures c.from-2.ensures)

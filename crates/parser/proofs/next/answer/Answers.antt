@@ -1,4 +1,5 @@
 -- `next::answer` meets its contract: each test says that none is left or refuses, or hands on.
+use native.Mathlib.Omega.{arith}
 use Rattle.parser.proofs.Stops.{asked-long, asked-end, asked-short, asked_entry}
 use Rattle.parser.proofs.next.answer.Goals as goal
 
@@ -12,9 +13,9 @@ returns-then-length-start c =
 pub returns-then-tree-words : goal.returns-then-tree-words
 returns-then-tree-words c =
     asked-short _ _ c.args.tree.now c.if-length-gt-MAX_LENGTH.false c.skip_blank_lines-block.ensures
-    c.if-length-start.false c.if-tree-words.true
+    c.if-length-start.false (omega (arith, c.tree_words-words.ensures, c.if-length-gt-MAX_LENGTH.false)) c.if-tree-words.true
 
 pub returns : goal.returns
 returns c =
     asked_entry _ _ c.args.tree.now c.if-length-gt-MAX_LENGTH.false c.skip_blank_lines-block.ensures
-    c.if-length-start.false c.if-tree-words.false c.entry_at.ensures
+    c.if-length-start.false (omega (arith, c.tree_words-words.ensures, c.if-length-gt-MAX_LENGTH.false)) c.if-tree-words.false c.entry_at.ensures

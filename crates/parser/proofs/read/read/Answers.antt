@@ -1,4 +1,5 @@
 -- `read::read` meets its contract: each test refuses, or hands on.
+use native.Mathlib.Omega.{arith}
 use Rattle.std.proofs.lemmas.Result.{err_from_is_err_and}
 use Rattle.laws.specs.Tests.{none_of, source-passes}
 use Rattle.parser.proofs.Outcome.{source-refused, tree-short, errors-short, none-short}
@@ -12,14 +13,14 @@ returns-in_err-test_source c =
 pub returns-then-tree-words : goal.returns-then-tree-words
 returns-then-tree-words c =
     let s = source-passes _ (none_of _ c.in_ok-test_source.ensures.tested) in
-    tree-short _ _ _ s.0 s.1 c.if-tree-words.true
+    tree-short _ _ _ s.0 s.1 (omega (arith, c.tree_words-words.ensures, s.0)) c.if-tree-words.true
 
 pub returns-then-errors-rows : goal.returns-then-errors-rows
 returns-then-errors-rows c =
     let s = source-passes _ (none_of _ c.in_ok-test_source.ensures.tested) in
-    errors-short _ _ _ s.0 s.1 c.if-tree-words.false c.if-errors-rows.true
+    errors-short _ _ _ s.0 s.1 (omega (arith, c.tree_words-words.ensures, s.0)) c.if-tree-words.false (omega (arith, c.error_words-rows.ensures, s.0)) c.if-errors-rows.true
 
 pub returns : goal.returns
 returns c =
     let s = source-passes _ (none_of _ c.in_ok-test_source.ensures.tested) in
-    none-short _ _ _ s.0 s.1 c.if-tree-words.false _ _ _ c.if-errors-rows.false c.read_into.ensures
+    none-short _ _ _ s.0 s.1 (omega (arith, c.tree_words-words.ensures, s.0)) c.if-tree-words.false (omega (arith, c.error_words-rows.ensures, s.0)) _ _ _ c.if-errors-rows.false c.read_into.ensures

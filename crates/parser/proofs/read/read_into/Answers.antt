@@ -1,5 +1,7 @@
 -- `read::read_into` meets its contract.
 use native.Mathlib.Omega.{arith}
+use Rattle.std.specs.Prelude.{◌≡◌, length}
+use Rattle.syntax.specs.Layout.{tree_layout, error_layout}
 use Rattle.parser.proofs.Outcome.{counted, accepted, too-deep}
 use Rattle.parser.proofs.read.read_into.Goals as goal
 
@@ -37,4 +39,8 @@ returns-in-Ok c =
     accepted _ _ _ _ _ _ c.requires c.parse.ensures _ _ _ c.in-Ok.is c.finish.ensures c.finish-in-Ok.ensures
 
 pub returns-in-Err : goal.returns-in-Err
-returns-in-Err c = too-deep _ _ _ _ _ _ c.requires c.parse.ensures _ _ _ c.in-Err.is c.zero.ensures c.zero-in-Err.ensures
+returns-in-Err c =
+    let s = c.args.source.now in
+    let words : c.tree_words.result ≡ tree_layout (length s) = omega (arith, c.tree_words.ensures, c.requires.short) in
+    let rows : c.error_words.result ≡ error_layout (length s) = omega (arith, c.error_words.ensures, c.requires.short) in
+    too-deep _ _ _ _ _ _ c.requires c.parse.ensures _ _ _ c.in-Err.is (rw words at c.zero.ensures) (rw rows at c.zero-in-Err.ensures)

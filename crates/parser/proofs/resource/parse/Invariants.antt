@@ -1,12 +1,18 @@
 -- `resource::parse` meets its contract: entry by entry.
-use Prim.Native.Nat.{◌-◌}
-use lib.ListN.{length}
-use Rattle.parser.specs.Resource.{Framed, Held}
+use Rattle.std.specs.Prelude.{◌≡◌, ◌-◌, length}
+use Rattle.parser.specs.Resource.{Same, Framed, Held}
 use Rattle.parser.proofs.resource.parse.Given as goal
 
-abbrev pub invariant-loop-state : goal.invariant-loop-state
-invariant-loop-state l =
-    Framed l.source l.initial.tree l.tree l.initial.errors l.errors × Held l.source l.tree l.errors l.state
+abbrev pub invariant-loop-resource : goal.invariant-loop-resource
+invariant-loop-resource l =
+    let x = l.initial.resource in
+    let y = l.resource in
+    record {
+      source : y.source.now ≡ l.source;
+      same : Same x y;
+      framed : Framed l.source x.tree.now y.tree.now x.errors.now y.errors.now;
+      held : Held l.source y;
+    }
 
-abbrev pub decreases-loop-state : goal.decreases-loop-state
-decreases-loop-state l = length l.source - l.state.at
+abbrev pub decreases-loop-resource : goal.decreases-loop-resource
+decreases-loop-resource l = length l.source - l.resource.at

@@ -1,37 +1,25 @@
--- `is_blank_line` meets its contract: in the loop there were only blanks so far.
-use native.Mathlib.Omega.{arith}
-use borrow.Author.Rules.{rules}
-use mathlib.Core.Path.{refl, sym, ◌∙◌}
-use Rattle.serializer.proofs.Texts.{blank-on, blank-off, blank-end}
+-- `is_blank_line` meets its contract.
+use Rattle.std.specs.Prelude.{◌≡◌, ℕ, ◌||◌, Bool, eqb, List, [], ◌∷◌}
+use Rattle.std.specs.List.{list_all}
+use Rattle.std.proofs.Common.{rules}
+use borrow.Author.Tests.{tests}
+use mathlib.Core.Path.{refl, ◌∙◌}
+use Rattle.std.proofs.lemmas.Iterator.{YieldsList-from_slice}
+use Rattle.std.proofs.lemmas.Iterator.Search.{all_from_yields_List}
+use Rattle.syntax.specs.Byte as Byte
+use Rattle.syntax.specs.Bytes.{all}
+use Rattle.syntax.specs.Serializer.{blank_line}
 use Rattle.serializer.proofs.serializer.is_blank_line.Goals as goal
 
-pub loop-i-init : goal.loop-i-init
-loop-i-init c = (omega arith, refl)
+abbrev blank : ℕ → Bool
+blank b = eqb b Byte.space || (eqb b Byte.carriage_return || eqb b Byte.line_feed)
 
-pub bounds-text-i : goal.bounds-text-i
-bounds-text-i c = omega arith
-
-pub matches_fluent_ws-requires : goal.matches_fluent_ws-requires
-matches_fluent_ws-requires c = search rules
-
-pub returns-then-not-matches_fluent_ws : goal.returns-then-not-matches_fluent_ws
-returns-then-not-matches_fluent_ws c =
-    sym
-    (c.loop-i.invariant.1
-    ∙ blank-off _ _ c.loop-i-test.true (sym c.matches_fluent_ws.ensures ∙ c.if-not-matches_fluent_ws.true))
-
-pub overflow_add-i : goal.overflow_add-i
-overflow_add-i c = omega arith
-
-pub loop-i-smaller : goal.loop-i-smaller
-loop-i-smaller c = omega arith
-
-pub loop-i-preserved : goal.loop-i-preserved
-loop-i-preserved c = (
-  omega arith,
-  c.loop-i.invariant.1
-      ∙ blank-on _ _ c.loop-i-test.true (sym c.matches_fluent_ws.ensures ∙ c.if-not-matches_fluent_ws.false),
-)
+all-blank : (t : List ℕ) → list_all blank t ≡ blank_line [] t
+unfolding blank_line all
+all-blank [] = refl
+all-blank (b ∷ t) = rw (all-blank t)
 
 pub returns : goal.returns
-returns c = sym (c.loop-i.invariant.1 ∙ blank-end _ _ c.loop-i-test.false)
+returns c =
+    all_from_yields_List blank _ _ _ c.all.ensures.ran (YieldsList-from_slice c.args.text.now cc) (λ x b q k. search (rules, tests))
+    ∙ all-blank c.args.text.now

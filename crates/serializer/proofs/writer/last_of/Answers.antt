@@ -1,22 +1,21 @@
 -- `last_of` meets its contract.
-use Prim.Native.Nat.{◌-◌}
+use Rattle.std.specs.Prelude.{◌≡◌, ℕ, suc, ◌-◌, List, [], ◌∷◌, length, get_or}
+use Rattle.std.proofs.lemmas.Option.{unwrap_or-slice_get}
+use mathlib.Core.Path.{refl, ◌∙◌}
 use native.Mathlib.Omega.{arith}
-use lib.ListN.{length}
-use borrow.Author.Rules.{rules}
-use Rattle.serializer.proofs.Texts.{last_byte, last_none}
+use Rattle.syntax.specs.Serializer.{last_of}
 use Rattle.serializer.proofs.writer.last_of.Goals as goal
 
-pub returns-then-length-eq0 : goal.returns-then-length-eq0
-returns-then-length-eq0 c = last_none _ _ c.if-length-eq0.true
-
-pub overflow_sub-result : goal.overflow_sub-result
-overflow_sub-result c = search rules
-
-pub bounds-item-length : goal.bounds-item-length
-bounds-item-length c = search rules
-
-pub overflow_cast-result : goal.overflow_cast-result
-overflow_cast-result c = omega (arith, c.type_inv.item (length c.args.item.now - 1))
+last_got : (b : ℕ) (t : List ℕ) → get_or t (length t - 1) b ≡ last_of b t
+unfolding last_of
+last_got b [] = refl
+last_got b (x ∷ []) = refl
+last_got b (x ∷ y ∷ t) =
+    let e : length (x ∷ y ∷ t) - 1 ≡ suc (length (y ∷ t) - 1) = omega arith in rw e (last_got b (y ∷ t))
 
 pub returns : goal.returns
-returns c = last_byte _ _ c.if-length-eq0.false
+returns c =
+    let t = c.args.item.now in
+    c.unwrap_or.ensures
+    ∙ rw (c.copied.ensures, c.last.ensures.value, unwrap_or-slice_get t (length t - 1) c.args.last)
+    (last_got c.args.last t)

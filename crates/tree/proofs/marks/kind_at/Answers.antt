@@ -3,9 +3,6 @@ use borrow.Author.Rules.{rules}
 use Rattle.tree.specs.Words.{kind_in}
 use Rattle.tree.proofs.marks.kind_at.Goals as goal
 
-pub word_at-requires : goal.word_at-requires
-word_at-requires c = search rules
-
 pub returns : goal.returns
 unfolding kind_in
 returns c = c.word_at.ensures

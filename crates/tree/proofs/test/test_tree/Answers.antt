@@ -16,9 +16,6 @@ returns-then-not-sizes_fit c =
     let s = source-passes _ (none_of _ c.in_ok-test_source.ensures.tested) in
     refused (sizes-off _ _ s.0 s.1 (sym c.sizes_fit.ensures ∙ not-true _ c.if-not-sizes_fit.true-raw))
 
-pub check_shape-requires : goal.check_shape-requires
-check_shape-requires c = sym c.sizes_fit.ensures ∙ not-false _ c.if-not-sizes_fit.false-raw
-
 pub returns-in-Err : goal.returns-in-Err
 returns-in-Err c =
     let s = source-passes _ (none_of _ c.in_ok-test_source.ensures.tested) in

@@ -1,7 +1,9 @@
 -- `get_entry` meets its contract: a comment, a term or a message, by the first byte.
 use Rattle.std.proofs.lemmas.Result.{err_from_is_err_and}
 use Rattle.entry.proofs.Tests.{by}
-use Rattle.entry.proofs.Entries.{entry-comment, entry-term, entry-message, keeps-comment, reads-comment, reads-term, reads-message}
+use Rattle.syntax.specs.Expression.{level}
+use Rattle.entry.proofs.Comments.{told-some}
+use Rattle.entry.proofs.Entries.{leveled, entry-comment, entry-term, entry-message, keeps-comment, reads-comment, reads-term, reads-message}
 use Rattle.entry.proofs.Chains.{reads-through, reads-error}
 use Rattle.entry.proofs.parser.Parser.get_entry.Goals as goal
 
@@ -11,10 +13,15 @@ returns-in_err-get_comment-clause-reads c =
     rw (p.1, p.2, entry-comment _ _ (by c.is_current_byte.ensures.is c.if-is_current_byte.true))
     (reads-through keeps-comment _ (rw c.in_err-get_comment.was at c.get_comment.ensures.reads))
 
+pub unwrap-level-requires : goal.unwrap-level-requires
+unwrap-level-requires c =
+    let h = entry-comment _ _ (by c.is_current_byte.ensures.is c.if-is_current_byte.true) in
+    told-some _ (leveled (level c.args.left) h (rw c.in_ok-get_comment.was at c.get_comment.ensures.reads))
+
 pub returns-then-is_current_byte-clause-reads : goal.returns-then-is_current_byte-clause-reads
 returns-then-is_current_byte-clause-reads c =
     rw (entry-comment _ _ (by c.is_current_byte.ensures.is c.if-is_current_byte.true))
-    (reads-comment _ (rw c.in_ok-get_comment.was at c.get_comment.ensures.reads))
+    (reads-comment _ (rw c.unwrap-level.ensures at (rw c.in_ok-get_comment.was at c.get_comment.ensures.reads)))
 
 pub returns-in_err-get_term-clause-reads : goal.returns-in_err-get_term-clause-reads
 returns-in_err-get_term-clause-reads c =

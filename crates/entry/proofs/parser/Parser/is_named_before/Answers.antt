@@ -7,7 +7,7 @@ use Rattle.entry.specs.Names.{name_at}
 use Rattle.entry.proofs.NamedBefore.{looking-none, looking-name, looking-deep, looking-found, looking-open, looking-close, looking-end}
 use Rattle.entry.proofs.NamedBefore.{same-name, no-name}
 use Rattle.entry.proofs.parser.Parser.is_named_before.Goals as goal
-use Rattle.entry.proofs.parser.Parser.is_named_before.Goals.{then-self-i-lt-CLOSING, else-self-i-lt-CLOSING}
+use Rattle.entry.proofs.parser.Parser.is_named_before.Goals.{then-kind-lt-CLOSING, else-kind-lt-CLOSING}
 use Rattle.entry.proofs.parser.Parser.is_named_before.Goals.{else-depth-eq0-via-then-depth-eq0+else-eq, else-depth-eq0-via-else-depth-eq0}
 
 pub loop-i-init : goal.loop-i-init
@@ -30,7 +30,7 @@ overflow_add-depth c = omega (arith, c.loop-i-test.true, c.loop-i.invariant.smal
 pub overflow_sub-depth : goal.overflow_sub-depth
 overflow_sub-depth c =
     let i : 2 + c.loop-i.i ≡ c.loop-i.i + 2 = omega arith in
-    looking-deep c.loop-i.invariant c.loop-i-test.true c.requires (rw i at c.if-self-i-lt-CLOSING.false)
+    looking-deep c.loop-i.invariant c.loop-i-test.true c.requires (rw (c.kind.ensures, i) at c.if-kind-lt-CLOSING.false)
 
 pub loop-i-preserved : goal.loop-i-preserved
 loop-i-preserved c =
@@ -43,11 +43,11 @@ loop-i-preserved c =
           sym w.if-eq.false ∙ same-name _ _ _ w.if-depth-eq0.true w.eq.ensures w.name_at.ensures
       | else-depth-eq0-via-else-depth-eq0 w ↦ no-name _ w.if-depth-eq0.false
     ] in
-    elim c.if-self-i-lt-CLOSING.branch [
-      | then-self-i-lt-CLOSING w ↦
-          rw w.depth-is (looking-open c.loop-i.invariant c.loop-i-test.true e refl (rw i at w.if-self-i-lt-CLOSING.true))
-      | else-self-i-lt-CLOSING w ↦
-          rw w.depth-is (looking-close c.loop-i.invariant c.loop-i-test.true e refl (rw i at w.if-self-i-lt-CLOSING.false))
+    elim c.if-kind-lt-CLOSING.branch [
+      | then-kind-lt-CLOSING w ↦
+          rw w.depth-is (looking-open c.loop-i.invariant c.loop-i-test.true e refl (rw (c.kind.ensures, i) at w.if-kind-lt-CLOSING.true))
+      | else-kind-lt-CLOSING w ↦
+          rw w.depth-is (looking-close c.loop-i.invariant c.loop-i-test.true e refl (rw (c.kind.ensures, i) at w.if-kind-lt-CLOSING.false))
     ]
 
 pub returns : goal.returns

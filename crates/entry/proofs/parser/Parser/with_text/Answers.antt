@@ -16,7 +16,7 @@ returns-then-slice-clause-reads c =
       | else-eq w ↦ opens_text _ (line_tested c.args.st.role c.eq.ensures) w.if-eq.false (w.opening-is ∙ w.number-opening.ensures)
     ] in
     text-blank c.args.self.now _ c.args.st c.args.start c.args.slice refl (ap (λ n. c.args.self.now.source.ptr + c.args.slice.size + n) c.crlf_width.ensures)
-    (sym c.is_element.ensures ∙ c.if-not-is_element.false) o c.next_position-role.ensures c.put.ensures c.close_at.ensures c.if-slice.true
+    (sym c.is_element.ensures ∙ c.if-not-is_element.false) o c.next_position-role.ensures c.lines_with-lines.ensures c.put.ensures c.close_at.ensures c.if-slice.true
 
 pub returns-clause-reads : goal.returns-clause-reads
 returns-clause-reads c =
@@ -26,5 +26,5 @@ returns-clause-reads c =
       | else-eq w ↦ opens_text _ (line_tested c.args.st.role c.eq.ensures) w.if-eq.false (w.opening-is ∙ w.number-opening.ensures)
     ] in
     text-full c.args.self.now _ c.args.st c.args.start c.args.slice refl (ap (λ n. c.args.self.now.source.ptr + c.args.slice.size + n) c.crlf_width.ensures)
-    (sym c.is_element.ensures ∙ c.if-not-is_element.false) o c.next_position-role.ensures c.put.ensures c.close_at.ensures c.if-slice.false
+    (sym c.is_element.ensures ∙ c.if-not-is_element.false) o c.next_position-role.ensures c.lines_with-lines.ensures c.put.ensures c.close_at.ensures c.if-slice.false
     c.least_indent.ensures

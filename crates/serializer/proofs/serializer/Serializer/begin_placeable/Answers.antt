@@ -1,34 +1,28 @@
 -- `Serializer::begin_placeable` meets its contract.
-use borrow.Author.Rules.{rules}
-use borrow.Author.Tests.{ne_eqb}
 use mathlib.Core.Path.{refl}
+use borrow.Author.Tests.{ne_eqb}
+use Rattle.syntax.specs.declared.kind.Kind.TheVariants.{Placeable}
 use Rattle.syntax.specs.Kind as Kind
 use Rattle.serializer.specs.Serialize.{opening_braces, braces_of}
+use Rattle.serializer.proofs.Numbers.{unlike}
+use Rattle.serializer.proofs.Ways.{wrote-on}
 use Rattle.serializer.proofs.serializer.Serializer.begin_placeable.Goals as goal
 
 pub write_literal-requires : goal.write_literal-requires
 unfolding opening_braces
-write_literal-requires c = rw c.if-kind-eq-PLACEABLE.true at c.requires.room
+write_literal-requires c = rw c.in-Placeable.is at c.requires.room
 
-pub overflow_add-result : goal.overflow_add-result
-overflow_add-result c = search rules
-
-pub shape_of-output-then-kind-eq-PLACEABLE : goal.shape_of-output-then-kind-eq-PLACEABLE
-shape_of-output-then-kind-eq-PLACEABLE c = search rules
-
-pub returns-then-kind-eq-PLACEABLE : goal.returns-then-kind-eq-PLACEABLE
-unfolding opening_braces braces_of
-returns-then-kind-eq-PLACEABLE c = rw c.if-kind-eq-PLACEABLE.true (record { wrote = c.write_literal.ensures; next = refl })
-
-pub write_literal-requires-2 : goal.write_literal-requires-2
+pub write_literal-requires-in_default : goal.write_literal-requires-in_default
 unfolding opening_braces
-write_literal-requires-2 c = rw (ne_eqb _ Kind.placeable c.if-kind-eq-PLACEABLE.false, opening_braces) at c.requires.room
+write_literal-requires-in_default c =
+    rw (ne_eqb _ Kind.placeable (unlike refl Placeable c.in_default.not-Placeable), opening_braces) at c.requires.room
 
-pub shape_of-output : goal.shape_of-output
-shape_of-output c = search rules
-
-pub returns : goal.returns
+pub returns-in-Placeable : goal.returns-in-Placeable
 unfolding opening_braces braces_of
-returns c =
-    rw (ne_eqb _ Kind.placeable c.if-kind-eq-PLACEABLE.false, opening_braces, braces_of)
-    (record { wrote = c.write_literal-2.ensures; next = refl })
+returns-in-Placeable c = rw c.in-Placeable.is (wrote-on c.write_literal.ensures)
+
+pub returns-in_default : goal.returns-in_default
+unfolding opening_braces braces_of
+returns-in_default c =
+    rw (ne_eqb _ Kind.placeable (unlike refl Placeable c.in_default.not-Placeable), opening_braces, braces_of)
+    (wrote-on c.write_literal-in_default.ensures)

@@ -1,53 +1,45 @@
 -- `Serializer::end_placeable` meets its contract.
-use borrow.Author.Rules.{rules}
-use borrow.Author.Tests.{ne_eqb}
 use mathlib.Core.Path.{refl}
+use borrow.Author.Tests.{ne_eqb}
+use Rattle.syntax.specs.declared.kind.Kind.TheVariants.{Placeable, Select}
 use Rattle.syntax.specs.Kind as Kind
 use Rattle.serializer.specs.Serialize.{closing_braces, braces_of}
+use Rattle.serializer.proofs.Numbers.{unlike}
+use Rattle.serializer.proofs.Ways.{wrote-on}
 use Rattle.serializer.proofs.serializer.Serializer.end_placeable.Goals as goal
 
 pub write_literal-requires : goal.write_literal-requires
 unfolding closing_braces
-write_literal-requires c = rw c.if-kind-eq-PLACEABLE.true at c.requires.room
+write_literal-requires c = rw c.in-Placeable.is at c.requires.room
 
-pub shape_of-output-then-kind-eq-PLACEABLE : goal.shape_of-output-then-kind-eq-PLACEABLE
-shape_of-output-then-kind-eq-PLACEABLE c = search rules
-
-pub returns-then-kind-eq-PLACEABLE : goal.returns-then-kind-eq-PLACEABLE
-unfolding closing_braces braces_of
-returns-then-kind-eq-PLACEABLE c = rw c.if-kind-eq-PLACEABLE.true (record { wrote = c.write_literal.ensures; next = refl })
-
-pub write_literal-requires-then-kind-eq-SELECT : goal.write_literal-requires-then-kind-eq-SELECT
+pub write_literal-requires-in-Select : goal.write_literal-requires-in-Select
 unfolding closing_braces
-write_literal-requires-then-kind-eq-SELECT c = rw c.if-kind-eq-SELECT.true at c.requires.room
+write_literal-requires-in-Select c = rw c.in-Select.is at c.requires.room
 
-pub shape_of-output-then-kind-eq-SELECT : goal.shape_of-output-then-kind-eq-SELECT
-shape_of-output-then-kind-eq-SELECT c = search rules
-
-pub returns-then-kind-eq-SELECT : goal.returns-then-kind-eq-SELECT
-unfolding closing_braces braces_of
-returns-then-kind-eq-SELECT c =
-    rw c.if-kind-eq-SELECT.true (record { wrote = c.write_literal-then-kind-eq-SELECT.ensures; next = refl })
-
-pub write_literal-requires-2 : goal.write_literal-requires-2
+pub write_literal-requires-in_default : goal.write_literal-requires-in_default
 unfolding closing_braces
-write_literal-requires-2 c =
+write_literal-requires-in_default c =
     rw (
-      ne_eqb _ Kind.placeable c.if-kind-eq-PLACEABLE.false,
+      ne_eqb _ Kind.placeable (unlike refl Placeable c.in_default.not-Placeable),
       closing_braces,
-      ne_eqb _ Kind.select c.if-kind-eq-SELECT.false,
+      ne_eqb _ Kind.select (unlike refl Select c.in_default.not-Select),
     ) at c.requires.room
 
-pub shape_of-output : goal.shape_of-output
-shape_of-output c = search rules
-
-pub returns : goal.returns
+pub returns-in-Placeable : goal.returns-in-Placeable
 unfolding closing_braces braces_of
-returns c =
+returns-in-Placeable c = rw c.in-Placeable.is (wrote-on c.write_literal.ensures)
+
+pub returns-in-Select : goal.returns-in-Select
+unfolding closing_braces braces_of
+returns-in-Select c = rw c.in-Select.is (wrote-on c.write_literal-in-Select.ensures)
+
+pub returns-in_default : goal.returns-in_default
+unfolding closing_braces braces_of
+returns-in_default c =
     rw (
-      ne_eqb _ Kind.placeable c.if-kind-eq-PLACEABLE.false,
+      ne_eqb _ Kind.placeable (unlike refl Placeable c.in_default.not-Placeable),
       closing_braces,
       braces_of,
-      ne_eqb _ Kind.select c.if-kind-eq-SELECT.false,
+      ne_eqb _ Kind.select (unlike refl Select c.in_default.not-Select),
     )
-    (record { wrote = c.write_literal-2.ensures; next = refl })
+    (wrote-on c.write_literal-in_default.ensures)

@@ -1,103 +1,54 @@
 -- `Serializer::serialize_attribute` meets its contract.
-use Prim.Native.Nat.{◌+◌}
-use native.Mathlib.Omega.{arith}
-use mathlib.Core.Path.{◌≡◌, ap, ◌∙◌}
-use Rattle.syntax.specs.Kind as Kind
-use Rattle.syntax.specs.Layout.{marks_in}
-use Rattle.tree.specs.Walk.{after}
+use Rattle.std.proofs.Common.{refl, ap, arith}
+use Rattle.serializer.specs.Serialize.{pattern_in}
 use Rattle.tree.proofs.Sizes.{sizes}
-use Rattle.serializer.proofs.Pieces.{going, room-first, going_on, gone, wrote-length}
-use Rattle.serializer.proofs.Messages.{attribute-parts, attribute-row}
 use Rattle.tree.proofs.Walk.{after-count}
+use Rattle.serializer.proofs.Messages.{attribute-parts, attribute-row}
+use Rattle.serializer.proofs.Ways.{way, moves, room, writes, goes, ready, writes_node, done}
 use Rattle.serializer.proofs.serializer.Serializer.serialize_attribute.Goals as goal
 
-pub newline-line-requires : goal.newline-line-requires
-newline-line-requires c =
-    room-first
-    (going c.args.output.now c.args.self.writer
-    (attribute-row c.args.source.now (attribute-parts c.requires.node)) c.requires.room)
+pub newline-requires : goal.newline-requires
+newline-requires c =
+    let s = c.args.self.now in room (way s (attribute-row s.nodes.source.now (attribute-parts c.requires.node)) c.requires.room)
 
 pub write_literal-requires : goal.write_literal-requires
 write_literal-requires c =
-    room-first
-    (going_on
-    (going c.args.output.now c.args.self.writer
-    (attribute-row c.args.source.now (attribute-parts c.requires.node)) c.requires.room) c.newline-line.ensures)
+    let s = c.args.self.now in
+    let w = way s (attribute-row s.nodes.source.now (attribute-parts c.requires.node)) c.requires.room in
+    room (writes w c.newline.ensures)
 
-pub serialize_name-named-requires : goal.serialize_name-named-requires
-serialize_name-named-requires c =
+pub serialize_name-requires : goal.serialize_name-requires
+serialize_name-requires c =
+    let s = c.args.self.now in
     let p = attribute-parts c.requires.node in
-    let g =
-    going_on
-    (going_on
-    (going c.args.output.now c.args.self.writer
-    (attribute-row c.args.source.now p) c.requires.room) c.newline-line.ensures) c.write_literal.ensures in
-    record { fit = c.requires.fit; text_at = p.key; room = room-first g }
-
-pub serialize_pattern-written-requires : goal.serialize_pattern-written-requires
-serialize_pattern-written-requires c =
-    let p = attribute-parts c.requires.node in
-    let g =
-    going_on
-    (going_on
-    (going_on
-    (going c.args.output.now c.args.self.writer
-    (attribute-row c.args.source.now p) c.requires.room) c.newline-line.ensures) c.write_literal.ensures)
-    c.serialize_name-named.ensures.wrote in
-    let n = c.serialize_name-named.ensures.next in
+    let w = way s (attribute-row s.nodes.source.now p) c.requires.room in
     record {
-      fit = c.requires.fit;
-      node = rw n p.value;
-      shallow =
-          omega (
-            arith,
-            c.requires.shallow,
-            c.newline-line.ensures.level,
-            c.write_literal.ensures.level,
-            c.serialize_name-named.ensures.wrote.level,
-            n,
-          );
-      room = rw n (room-first g);
+      text_at = p.key;
+      room = room (writes (writes w c.newline.ensures) c.write_literal.ensures);
     }
 
-pub next-requires : goal.next-requires
-unfolding Kind.is_text
-next-requires c =
-    let tree = c.args.tree.now in
-    let fit = sizes tree c.requires.fit in
+pub serialize_pattern-requires : goal.serialize_pattern-requires
+serialize_pattern-requires c =
+    let s = c.args.self.now in
     let p = attribute-parts c.requires.node in
-    let n : c.serialize_pattern-written.result.mark ≡ after (marks_in tree) (c.args.self.mark + 3) =
-    c.serialize_pattern-written.ensures.next ∙ ap (λ m. after (marks_in tree) m) c.serialize_name-named.ensures.next in
-    omega (arith, fit, n, p.till, after-count tree fit c.requires.node.at)
+    let w = way s (attribute-row s.nodes.source.now p) c.requires.room in
+    let w₂ = goes (writes (writes w c.newline.ensures) c.write_literal.ensures) refl refl c.serialize_name.ensures in
+    ready pattern_in w₂ p.value (omega (arith, c.requires.shallow))
 
-pub shape_of-output : goal.shape_of-output
-shape_of-output c =
+pub overflow_add-self : goal.overflow_add-self
+overflow_add-self c =
+    let s = c.args.self.now in
+    let fit = sizes s.nodes.tree.now c.args.self.now.nodes.fit in
     let p = attribute-parts c.requires.node in
-    let g =
-    going_on
-    (going_on
-    (going_on
-    (going c.args.output.now c.args.self.writer
-    (attribute-row c.args.source.now p) c.requires.room) c.newline-line.ensures) c.write_literal.ensures)
-    c.serialize_name-named.ensures.wrote in
-    wrote-length (gone (going_on g (rw c.serialize_name-named.ensures.next at c.serialize_pattern-written.ensures.wrote)))
+    let w = way s (attribute-row s.nodes.source.now p) c.requires.room in
+    let w₂ = goes (writes (writes w c.newline.ensures) c.write_literal.ensures) refl refl c.serialize_name.ensures in
+    let w₃ = writes_node pattern_in w₂ refl c.serialize_pattern.ensures in
+    omega (arith, fit, p.till, after-count s.nodes.tree.now fit c.requires.node.at, ap (λ z. z.mark) w₃.is)
 
 pub returns : goal.returns
 returns c =
+    let s = c.args.self.now in
     let p = attribute-parts c.requires.node in
-    let g =
-    going_on
-    (going_on
-    (going_on
-    (going c.args.output.now c.args.self.writer
-    (attribute-row c.args.source.now p) c.requires.room) c.newline-line.ensures) c.write_literal.ensures)
-    c.serialize_name-named.ensures.wrote in
-    let tree = c.args.tree.now in
-    let n : c.serialize_pattern-written.result.mark ≡ after (marks_in tree) (c.args.self.mark + 3) =
-    c.serialize_pattern-written.ensures.next ∙ ap (λ m. after (marks_in tree) m) c.serialize_name-named.ensures.next in
-    rw c.next.ensures
-    (record {
-      wrote =
-          gone (going_on g (rw c.serialize_name-named.ensures.next at c.serialize_pattern-written.ensures.wrote));
-      next = omega (arith, n, p.till);
-    })
+    let w = way s (attribute-row s.nodes.source.now p) c.requires.room in
+    let w₂ = goes (writes (writes w c.newline.ensures) c.write_literal.ensures) refl refl c.serialize_name.ensures in
+    done (moves 1 (writes_node pattern_in w₂ refl c.serialize_pattern.ensures)) p.till

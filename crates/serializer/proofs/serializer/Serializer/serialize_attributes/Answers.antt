@@ -1,79 +1,78 @@
 -- `Serializer::serialize_attributes` meets its contract: in the loop, with the attributes that are left all are written.
-use Prim.Native.Nat.{◌+◌}
-use native.Mathlib.Omega.{arith}
-use mathlib.Core.Path.{sym, ap, ◌∙◌}
+use Rattle.std.proofs.Common.{◌+◌, [], ◌∷◌, refl, sym, ap, ◌∙◌, arith}
+use Rattle.syntax.specs.Kind as Kind
+use Rattle.syntax.specs.Serializer.{attribute}
 use Rattle.tree.specs.Walk.{after}
 use Rattle.tree.proofs.Sizes.{sizes}
-use Rattle.serializer.proofs.Pieces.{wrote-length}
 use Rattle.tree.proofs.Walk.{inside-count}
+use Rattle.serializer.specs.Serialize.{state_of, output_of}
 use Rattle.serializer.proofs.Messages.{attributes-first, attribute-next, attributes-done, attributes-wrote}
+use Rattle.serializer.proofs.Loops.{carried-kind, carried-mark, carried-ready, carried-did, carried-on, done-with}
+use Rattle.serializer.proofs.Numbers.{is, other}
 use Rattle.serializer.proofs.serializer.Serializer.serialize_attributes.Goals as goal
 
 pub indent-requires : goal.indent-requires
 indent-requires c =
-    let tree = c.args.tree.now in
-    omega (
-      arith,
-      sizes tree c.requires.fit,
-      c.requires.shallow,
-      inside-count tree (sizes tree c.requires.fit) c.requires.here,
-    )
+    let tree = c.args.self.now.nodes.tree.now in
+    let fit = sizes tree c.args.self.now.nodes.fit in omega (arith, fit, c.requires.shallow, inside-count tree fit c.requires.here)
 
-pub loop-output-init : goal.loop-output-init
-loop-output-init c =
-    rw c.indent.ensures (attributes-first c.args.source.now c.args.tree.now c.args.output.now c.args.self c.requires)
+pub loop-self-init : goal.loop-self-init
+loop-self-init c =
+    let s = c.args.self.now in
+    rw c.indent.ensures
+    (record { same_reference = refl; is = refl }, attributes-first s.nodes.source.now s.nodes.tree.now (output_of s) (state_of s) c.requires)
 
-pub kind_at-requires : goal.kind_at-requires
-kind_at-requires c =
-    record {
-      fit = c.requires.fit;
-      mark_bound = inside-count c.args.tree.now (sizes c.args.tree.now c.requires.fit) c.loop-output.invariant.here;
-    }
+pub is_at-requires : goal.is_at-requires
+is_at-requires c =
+    let tree = c.args.self.now.nodes.tree.now in
+    let r = c.loop-self.invariant in
+    let k = carried-mark r.0 (inside-count tree (sizes tree c.args.self.now.nodes.fit) r.1.here) in
+    k
 
-pub serialize_attribute-written-requires : goal.serialize_attribute-written-requires
-serialize_attribute-written-requires c =
-    (attribute-next c.args.source.now c.args.tree.now c.loop-output.invariant
-    (sym c.kind_at.ensures ∙ c.loop-output-test.true)).ready c.requires.fit
+pub serialize_attribute-requires : goal.serialize_attribute-requires
+serialize_attribute-requires c =
+    let s = c.args.self.now in
+    let r = c.loop-self.invariant in
+    let e = sym (carried-kind r.0) ∙ is c.is_at.ensures c.loop-self-test.true in
+    carried-ready r.0 (Kind.attribute ∷ []) attribute ((attribute-next s.nodes.source.now s.nodes.tree.now r.1 e).ready)
 
-pub loop-output-smaller : goal.loop-output-smaller
+pub loop-self-smaller : goal.loop-self-smaller
 unfolding after
-loop-output-smaller c =
+loop-self-smaller c =
+    let tree = c.args.self.now.nodes.tree.now in
     omega (
       arith,
-      c.serialize_attribute-written.ensures.next,
-      inside-count c.args.tree.now (sizes c.args.tree.now c.requires.fit) c.loop-output.invariant.here,
+      c.serialize_attribute.ensures.went.next,
+      inside-count tree (sizes tree c.args.self.now.nodes.fit) c.loop-self.invariant.1.here,
     )
 
-pub loop-output-preserved : goal.loop-output-preserved
-loop-output-preserved c =
-    (attribute-next c.args.source.now c.args.tree.now c.loop-output.invariant
-    (sym c.kind_at.ensures ∙ c.loop-output-test.true)).on _ _ c.serialize_attribute-written.ensures
+pub loop-self-preserved : goal.loop-self-preserved
+loop-self-preserved c =
+    let s = c.args.self.now in
+    let r = c.loop-self.invariant in
+    let e = sym (carried-kind r.0) ∙ is c.is_at.ensures c.loop-self-test.true in
+    let d = c.serialize_attribute.ensures in
+    (carried-on r.0 d, (attribute-next s.nodes.source.now s.nodes.tree.now r.1 e).on _ _ (carried-did r.0 attribute d))
 
 pub dedent-requires : goal.dedent-requires
 dedent-requires c =
+    let s = c.args.self.now in
+    let r = c.loop-self.invariant in
     let d =
-    attributes-done c.args.source.now c.args.tree.now c.loop-output.invariant
-    (λ e. c.loop-output-test.false (c.kind_at.ensures ∙ e)) in
-    omega (arith, d.wrote.level, ap (λ w. w.indent) c.indent.ensures)
+    attributes-done s.nodes.source.now s.nodes.tree.now r.1 (λ e. other c.is_at.ensures c.loop-self-test.false (carried-kind r.0 ∙ e)) in
+    omega (arith, d.wrote.level, ap (λ w. w.indent_level) c.indent.ensures)
 
-pub overflow_add-result : goal.overflow_add-result
-overflow_add-result c =
-    let tree = c.args.tree.now in
-    omega (arith, sizes tree c.requires.fit, inside-count tree (sizes tree c.requires.fit) c.loop-output.invariant.here)
-
-pub shape_of-output : goal.shape_of-output
-shape_of-output c =
-    wrote-length
-    (attributes-done c.args.source.now c.args.tree.now c.loop-output.invariant
-    (λ e. c.loop-output-test.false (c.kind_at.ensures ∙ e))).wrote
+pub overflow_add-self : goal.overflow_add-self
+overflow_add-self c =
+    let tree = c.args.self.now.nodes.tree.now in
+    let fit = sizes tree c.args.self.now.nodes.fit in omega (arith, fit, inside-count tree fit c.loop-self.invariant.1.here)
 
 pub returns : goal.returns
 returns c =
-    let source = c.args.source.now in
-    let tree = c.args.tree.now in
-    let d = attributes-done source tree c.loop-output.invariant (λ e. c.loop-output-test.false (c.kind_at.ensures ∙ e)) in
+    let s = c.args.self.now in
+    let r = rw c.indent.ensures at c.loop-self.invariant in
+    let d =
+    attributes-done s.nodes.source.now s.nodes.tree.now r.1 (λ e. other c.is_at.ensures c.loop-self-test.false (carried-kind r.0 ∙ e)) in
     rw c.dedent.ensures
-    (record {
-      wrote = attributes-wrote source tree c.args.self.mark (rw c.indent.ensures at d.wrote);
-      next = ap (λ m. m + 1) d.end;
-    })
+    (done-with (record { same_reference = r.0.same_reference; is = r.0.is })
+    (attributes-wrote s.nodes.source.now s.nodes.tree.now s.mark d.wrote) (ap (λ m. m + 1) d.end))

@@ -1,12 +1,11 @@
 -- `Serializer::serialize_comment` meets its contract: in the loop, with the lines that are left the comment is written.
-use Prim.Native.Nat.{◌-◌}
+use Rattle.std.proofs.Common.{◌-◌}
 use Rattle.syntax.specs.Layout.{count}
-use Rattle.serializer.proofs.Comments.{Lines}
+use Rattle.serializer.proofs.Loops.{CommentLoop}
 use Rattle.serializer.proofs.serializer.Serializer.serialize_comment.Given as goal
 
 abbrev pub invariant-loop-line : goal.invariant-loop-line
-invariant-loop-line l =
-    Lines l.source l.tree l.prefix l.initial.output l.output l.initial.writer l.writer l.initial.mark l.mark
+invariant-loop-line l = CommentLoop l.prefix l.initial.self l.self
 
 abbrev pub decreases-loop-line : goal.decreases-loop-line
-decreases-loop-line l = count l.tree - l.mark
+decreases-loop-line l = count l.initial.self.nodes.tree.now - l.self.mark

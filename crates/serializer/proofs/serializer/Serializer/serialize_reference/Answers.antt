@@ -1,102 +1,81 @@
 -- `Serializer::serialize_reference` meets its contract.
-use native.Mathlib.Omega.{arith}
-use borrow.Author.Rules.{rules}
-use mathlib.Core.Path.{sym, ap, ◌∙◌}
-use Rattle.syntax.specs.Layout.{marks_in}
-use Rattle.tree.specs.Walk.{kind_at}
+use Rattle.std.proofs.Common.{refl, sym, ap, ◌∙◌, arith}
+use Rattle.syntax.specs.Serializer.{name}
 use Rattle.tree.proofs.Sizes.{sizes}
-use Rattle.serializer.proofs.Pieces.{going, room-first, going_on, going-as, gone}
 use Rattle.tree.proofs.Walk.{at_count, inside-count}
 use Rattle.serializer.proofs.References.{begun, no-further, further-on}
+use Rattle.serializer.proofs.Ways.{way, moves, split, room, writes, text, writes_node, kind-ready, kind-is, done}
+use Rattle.serializer.proofs.Numbers.{is, other, reference-kind}
 use Rattle.serializer.proofs.serializer.Serializer.serialize_reference.Goals as goal
-
-pub kind_at-kind-requires : goal.kind_at-kind-requires
-kind_at-kind-requires c =
-    let tree = c.args.tree.now in
-    let fit = sizes tree c.requires.fit in
-    record { fit = c.requires.fit; mark_bound = at_count tree fit c.requires.node.at }
-
-pub write_sigil-requires : goal.write_sigil-requires
-write_sigil-requires c =
-    let tree = c.args.tree.now in
-    let b = begun c.args.source.now tree c.args.self.mark c.requires.node in
-    let g0 = going c.args.output.now c.args.self.writer b.parts c.requires.room in rw c.kind_at-kind.ensures (room-first g0)
-
-pub overflow_add-begun : goal.overflow_add-begun
-overflow_add-begun c =
-    let tree = c.args.tree.now in
-    let fit = sizes tree c.requires.fit in omega (arith, fit, at_count tree fit c.requires.node.at)
-
-pub serialize_text-named-requires : goal.serialize_text-named-requires
-serialize_text-named-requires c =
-    let tree = c.args.tree.now in
-    let b = begun c.args.source.now tree c.args.self.mark c.requires.node in
-    let g0 = going c.args.output.now c.args.self.writer b.parts c.requires.room in
-    let g1 = going_on g0 (rw c.kind_at-kind.ensures at c.write_sigil.ensures) in
-    record { fit = c.requires.fit; text_at = b.first; room = room-first g1 }
 
 pub kind_at-requires : goal.kind_at-requires
 kind_at-requires c =
-    let tree = c.args.tree.now in
-    let fit = sizes tree c.requires.fit in
-    let b = begun c.args.source.now tree c.args.self.mark c.requires.node in
-    let m = c.serialize_text-named.ensures.next ∙ b.behind in
-    record { fit = c.requires.fit; mark_bound = rw m (inside-count tree fit b.on) }
+    let tree = c.args.self.now.nodes.tree.now in
+    record {
+      mark_bound = at_count tree (sizes tree c.args.self.now.nodes.fit) c.requires.node.at;
+      is_kind = reference-kind c.requires.node;
+    }
 
-pub shape_of-output-then-kind_at-ne-IDENTIFIER : goal.shape_of-output-then-kind_at-ne-IDENTIFIER
-shape_of-output-then-kind_at-ne-IDENTIFIER c = search rules
+pub write_sigil-requires : goal.write_sigil-requires
+write_sigil-requires c =
+    let s = c.args.self.now in
+    let b = begun s.nodes.source.now s.nodes.tree.now s.mark c.requires.node in rw c.kind_at.ensures (room (way s b.parts c.requires.room))
 
-pub returns-then-kind_at-ne-IDENTIFIER : goal.returns-then-kind_at-ne-IDENTIFIER
-returns-then-kind_at-ne-IDENTIFIER c =
-    let tree = c.args.tree.now in
-    let b = begun c.args.source.now tree c.args.self.mark c.requires.node in
-    let g0 = going c.args.output.now c.args.self.writer b.parts c.requires.room in
-    let g1 = going_on g0 (rw c.kind_at-kind.ensures at c.write_sigil.ensures) in
-    let g2 = going_on g1 c.serialize_text-named.ensures.wrote in
-    let m = c.serialize_text-named.ensures.next ∙ b.behind in
-    let x =
-    no-further b (λ e. c.if-kind_at-ne-IDENTIFIER.true (c.kind_at.ensures ∙ ap (λ j. kind_at (marks_in tree) j) m ∙ e)) in
-    record { wrote = gone (going-as x.0 g2); named = rw m x.1 }
-
-pub write_literal-requires : goal.write_literal-requires
-write_literal-requires c =
-    let tree = c.args.tree.now in
-    let b = begun c.args.source.now tree c.args.self.mark c.requires.node in
-    let g0 = going c.args.output.now c.args.self.writer b.parts c.requires.room in
-    let g1 = going_on g0 (rw c.kind_at-kind.ensures at c.write_sigil.ensures) in
-    let g2 = going_on g1 c.serialize_text-named.ensures.wrote in
-    let m = c.serialize_text-named.ensures.next ∙ b.behind in
-    let yes = sym (ap (λ j. kind_at (marks_in tree) j) m) ∙ sym c.kind_at.ensures ∙ c.if-kind_at-ne-IDENTIFIER.false in
-    let f = further-on b yes in room-first (going-as f.parts g2)
+pub overflow_add-self : goal.overflow_add-self
+overflow_add-self c =
+    let tree = c.args.self.now.nodes.tree.now in
+    let fit = sizes tree c.args.self.now.nodes.fit in omega (arith, fit, at_count tree fit c.requires.node.at)
 
 pub serialize_text-requires : goal.serialize_text-requires
 serialize_text-requires c =
-    let tree = c.args.tree.now in
-    let b = begun c.args.source.now tree c.args.self.mark c.requires.node in
-    let g0 = going c.args.output.now c.args.self.writer b.parts c.requires.room in
-    let g1 = going_on g0 (rw c.kind_at-kind.ensures at c.write_sigil.ensures) in
-    let g2 = going_on g1 c.serialize_text-named.ensures.wrote in
-    let m = c.serialize_text-named.ensures.next ∙ b.behind in
-    let yes = sym (ap (λ j. kind_at (marks_in tree) j) m) ∙ sym c.kind_at.ensures ∙ c.if-kind_at-ne-IDENTIFIER.false in
-    let f = further-on b yes in
-    let g3 = going_on (going-as f.parts g2) c.write_literal.ensures in
-    rw m (record { fit = c.requires.fit; text_at = f.second; room = room-first g3 })
+    let s = c.args.self.now in
+    let b = begun s.nodes.source.now s.nodes.tree.now s.mark c.requires.node in
+    let w = moves 1 (writes (way s b.parts c.requires.room) (rw c.kind_at.ensures at c.write_sigil.ensures)) in
+    let t = text w b.first in record { text_at = t.text_at; room = t.room }
 
-pub shape_of-output : goal.shape_of-output
-shape_of-output c = search rules
+pub is_at-requires : goal.is_at-requires
+is_at-requires c =
+    let s = c.args.self.now in
+    let b = begun s.nodes.source.now s.nodes.tree.now s.mark c.requires.node in
+    let w = moves 1 (writes (way s b.parts c.requires.room) (rw c.kind_at.ensures at c.write_sigil.ensures)) in
+    let w₂ = writes_node name w b.behind c.serialize_text.ensures in
+    let k = kind-ready w₂ (inside-count s.nodes.tree.now (sizes s.nodes.tree.now c.args.self.now.nodes.fit) b.on) in
+    k
 
-pub returns : goal.returns
-returns c =
-    let tree = c.args.tree.now in
-    let b = begun c.args.source.now tree c.args.self.mark c.requires.node in
-    let g0 = going c.args.output.now c.args.self.writer b.parts c.requires.room in
-    let g1 = going_on g0 (rw c.kind_at-kind.ensures at c.write_sigil.ensures) in
-    let g2 = going_on g1 c.serialize_text-named.ensures.wrote in
-    let m = c.serialize_text-named.ensures.next ∙ b.behind in
-    let yes = sym (ap (λ j. kind_at (marks_in tree) j) m) ∙ sym c.kind_at.ensures ∙ c.if-kind_at-ne-IDENTIFIER.false in
-    let f = further-on b yes in
-    let g3 = going_on (going-as f.parts g2) c.write_literal.ensures in
-    record {
-      wrote = gone (going_on g3 (rw m at c.serialize_text.ensures.wrote));
-      named = rw (c.serialize_text.ensures.next, m) f.rest;
-    }
+pub returns-else-is_at : goal.returns-else-is_at
+returns-else-is_at c =
+    let s = c.args.self.now in
+    let b = begun s.nodes.source.now s.nodes.tree.now s.mark c.requires.node in
+    let w = moves 1 (writes (way s b.parts c.requires.room) (rw c.kind_at.ensures at c.write_sigil.ensures)) in
+    let w₂ = writes_node name w b.behind c.serialize_text.ensures in
+    let x = no-further b (λ e. other c.is_at.ensures c.if-is_at.false (kind-is w₂ ∙ e)) in
+    let m = ap (λ z. z.mark) w₂.is in record { went = done (split x.0 w₂) (sym m); named = rw m x.1 }
+
+pub write_literal-requires : goal.write_literal-requires
+write_literal-requires c =
+    let s = c.args.self.now in
+    let b = begun s.nodes.source.now s.nodes.tree.now s.mark c.requires.node in
+    let w = moves 1 (writes (way s b.parts c.requires.room) (rw c.kind_at.ensures at c.write_sigil.ensures)) in
+    let w₂ = writes_node name w b.behind c.serialize_text.ensures in
+    let f = further-on b (sym (kind-is w₂) ∙ is c.is_at.ensures c.if-is_at.true) in
+    room (split f.parts w₂)
+
+pub serialize_text-requires-then-is_at : goal.serialize_text-requires-then-is_at
+serialize_text-requires-then-is_at c =
+    let s = c.args.self.now in
+    let b = begun s.nodes.source.now s.nodes.tree.now s.mark c.requires.node in
+    let w = moves 1 (writes (way s b.parts c.requires.room) (rw c.kind_at.ensures at c.write_sigil.ensures)) in
+    let w₂ = writes_node name w b.behind c.serialize_text.ensures in
+    let f = further-on b (sym (kind-is w₂) ∙ is c.is_at.ensures c.if-is_at.true) in
+    let t = text (writes (split f.parts w₂) c.write_literal.ensures) f.second in
+    record { text_at = t.text_at; room = t.room }
+
+pub returns-then-is_at : goal.returns-then-is_at
+returns-then-is_at c =
+    let s = c.args.self.now in
+    let b = begun s.nodes.source.now s.nodes.tree.now s.mark c.requires.node in
+    let w = moves 1 (writes (way s b.parts c.requires.room) (rw c.kind_at.ensures at c.write_sigil.ensures)) in
+    let w₂ = writes_node name w b.behind c.serialize_text.ensures in
+    let f = further-on b (sym (kind-is w₂) ∙ is c.is_at.ensures c.if-is_at.true) in
+    let w₃ = writes_node name (writes (split f.parts w₂) c.write_literal.ensures) refl c.serialize_text-then-is_at.ensures in
+    let m = ap (λ z. z.mark) w₃.is in record { went = done w₃ (sym m); named = rw m f.rest }

@@ -1,52 +1,54 @@
 -- `Serializer::serialize_value` meets its contract.
-use native.Mathlib.Omega.{arith}
-use borrow.Author.Rules.{rules}
-use mathlib.Core.Path.{◌≡◌, sym, ◌∙◌}
+use Rattle.std.proofs.Common.{◌≡◌, refl, sym, ap, ◌∙◌, arith}
 use Rattle.syntax.specs.Kind as Kind
 use Rattle.syntax.specs.Layout.{marks_in}
 use Rattle.tree.specs.Walk.{kind_at}
 use Rattle.tree.proofs.Sizes.{sizes}
-use Rattle.serializer.proofs.Pieces.{wrote_nothing}
 use Rattle.tree.proofs.Walk.{inside-count}
 use Rattle.serializer.proofs.Messages.{unvalued, no-values, value}
+use Rattle.serializer.proofs.Ways.{stays}
+use Rattle.serializer.proofs.Numbers.{is, other}
 use Rattle.serializer.proofs.serializer.Serializer.serialize_value.Goals as goal
 
-pub kind_at-requires : goal.kind_at-requires
-kind_at-requires c =
-    record {
-      fit = c.requires.fit;
-      mark_bound = inside-count c.args.tree.now (sizes c.args.tree.now c.requires.fit) c.requires.here;
-    }
-
-pub returns-then-kind_at-ne-PATTERN : goal.returns-then-kind_at-ne-PATTERN
-returns-then-kind_at-ne-PATTERN c =
-    let source = c.args.source.now in
-    let tree = c.args.tree.now in
-    let other : kind_at (marks_in tree) c.args.self.mark ≡ Kind.pattern → ⊥ =
-    λ e. c.if-kind_at-ne-PATTERN.true (c.kind_at.ensures ∙ e) in
-    record {
-      wrote = rw (no-values source tree c.requires.kind c.requires.one c.requires.here other) wrote_nothing;
-      valued = unvalued source tree c.requires.kind c.requires.one c.requires.here other;
-    }
+pub is_at-requires : goal.is_at-requires
+is_at-requires c =
+    let tree = c.args.self.now.nodes.tree.now in
+    inside-count tree (sizes tree c.args.self.now.nodes.fit) c.requires.here
 
 pub serialize_pattern-requires : goal.serialize_pattern-requires
 serialize_pattern-requires c =
+    let s = c.args.self.now in
     let v =
-    value c.args.source.now c.args.tree.now c.requires.kind c.requires.one c.requires.here
-    (sym c.kind_at.ensures ∙ c.if-kind_at-ne-PATTERN.false) in
+    value s.nodes.source.now s.nodes.tree.now c.requires.kind c.requires.one c.requires.here
+    (is c.is_at.ensures c.if-is_at.true) in
     record {
-      fit = c.requires.fit;
       node = v.there;
       shallow = omega (arith, c.requires.shallow);
       room = rw v.same at c.requires.room;
     }
 
-pub shape_of-output : goal.shape_of-output
-shape_of-output c = search rules
-
-pub returns : goal.returns
-returns c =
+pub returns-then-is_at : goal.returns-then-is_at
+returns-then-is_at c =
+    let s = c.args.self.now in
+    let d = c.serialize_pattern.ensures in
     let v =
-    value c.args.source.now c.args.tree.now c.requires.kind c.requires.one c.requires.here
-    (sym c.kind_at.ensures ∙ c.if-kind_at-ne-PATTERN.false) in
-    record { wrote = rw v.same c.serialize_pattern.ensures.wrote; valued = rw c.serialize_pattern.ensures.next v.on }
+    value s.nodes.source.now s.nodes.tree.now c.requires.kind c.requires.one c.requires.here
+    (is c.is_at.ensures c.if-is_at.true) in
+    record {
+      went = record {
+        same_reference = d.same_reference;
+        went = record { wrote = rw v.same d.went.wrote; next = refl };
+        is = d.is ∙ ap (λ m. record s { output = c.serialize_pattern.new.self.output; writer = c.serialize_pattern.new.self.writer; mark = m }) (sym d.went.next);
+      };
+      valued = rw d.went.next v.on;
+    }
+
+pub returns-else-is_at : goal.returns-else-is_at
+returns-else-is_at c =
+    let s = c.args.self.now in
+    let other : kind_at (marks_in s.nodes.tree.now) s.mark ≡ Kind.pattern → ⊥ =
+    other c.is_at.ensures c.if-is_at.false in
+    record {
+      went = rw (no-values s.nodes.source.now s.nodes.tree.now c.requires.kind c.requires.one c.requires.here other) (stays refl);
+      valued = unvalued s.nodes.source.now s.nodes.tree.now c.requires.kind c.requires.one c.requires.here other;
+    }

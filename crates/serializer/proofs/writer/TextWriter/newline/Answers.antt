@@ -1,39 +1,39 @@
 -- `TextWriter::newline` meets its contract.
-use native.Mathlib.Omega.{arith}
-use borrow.Author.Rules.{rules}
-use mathlib.Core.Path.{sym, ap}
-use mathlib.Core.List.{[], ◌∷◌}
-use lib.ListN.{length}
+use Rattle.std.proofs.Common.{length, sym, ap, arith, [], ◌∷◌}
 use Rattle.syntax.specs.Byte as Byte
 use Rattle.syntax.specs.Serializer.{◌⊕◌, newline}
-use Rattle.serializer.specs.Writer.{bytes}
-use Rattle.serializer.proofs.Pieces.{wrote_as, wrote_then, newline-doubled, newline-alone}
+use Rattle.serializer.specs.Writer.{bytes, place_of}
+use Rattle.serializer.proofs.Pieces.{has_as, has_then, newline-doubled, newline-alone}
 use Rattle.serializer.proofs.writer.TextWriter.newline.Goals as goal
+use Rattle.serializer.proofs.writer.TextWriter.newline.Goals.{then-self-eq13, else-self-eq13}
 
-pub put-requires : goal.put-requires
-put-requires c = omega (arith, ap length (newline-doubled c.args.self c.if-self-eq-CARRIAGE_RETURN.true), c.requires)
+pub write_bytes-requires : goal.write_bytes-requires
+write_bytes-requires c = omega (arith, ap length (newline-doubled (place_of c.args.self.now) c.if-self-eq13.true), c.requires)
 
-pub put-requires-then-self-eq-CARRIAGE_RETURN : goal.put-requires-then-self-eq-CARRIAGE_RETURN
-put-requires-then-self-eq-CARRIAGE_RETURN c =
-    omega (arith, ap length (newline-doubled c.args.self c.if-self-eq-CARRIAGE_RETURN.true), c.requires, c.put.ensures.end)
+pub write_bytes-requires-2 : goal.write_bytes-requires-2
+write_bytes-requires-2 c =
+    let w = place_of c.args.self.now in
+    elim c.if-self-eq13.branch [
+      | then-self-eq13 b ↦
+          omega (
+            arith,
+            ap length (newline-doubled w b.if-self-eq13.true),
+            c.requires,
+            b.write_bytes.ensures.wrote.end,
+            ap (λ z. z.at) b.self-is,
+          )
+      | else-self-eq13 b ↦
+          omega (arith, ap length (newline-alone w b.if-self-eq13.false), c.requires, ap (λ z. z.at) b.self-is)
+    ]
 
-pub put-requires-else-self-eq-CARRIAGE_RETURN : goal.put-requires-else-self-eq-CARRIAGE_RETURN
-put-requires-else-self-eq-CARRIAGE_RETURN c =
-    omega (arith, ap length (newline-alone c.args.self c.if-self-eq-CARRIAGE_RETURN.false), c.requires)
-
-pub shape_of-output-then-self-eq-CARRIAGE_RETURN : goal.shape_of-output-then-self-eq-CARRIAGE_RETURN
-shape_of-output-then-self-eq-CARRIAGE_RETURN c = search rules
-
-pub returns-then-self-eq-CARRIAGE_RETURN : goal.returns-then-self-eq-CARRIAGE_RETURN
+pub returns : goal.returns
 unfolding ◌⊕◌
-returns-then-self-eq-CARRIAGE_RETURN c =
-    wrote_as newline (sym (newline-doubled c.args.self c.if-self-eq-CARRIAGE_RETURN.true))
-    (wrote_then c.put.ensures (bytes (Byte.line_feed ∷ [])) c.put-then-self-eq-CARRIAGE_RETURN.ensures)
-
-pub shape_of-output-else-self-eq-CARRIAGE_RETURN : goal.shape_of-output-else-self-eq-CARRIAGE_RETURN
-shape_of-output-else-self-eq-CARRIAGE_RETURN c = search rules
-
-pub returns-else-self-eq-CARRIAGE_RETURN : goal.returns-else-self-eq-CARRIAGE_RETURN
-returns-else-self-eq-CARRIAGE_RETURN c =
-    wrote_as newline
-    (sym (newline-alone c.args.self c.if-self-eq-CARRIAGE_RETURN.false)) c.put-else-self-eq-CARRIAGE_RETURN.ensures
+returns c =
+    let w = place_of c.args.self.now in
+    let end = bytes (Byte.line_feed ∷ []) in
+    elim c.if-self-eq13.branch [
+      | then-self-eq13 b ↦
+          has_as newline (sym (newline-doubled w b.if-self-eq13.true))
+          (has_then b.write_bytes.ensures end (rw (b.self-is, b.output-is) at c.write_bytes-2.ensures))
+      | else-self-eq13 b ↦ has_as newline (sym (newline-alone w b.if-self-eq13.false)) (rw (b.self-is, b.output-is) at c.write_bytes-2.ensures)
+    ]

@@ -24,9 +24,6 @@ enter-requires c =
     let t = next-node _ _ _ (sym (ap Some c.in-Node.is) ∙ c.in_ok-next.ensures) in
     record { fits = c.requires.fits; child_kind = t.0; child_step = t.1 }
 
-pub returns-in-Text-clause-goes : goal.returns-in-Text-clause-goes
-returns-in-Text-clause-goes c = rw (← c.in-Ok.ensures) c.start.ensures
-
 pub returns-in-Node-clause-goes : goal.returns-in-Node-clause-goes
 unfolding outcome state_of
 returns-in-Node-clause-goes c =

@@ -1,5 +1,0 @@
--- The measures and the invariants.
-use Rattle.output.proofs.number.+put_number.Given as goal
-
-abbrev pub decreases-put_number : goal.decreases-put_number
-decreases-put_number l = l.x

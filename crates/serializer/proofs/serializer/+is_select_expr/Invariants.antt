@@ -1,7 +1,0 @@
--- The measures and the invariants.
-use Prim.Native.Nat.{◌-◌}
-use Rattle.syntax.specs.Layout.{count}
-use Rattle.serializer.proofs.serializer.+is_select_expr.Given as goal
-
-abbrev pub decreases-is_select_expr : goal.decreases-is_select_expr
-decreases-is_select_expr l = count l.tree.now - l.mark
