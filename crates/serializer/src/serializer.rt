@@ -101,7 +101,7 @@ impl Nodes<'_> {
         after_node(self.tree, mark)
     }
 
-    // Whether the pattern at a mark has such an element.
+    // Whether the pattern at a mark has such an element. By `while`, since only the node at a mark tells where the next one is.
     fn is_multiline(self, mark: usize) -> bool
         requires { At (is_boundary self.source.now) (marks_in self.tree.now) mark Number.pattern }
         ensures { result ≡ is_multiline self.entry.source.now (nodes (node_at (marks_in self.entry.tree.now) mark).inner) }

@@ -7,9 +7,9 @@ ghost use Rattle.serializer.specs.Writer.{begun, bytes, place_of, Room, HasWritt
 
 use output::text::Output;
 
-// How many bytes have been written, the last of them (0 at the start, as in the definition), and the indent level. The output is lent to
-// each method: what becomes of a slice is not known where a struct holds it in another one, and by reference each contract would keep two
-// references.
+// How many bytes have been written, the last of them, and the indent level. At the start the last is 0, as in the definition: no test asks
+// for that byte, and an Option would be opened at every line. The output is lent to each method: what becomes of a slice is not known where
+// a struct holds it in another one, and by reference each contract would keep two references.
 #[derive(Drop)]
 pub struct TextWriter {
     pub at: usize,

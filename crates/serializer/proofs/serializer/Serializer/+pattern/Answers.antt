@@ -1,21 +1,24 @@
 -- The functions that write patterns, and what stands in them, meet their contracts.
-use Rattle.std.proofs.Common.{ℕ, ◌+◌, ◌<◌, Bool, List, [], ◌∷◌, true, refl, sym, ap, ◌∙◌, subst, arith, length}
+use Rattle.std.proofs.Common.{ℕ, ◌+◌, ◌<◌, ◌≡◌, Bool, List, [], ◌∷◌, true, refl, sym, ap, ◌∙◌, subst, arith, length}
+use lib.Dec.{eqb}
+use Rattle.syntax.specs.declared.kind.Kind.{Kind as TheKind}
 use Rattle.syntax.specs.declared.kind.Kind.TheVariants as Kinds
 use Rattle.syntax.specs.Kind as Kind
 use Rattle.syntax.specs.Kind.{number_of}
 use Rattle.syntax.specs.Bytes.{ascii}
+use Rattle.utf8.specs.Utf8.{is_boundary}
 use Rattle.syntax.specs.Layout.{count, marks_in}
-use Rattle.syntax.specs.Shape.{among, models}
-use Rattle.syntax.specs.Serializer.{Node, Piece, literal, newline, nodes, each, if, ◌⊕◌}
+use Rattle.syntax.specs.Shape.{among, models, inline}
+use Rattle.syntax.specs.Serializer.{Node, Piece, literal, newline, nodes, each, if, of_kind, ◌⊕◌}
 use Rattle.laws.specs.Text.{element_of, expression_of, inline_of, variant_of, separated_of, argument_of, separated-none, separated-is}
-use Rattle.tree.specs.Walk.{kind_at, node_at, after, inner_at, elements, variants, arguments}
+use Rattle.tree.specs.Walk.{kind_at, node_at, after, inner_at, OneAt, elements, variants, arguments, references}
 use Rattle.tree.proofs.Sizes.{sizes}
 use Rattle.tree.proofs.Walk.{at_count, after-count, inside-count}
 use Rattle.tree.proofs.Contents.{variant-pair}
 use Rattle.serializer.specs.declared.serializer.Serializer.{Serializer}
 use Rattle.serializer.specs.Writer.{Place, place_of, Room, Wrote}
-use Rattle.serializer.specs.Serialize.{one_if, output_of, pattern_in, arguments_in, variant_lines}
-use Rattle.serializer.proofs.Pieces.{two, then-assoc, room-first, going_on, gone, one-most, room_within, wrote-within}
+use Rattle.serializer.specs.Serialize.{one_if, output_of, pattern_in, arguments_in, reference_of, variant_lines}
+use Rattle.serializer.proofs.Pieces.{Row, two, then-assoc, room-first, going_on, gone, one-most, room_within, wrote-within}
 use Rattle.serializer.proofs.Parts.{pattern-at, pattern-entered, pattern-parts, element-name, placeable-inside, braced}
 use Rattle.serializer.proofs.Parts.{expression-select, expression-inline}
 use Rattle.serializer.proofs.Patterns.{element-text}
@@ -67,6 +70,17 @@ module _ {s₀ s : Serializer} {whole : Piece} where
         → Way s s (separated a s.nodes.source.now (node_at (marks_in s.nodes.tree.now) s.mark)) (if a (literal (ascii ", ")) ∷ argument_of s.nodes.source.now (node_at (marks_in s.nodes.tree.now) s.mark) ∷ []) s.mark
     argument-way t =
         way s (two (if a (literal (ascii ", "))) (argument_of s.nodes.source.now (node_at (marks_in s.nodes.tree.now) s.mark))) t.ready.room
+
+-- An inline expression that is no string, number or placeable is a reference.
+reference-in : (s : Serializer) {k : TheKind} → OneAt (is_boundary s.nodes.source.now) inline (marks_in s.nodes.tree.now) s.mark
+    → number_of k ≡ kind_at (marks_in s.nodes.tree.now) s.mark → (k ≡ Kinds.StringLiteral → ⊥) → (k ≡ Kinds.NumberLiteral → ⊥)
+    → (k ≡ Kinds.Placeable → ⊥) → OneAt (is_boundary s.nodes.source.now) references (marks_in s.nodes.tree.now) s.mark
+    × Row (inline_of s.nodes.source.now (node_at (marks_in s.nodes.tree.now) s.mark))
+    (reference_of s.nodes.source.now (node_at (marks_in s.nodes.tree.now) s.mark)
+    ∷ each (arguments_in s.nodes.source.now)
+    (of_kind s.nodes.source.now (λ k. eqb k Kind.arguments) (nodes (node_at (marks_in s.nodes.tree.now) s.mark).inner)) ∷ [])
+reference-in s a h x y z =
+    inline-reference s.nodes.source.now a (unlike h Kinds.StringLiteral x) (unlike h Kinds.NumberLiteral y) (unlike h Kinds.Placeable z)
 
 -- serialize_pattern: its elements after a blank, or on lines of their own
 pub serialize_pattern-starts_on_new_line-start_on_newline-requires : goal.serialize_pattern-starts_on_new_line-start_on_newline-requires
@@ -337,10 +351,8 @@ serialize_inline_expression-returns-in-Placeable t c =
 pub serialize_inline_expression-serialize_reference-requires : goal.serialize_inline_expression-serialize_reference-requires
 serialize_inline_expression-serialize_reference-requires t c =
     let s = c.args.self.now in
-    let reference =
-    inline-reference s.nodes.source.now c.requires.node (unlike c.kind_at.ensures Kinds.StringLiteral c.in_default.not-StringLiteral)
-    (unlike c.kind_at.ensures Kinds.NumberLiteral c.in_default.not-NumberLiteral)
-    (unlike c.kind_at.ensures Kinds.Placeable c.in_default.not-Placeable) in
+    let d = c.in_default in
+    let reference = reference-in s c.requires.node c.kind_at.ensures d.not-StringLiteral d.not-NumberLiteral d.not-Placeable in
     record {
       node = reference.0;
       shallow = c.requires.shallow;
@@ -350,10 +362,8 @@ serialize_inline_expression-serialize_reference-requires t c =
 pub serialize_inline_expression-is_at-requires : goal.serialize_inline_expression-is_at-requires
 serialize_inline_expression-is_at-requires t c =
     let s = c.args.self.now in
-    let reference =
-    inline-reference s.nodes.source.now c.requires.node (unlike c.kind_at.ensures Kinds.StringLiteral c.in_default.not-StringLiteral)
-    (unlike c.kind_at.ensures Kinds.NumberLiteral c.in_default.not-NumberLiteral)
-    (unlike c.kind_at.ensures Kinds.Placeable c.in_default.not-Placeable) in
+    let d = c.in_default in
+    let reference = reference-in s c.requires.node c.kind_at.ensures d.not-StringLiteral d.not-NumberLiteral d.not-Placeable in
     let w = goes (way s reference.1 c.requires.room) refl refl c.serialize_reference.ensures.went in
     let named = c.serialize_reference.ensures.named in
     let k = kind-ready w (inside-count s.nodes.tree.now (sizes s.nodes.tree.now c.args.self.now.nodes.fit) named.at.here) in
@@ -363,10 +373,8 @@ pub serialize_inline_expression-serialize_call_arguments-requires : goal.seriali
 serialize_inline_expression-serialize_call_arguments-requires t c =
     let s = c.args.self.now in
     let here = at_count s.nodes.tree.now (sizes s.nodes.tree.now c.args.self.now.nodes.fit) c.requires.node.at in
-    let reference =
-    inline-reference s.nodes.source.now c.requires.node (unlike c.kind_at.ensures Kinds.StringLiteral c.in_default.not-StringLiteral)
-    (unlike c.kind_at.ensures Kinds.NumberLiteral c.in_default.not-NumberLiteral)
-    (unlike c.kind_at.ensures Kinds.Placeable c.in_default.not-Placeable) in
+    let d = c.in_default in
+    let reference = reference-in s c.requires.node c.kind_at.ensures d.not-StringLiteral d.not-NumberLiteral d.not-Placeable in
     let w = goes (way s reference.1 c.requires.room) refl refl c.serialize_reference.ensures.went in
     let named = c.serialize_reference.ensures.named in
     let call =
@@ -380,10 +388,8 @@ serialize_inline_expression-overflow_add-self-in_default t c =
     let s = c.args.self.now in
     let fit = sizes s.nodes.tree.now c.args.self.now.nodes.fit in
     let end = after-count s.nodes.tree.now fit c.requires.node.at in
-    let reference =
-    inline-reference s.nodes.source.now c.requires.node (unlike c.kind_at.ensures Kinds.StringLiteral c.in_default.not-StringLiteral)
-    (unlike c.kind_at.ensures Kinds.NumberLiteral c.in_default.not-NumberLiteral)
-    (unlike c.kind_at.ensures Kinds.Placeable c.in_default.not-Placeable) in
+    let d = c.in_default in
+    let reference = reference-in s c.requires.node c.kind_at.ensures d.not-StringLiteral d.not-NumberLiteral d.not-Placeable in
     let w = goes (way s reference.1 c.requires.room) refl refl c.serialize_reference.ensures.went in
     let named = c.serialize_reference.ensures.named in
     elim c.if-is_at.branch [
@@ -400,10 +406,8 @@ serialize_inline_expression-overflow_add-self-in_default t c =
 pub serialize_inline_expression-returns-after-is_at : goal.serialize_inline_expression-returns-after-is_at
 serialize_inline_expression-returns-after-is_at t c =
     let s = c.args.self.now in
-    let reference =
-    inline-reference s.nodes.source.now c.requires.node (unlike c.kind_at.ensures Kinds.StringLiteral c.in_default.not-StringLiteral)
-    (unlike c.kind_at.ensures Kinds.NumberLiteral c.in_default.not-NumberLiteral)
-    (unlike c.kind_at.ensures Kinds.Placeable c.in_default.not-Placeable) in
+    let d = c.in_default in
+    let reference = reference-in s c.requires.node c.kind_at.ensures d.not-StringLiteral d.not-NumberLiteral d.not-Placeable in
     let w = goes (way s reference.1 c.requires.room) refl refl c.serialize_reference.ensures.went in
     let named = c.serialize_reference.ensures.named in
     elim c.if-is_at.branch [
