@@ -11,6 +11,7 @@ pub mod Slices
 pub mod MarksFrom
 pub mod Insert
 pub mod Dids
+pub mod Blanks
 pub mod Chains
 pub mod Comments
 pub mod Settle

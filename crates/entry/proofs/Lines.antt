@@ -1,5 +1,5 @@
 -- Line ends and the text of a line at places of a source.
-use Rattle.std.specs.Prelude.{◌≡◌, ℕ, zero, suc, ◌+◌, ◌-◌, ◌<◌, ◌≤◌, Bool, true, false, eqb, ltb, Option, None, Some, List, [], ◌∷◌, length, get_or, take, drop}
+use Rattle.std.specs.Prelude.{◌≡◌, ℕ, zero, suc, ◌+◌, ◌-◌, ◌<◌, ◌≤◌, Bool, true, false, not, eqb, ltb, Option, None, Some, List, [], ◌∷◌, length, get_or, take, drop}
 use mathlib.Core.Path.{refl, sym, ap, ◌∙◌}
 use native.Mathlib.Omega.{arith}
 use lib.ListN.{length-drop, drop_of_length-le}
@@ -11,8 +11,11 @@ use Rattle.syntax.specs.Reader.{ok}
 use Rattle.syntax.specs.Comment.{line_length}
 use Rattle.syntax.specs.Helper.{skip_eol}
 use Rattle.memchr.specs.Find.{Passes, Nowhere, NoneBefore, is_byte}
-use Rattle.laws.specs.Bytes.{by_case, clash, eol-le}
-use Rattle.entry.specs.Place.{Passed, Went, is_eol, line_end}
+use Rattle.laws.specs.Bytes.{by_case, eol-le}
+use Rattle.std.proofs.lemmas.Bool.{false≢true}
+use Rattle.std.proofs.lemmas.List.{get_or-take, get_or-drop, length-take}
+use borrow.Author.Tests.{ltb-true, ltb-false}
+use Rattle.entry.specs.Place.{Counted, Passed, Went, is_eol, line_end}
 
 some-end : (x : List ℕ) {n : ℕ} → line_end x ≡ Some n → (eol x ≡ n) × (0 < n)
 unfolding line_end
@@ -153,3 +156,59 @@ line-passed {s} {at} {n} l h =
     let e : n ≡ line_length (drop at s) = h ∙ ap line_length (take_all (length s - at) (drop at s) q) in
     let w = line-le (drop at s) in
     record { end = omega arith; within = omega arith }
+
+-- ---- a line feed is looked for in the first m bytes, then in the others
+
+is-true : (b : Bool) → not b ≡ false → b ≡ true
+is-true true e = refl
+is-true false e = absurd (false≢true (sym e))
+
+pub all-left : (x : List ℕ) (m : ℕ) → take (length x - m) (drop m x) ≡ drop m x
+all-left x m = take_all (length x - m) (drop m x) (omega (arith, length-drop m x))
+
+-- n of the first m bytes stand before a line feed
+module _ (x : List ℕ) (m n : ℕ) (l : m ≤ length x) (h : Counted (λ b r. r ≡ not (eqb b Byte.line_feed)) (take m x) n) where
+  is-feed : (b : ℕ) → Bool
+  is-feed b = eqb b Byte.line_feed
+
+  before-near : (k : ℕ) → k < n → k < m → feed_at x k → ⊥
+  unfolding is-feed
+  before-near k i j f =
+      false≢true (sym (h.passing k i ∙ ap (λ b. not (is-feed b)) (get_or-take m x k 0 j) ∙ ap not f))
+
+  pub feed-near : n < m → NoneBefore (feed_at x) 0 (length x) n × feed_at x n
+  unfolding is-feed
+  feed-near i =
+      let w = length-take m x in (
+        record { low = omega arith; high = omega arith; before = λ k a b. before-near k b (omega arith) },
+        is-true _ (ap (λ b. not (is-feed b)) (sym (get_or-take m x n 0 i)) ∙ sym (h.stops (omega (arith, w)))),
+      )
+
+  none-near : m ≤ n → (k : ℕ) → k < m → feed_at x k → ⊥
+  none-near i k j = before-near k (omega arith) j
+
+  later : (k : ℕ) → m ≤ k → feed_at x k → feed_at (drop m x) (k - m)
+  unfolding is-feed
+  later k i f =
+      let e : m + (k - m) ≡ k = omega arith in
+      ap is-feed (get_or-drop m x (k - m) 0 ∙ ap (λ j. get_or x j 0) e) ∙ f
+
+  pub feed-nowhere : m ≤ n → Nowhere (feed_at (drop m x)) 0 (length (drop m x)) → Nowhere (feed_at x) 0 (length x)
+  feed-nowhere i g k a b f =
+      by_case (ltb k m) (λ t. none-near i k (ltb-true k m t) f)
+      (λ t. let u = ltb-false k m t in g (k - m) (omega arith) (omega (arith, length-drop m x)) (later k u f))
+
+  pub feed-far : (k : ℕ) → m ≤ n → NoneBefore (feed_at (drop m x)) 0 (length (drop m x)) k × feed_at (drop m x) k
+      → NoneBefore (feed_at x) 0 (length x) (m + k) × feed_at x (m + k)
+  unfolding is-feed
+  feed-far k i g = (
+    record {
+      low = omega arith;
+      high = omega (arith, g.0.high, length-drop m x);
+      before =
+          λ j a b f.
+          by_case (ltb j m) (λ t. none-near i j (ltb-true j m t) f)
+          (λ t. let u = ltb-false j m t in g.0.before (j - m) (omega arith) (omega arith) (later j u f));
+    },
+    ap is-feed (sym (get_or-drop m x k 0)) ∙ g.1,
+  )

@@ -1,8 +1,6 @@
 -- The scan of a string literal: escapes, and turns over plain bytes.
 use Rattle.std.specs.Prelude.{◌≡◌, ℕ, ◌+◌, ◌-◌, ◌<◌, ◌≤◌, min, true, leb, List, [], ◌∷◌, length, take, drop, Option, Some, None, Result, Ok, Err}
 use Rattle.std.specs.Char.{is_ascii_hexdigit}
-use Rattle.std.specs.Int.{is_in_range}
-use Rattle.std.proofs.Math.Bool.{or_assoc}
 use denote.Ref.{Bor}
 use mathlib.Core.Path.{refl, sym, ap, ◌∙◌}
 use mathlib.Core.Logic.{◌⊎◌, inl, inr}
@@ -11,7 +9,7 @@ use lib.ListN.{length-drop, drop_of_length-le}
 use lib.Seq.{drop-drop, take_all}
 use borrow.Author.Tests.{eq-eqb, ne_eqb}
 use Rattle.syntax.specs.Byte as Byte
-use Rattle.syntax.specs.Bytes.{starts_with, run, is_digit, is_hex, first_width}
+use Rattle.syntax.specs.Bytes.{starts_with, run, is_hex, first_width}
 use Rattle.syntax.specs.declared.errors.ErrorKind.TheVariants.{UnknownEscapeSequence, InvalidUnicodeEscapeSequence}
 use Rattle.syntax.specs.declared.errors.ErrorKind.TheVariants.{UnterminatedStringLiteral}
 use Rattle.syntax.specs.declared.errors.ParserError.{ParserError}
@@ -20,6 +18,7 @@ use Rattle.syntax.specs.Marks.{move_up}
 use Rattle.syntax.specs.Reader.{ok, bad, fail, after, Turn, again, done, turn_of, repeat}
 use Rattle.syntax.specs.Helper.{skip_unicode_escape_sequence}
 use Rattle.syntax.specs.Expression.{escape_turn, string_turn}
+use Rattle.laws.specs.Ascii.{hex-ascii}
 use Rattle.laws.specs.Bytes.{by_case, clash, run-le}
 use Rattle.laws.specs.Loop.Turns.{string_turn-moves}
 use Rattle.utf8.specs.Utf8.{width_of_first}
@@ -73,11 +72,6 @@ module _ (len : ℕ) (x : List ℕ) where
   pub unicode-short : (n : ℕ) → n ≡ min len (run is_hex x) → (n ≡ len → ⊥)
       → skip_unicode_escape_sequence len x ≡ bad (fault_at (InvalidUnicodeEscapeSequence 0 (n + first_width (drop n x))) n) n
   unicode-short n e h = short (λ z. h (e ∙ z)) ∙ rw e
-
--- std's test, whose cases are grouped otherwise
-hex-ascii : (b : ℕ) → is_ascii_hexdigit b ≡ is_hex b
-unfolding is_hex is_digit
-hex-ascii b = or_assoc (is_in_range 48 57 b) (is_in_range 65 70 b) (is_in_range 97 102 b)
 
 -- hexadecimal digits at the start of a slice's end, `len` of them at the most
 pub passed-hex : (len m : ℕ) {s : List ℕ} {at n : ℕ} → at ≤ length s → m ≡ min len (length s - at)

@@ -7,8 +7,11 @@ ghost use Rattle.entry.specs.Line.{LineRead};
 ghost use Rattle.entry.specs.Level.{number_if};
 ghost use Rattle.entry.specs.Did.{result_by};
 ghost use Rattle.entry.specs.Reads.{rest, Passes, Counts, Entered, Reads};
+ghost use Rattle.syntax.specs.Byte as Byte;
+ghost use Rattle.memchr.specs.Find.{IsFirstByte, is_byte};
 
 use crate::errors::Stop;
+use crate::helper::count_while;
 use crate::parser::Parser;
 use crate::source::Source;
 use memchr::memchr;
@@ -23,11 +26,26 @@ pub enum Level {
     Resource = 3,
 }
 
+// A line's end is mostly near: so far it is looked for byte by byte, which takes less time than a call of memchr.
+const NEAR: usize = 16;
+
+// Where the first line feed stands.
+fn line_feed(rest: &[u8]) -> Option<usize>
+    ensures { IsFirstByte (is_byte Byte.line_feed) rest.now result }
+{
+    let most = NEAR.min(rest.len());
+    let near = count_while(&rest[..most], |b| b != b'\n');
+    if near < most {
+        return Some(near);
+    }
+    Some(most + memchr(b'\n', &rest[most..])?)
+}
+
 // How long a line's text is, which ends before a line feed, before a CRLF, or with the source.
 fn line_length(rest: &[u8]) -> usize
     ensures { result ≡ line_length rest.now }
 {
-    match memchr(b'\n', rest) {
+    match line_feed(rest) {
         Some(end) if rest[..end].last() == Some(&b'\r') => end - 1,
         Some(end) => end,
         None => rest.len(),
@@ -50,10 +68,14 @@ impl Source<'_> {
         }
     }
 
-    // To the end of a line's text.
-    fn get_comment_line(&mut self)
+    // To the end of a line's text; it is known whether the line is empty.
+    fn get_comment_line(&mut self, empty: bool)
+        requires { empty ≡ true → is_eol (rest self.old) ≡ true }
         ensures { Passes self.old self.new (line_length (rest self.old)) }
     {
+        if empty {
+            return;
+        }
         self.ptr += line_length(&self.bytes[self.ptr..]);
     }
 
@@ -78,14 +100,15 @@ fn is_over(level: Option<Level>, line_level: Option<Level>) -> bool
 }
 
 impl Parser<'_, '_, '_> {
-    // A line of a comment, after its '#' and the space that follows them.
-    fn put_comment_line(&mut self)
-        requires { Holds self.old.tree.now 2 }
+    // A line of a comment, after its '#' and the space that follows them; it is known whether the line is empty.
+    fn put_comment_line(&mut self, empty: bool)
+        requires room { Holds self.old.tree.now 2 }
+        requires ends { empty ≡ true → is_eol (rest self.old.source) ≡ true }
         ensures same { self.new.tree.ghost_name ≡ self.old.tree.ghost_name }
         ensures reads { LineRead self.old self.new }
     {
         let start = self.source.ptr;
-        self.source.get_comment_line();
+        self.source.get_comment_line(empty);
         self.tree.text(Kind::CommentLine, start, self.source.ptr);
         self.source.skip_line_end();
     }
@@ -107,14 +130,15 @@ impl Parser<'_, '_, '_> {
             if self.source.ptr == self.source.bytes.len() {
                 return Ok(line_level);
             }
-            if !self.source.is_eol() && !self.source.take_byte_if(b' ') {
+            let empty = self.source.is_eol();
+            if !empty && !self.source.take_byte_if(b' ') {
                 if level.is_none() {
                     return self.source.error(ErrorKind::ExpectedToken(b' '));
                 }
                 self.source.ptr = start;
                 return Ok(level);
             }
-            self.put_comment_line();
+            self.put_comment_line(empty);
             level = line_level;
         }
     }

@@ -2,11 +2,11 @@
 ghost use Rattle.std.specs.Prelude.{◌≡◌, ◌≤◌, ◌||◌, length, drop, ◌==◌};
 ghost use Rattle.syntax.specs.Byte as Byte;
 ghost use Rattle.utf8.specs.Utf8.{width_of_first};
-ghost use Rattle.syntax.specs.Bytes.{starts_with, starts, run, all, is_letter, is_digit, is_name_part, is_callee_part};
+ghost use Rattle.syntax.specs.Bytes.{starts_with, starts, eol, run, all, is_letter, is_digit, is_name_part, is_callee_part};
 ghost use Rattle.syntax.specs.Helper.{take_byte_if, skip_blank, skip_blank_block, expect_byte, skip_digits, skip_eol, skip_blank_inline};
 ghost use Rattle.syntax.specs.Helper.{number, skip_unicode_escape_sequence};
 ghost use Rattle.syntax.specs.Pattern.{is_continuation};
-ghost use Rattle.entry.specs.Place.{Tests, Starting, Counted, Went, is_eol, line_end};
+ghost use Rattle.entry.specs.Place.{Tests, Starting, Counted, Went, is_eol, line_end, blank_width};
 ghost use Rattle.entry.specs.Reads.{rest, Passes, Skips, Goes, Finds};
 
 use crate::border::BlankBlock;
@@ -50,11 +50,23 @@ pub fn is_callee(name: &[u8]) -> bool
 }
 
 // How many bytes at the start pass a test.
-fn count_while<F: Fn(u8) -> bool>(bytes: &[u8], test: F) -> usize
+pub(crate) fn count_while<F: Fn(u8) -> bool>(bytes: &[u8], test: F) -> usize
     requires { F.IsAlwaysCallable test }
     ensures { Counted (F.post test) bytes.now result }
 {
     bytes.iter().position(|&b| !test(b)).unwrap_or(bytes.len())
+}
+
+// How long the blank is that stands at the start, a space or a line end; 0 where none does.
+#[tactic(auto, unfolding(crate::specs::Place::blank_width, syntax::specs::Bytes::eol, syntax::specs::Bytes::starts_with))]
+fn blank_length(bytes: &[u8]) -> usize
+    ensures { result ≡ blank_width bytes.now }
+{
+    match bytes {
+        [b' ' | b'\n', ..] => 1,
+        [b'\r', b'\n', ..] => 2,
+        _ => 0,
+    }
 }
 
 // How long the line end is that stands at the start, if one does.
@@ -69,19 +81,51 @@ fn eol_length(bytes: &[u8]) -> Option<usize>
     }
 }
 
+// Whether this byte stands at a place.
+fn is_byte_at(source: &[u8], at: usize, b: u8) -> bool
+    ensures { Tests (starts_with b) source.now at result }
+{
+    source.get(at).is_some_and(|&x| x == b)
+}
+
+// How long the line end is that stands at a place, 0 where none does. By place, and no Option: with `eol_length` blank lines took half as
+// long again.
+fn eol_width(source: &[u8], at: usize) -> usize
+    requires { at ≤ length source.now }
+    ensures { result ≡ eol (drop at source.now) }
+{
+    if is_byte_at(source, at, b'\n') {
+        return 1;
+    }
+    if !is_byte_at(source, at, b'\r') {
+        return 0;
+    }
+    if is_byte_at(source, at + 1, b'\n') {
+        2
+    } else {
+        0
+    }
+}
+
 // Past blank lines, in a source of any length.
 pub(crate) fn blank_block(source: &[u8], at: usize) -> BlankBlock
     requires { at ≤ length source.now }
     ensures { Went source.now at (skip_blank_block (drop at source.now)) result.count result.end }
 {
     let mut end = at;
+    let mut next = at;
     let mut count = 0;
     loop {
-        let line_end = end + count_while(&source[end..], is_space);
-        let Some(n) = eol_length(&source[line_end..]) else {
+        if is_byte_at(source, next, b' ') {
+            next += 1;
+            continue;
+        }
+        let n = eol_width(source, next);
+        if n == 0 {
             return BlankBlock { end, count };
-        };
-        end = line_end + n;
+        }
+        next += n;
+        end = next;
         count += 1;
     }
 }
@@ -170,7 +214,15 @@ impl Source<'_> {
     pub(crate) fn skip_blank(&mut self)
         ensures { Goes self.old self.new (skip_blank (rest self.old)) tt }
     {
-        while self.take_byte_if(b' ') || self.skip_eol() {}
+        let mut ptr = self.ptr;
+        loop {
+            let n = blank_length(&self.bytes[ptr..]);
+            if n == 0 {
+                break;
+            }
+            ptr += n;
+        }
+        self.ptr = ptr;
     }
 
     // Answers how many line ends it passed.

@@ -2,6 +2,8 @@
 
 -- tests on bytes; sources that end in a newline, and what follows a cut
 pub mod Bytes
+-- std's tests on a byte are the grammar's
+pub mod Ascii
 -- moving up composes and distributes; sequencing associates
 pub mod Moving
 -- what holds of an answer, by its parts

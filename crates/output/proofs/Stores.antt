@@ -1,10 +1,10 @@
 -- Bytes stored where there is room for them.
-use Prim.Native.Nat.{ℕ, zero, suc, ◌+◌, ◌-◌, ◌≤◌}
+use Prim.Native.Nat.{ℕ, zero, suc, ◌+◌, ◌-◌, ◌≤◌, ◌<◌}
 use native.Mathlib.Omega.{arith}
 use mathlib.Core.Path.{◌≡◌, refl, sym, ap, ◌∙◌}
-use mathlib.Core.List.{List, [], ◌∷◌, ◌++◌, append_assoc}
-use lib.ListN.{length, take, drop, set, replicate, length-set, length-replicate, replicate-append-replicate}
-use lib.Seq.{sets, sets-eq, set_out, take-nil, length-sets, length-take-le}
+use mathlib.Core.List.{List, [], ◌∷◌, ◌++◌, append_assoc, append-nil}
+use lib.ListN.{length, take, drop, set, get_or, replicate, drop_of_length-le, length-set, length-replicate, replicate-append-replicate}
+use lib.Seq.{sets, sets-eq, set_out, take-nil, take-add, drop-cons, length-sets, length-take-le}
 use borrow.Rule.Slice.PartMut.{put_mid}
 use Rattle.std.proofs.lemmas.List.{drop-drop}
 use Rattle.laws.specs.Sets.{sets-append}
@@ -19,6 +19,25 @@ sets-room : (l : List ℕ) (i n : ℕ) (xs : List ℕ) → length l ≤ i + n �
 sets-room l i n [] h = ap (λ t. sets l i t) (take-nil n)
 sets-room l i zero (x ∷ xs) h = sym (sets-past l i (x ∷ xs) (omega arith))
 sets-room l i (suc n) (x ∷ xs) h = sets-room (set l i x) (suc i) n xs (omega (arith, length-set l i x))
+
+-- some more after the first n, and one more
+pub sets_more : (l : List ℕ) (i : ℕ) (xs : List ℕ) (n m : ℕ) → n ≤ length xs
+    → sets (sets l i (take n xs)) (i + n) (take m (drop n xs)) ≡ sets l i (take (n + m) xs)
+sets_more l i xs n m h =
+    ap (λ k. sets (sets l i (take n xs)) (i + k) (take m (drop n xs))) (sym (length-take-le n xs h))
+    ∙ sets-append l i (take n xs) (take m (drop n xs))
+    ∙ ap (λ t. sets l i t) (sym (take-add n m xs))
+
+pub sets-one : (l : List ℕ) (i : ℕ) (xs : List ℕ) (n : ℕ) → n < length xs
+    → set (sets l i (take n xs)) (i + n) (get_or xs n 0) ≡ sets l i (take (n + 1) xs)
+sets-one l i xs n h =
+    ap (λ t. sets (sets l i (take n xs)) (i + n) (take 1 t)) (sym (drop-cons xs n 0 h)) ∙ sets_more l i xs n 1 (omega arith)
+
+-- all of a list, overwritten
+pub sets_all : (l xs : List ℕ) → length l ≡ length xs → sets l 0 xs ≡ xs
+sets_all l xs e =
+    let z : length l ≤ 0 + length xs = omega arith in
+    sets-eq xs l 0 (omega arith) ∙ ap (λ d. xs ++ d) (drop_of_length-le l z) ∙ append-nil xs
 
 -- a part of the output, overwritten
 pub stored-part : (l : List ℕ) (i k : ℕ) (xs : List ℕ) → length xs ≡ k → i + k ≤ length l → put_mid i k l xs ≡ sets l i xs

@@ -17,6 +17,16 @@ pub struct Output<'a> {
     pub at: usize,
 }
 
+// Copies bytes. By index: for `copy_from_slice` an archive for C would need memmove, and of bytes passed by `iter_mut` nothing is known.
+fn copy(bytes: &mut [u8], item: &[u8])
+    requires { length bytes.old ≡ length item.now }
+    ensures { bytes.new ≡ item.now }
+{
+    for i in 0..item.len() {
+        bytes[i] = item[i];
+    }
+}
+
 impl<'a> Output<'a> {
     pub fn new(bytes: &'a mut [u8]) -> Output<'a>
         ensures same_reference { result.bytes.ghost_name ≡ bytes.entry.ghost_name }
@@ -44,10 +54,10 @@ impl<'a> Output<'a> {
     {
         let end = self.at.saturating_add(item.len());
         if end <= self.bytes.len() {
-            self.bytes[self.at..end].copy_from_slice(item);
+            copy(&mut self.bytes[self.at..end], item);
         } else if self.at < self.bytes.len() {
             let room = self.bytes.len() - self.at;
-            self.bytes[self.at..].copy_from_slice(&item[..room]);
+            copy(&mut self.bytes[self.at..], &item[..room]);
         }
     }
 

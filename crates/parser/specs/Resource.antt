@@ -104,7 +104,9 @@ junk_till k s = k + to_next_entry (line_starts_at k s) (drop k s)
 pub record Listed (f : ParserError) (a z : ℕ) (x y : Resource) : Type 0 where
   pub same : Same x y
   pub tree : y.tree.now ≡ x.tree.now
+  pub at : y.at ≡ x.at
   pub marks : y.marks ≡ x.marks
+  pub comment : y.comment ≡ x.comment
   pub error_count : y.error_count ≡ x.error_count + 1
   pub list : ErrorStep (length x.source.now) x.error_count x.errors.now y.errors.now (with_junk f a z ∷ [])
 

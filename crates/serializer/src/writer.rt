@@ -100,6 +100,7 @@ impl TextWriter {
         self.write_bytes(output, b"\n");
     }
 
+    #[inline(always)]
     pub fn write_literal(&mut self, output: &mut [u8], item: &[u8])
         requires { Room (place_of self.old) (literal item.now) }
         ensures { HasWritten output.old output.new self.old self.new (literal item.now) }

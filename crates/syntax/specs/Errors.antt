@@ -1,7 +1,7 @@
 -- errors.rs: the number and the arguments of each error, as docs/CALLS.md has them, and moving errors up.
 use Rattle.std.specs.Prelude.{ℕ, ◌+◌}
 pub use Rattle.syntax.specs.declared.errors.CharRange.{CharRange}
-pub use Rattle.syntax.specs.declared.errors.CharRange.TheVariants.{Letters, LineEnd, Digits}
+pub use Rattle.syntax.specs.declared.errors.CharRange.TheVariants.{Letters, LineEnd, Digits, Other}
 pub use Rattle.syntax.specs.declared.errors.ErrorKind.{ErrorKind}
 pub use Rattle.syntax.specs.declared.errors.ErrorKind.TheVariants.{
   ExpectedToken,
@@ -29,11 +29,12 @@ pub use Rattle.syntax.specs.declared.errors.ErrorKind.TheVariants.{
 pub use Rattle.syntax.specs.declared.errors.ParserError.{ParserError}
 use Rattle.syntax.specs.declared.errors.KindWords.{KindWords}
 
--- the codes of "a-zA-Z", a line end and "0-9"
+-- the codes of "a-zA-Z", a line end and "0-9"; any other stands for itself
 abbrev pub code_of : CharRange → ℕ
 code_of Letters = 1
 code_of LineEnd = 2
 code_of Digits = 3
+code_of (Other code) = code
 
 -- the number of a kind, in the order of `ErrorKind`, and its two arguments
 abbrev pub words_of : ErrorKind → KindWords

@@ -1,13 +1,27 @@
 // errors.rs: what is wrong with an entry, and where.
 ghost use Rattle.std.specs.Prelude.{◌≡◌};
-ghost use Rattle.syntax.specs.Errors.{words_of};
+ghost use Rattle.syntax.specs.Errors.{code_of, words_of};
 
-// A range of characters that was wanted, with its code: "a-zA-Z", a line end, "0-9".
+// A range of characters that was wanted: "a-zA-Z", a line end, "0-9"; or one of another code, which no reading names.
 #[derive(Clone, Copy, Debug, PartialEq, Eq)]
 pub enum CharRange {
-    Letters = 1,
-    LineEnd = 2,
-    Digits = 3,
+    Letters,
+    LineEnd,
+    Digits,
+    Other(u8),
+}
+
+impl CharRange {
+    fn code(self) -> u8
+        ensures { result ≡ code_of self }
+    {
+        match self {
+            CharRange::Letters => 1,
+            CharRange::LineEnd => 2,
+            CharRange::Digits => 3,
+            CharRange::Other(code) => code,
+        }
+    }
 }
 
 // A byte or a range of characters that was wanted, or the span of a name or an escape in the source.
@@ -99,7 +113,7 @@ impl ErrorKind {
             ErrorKind::ExpectedToken(byte) | ErrorKind::UnknownEscapeSequence(byte) => {
                 (u32::from(byte), 0)
             }
-            ErrorKind::ExpectedCharRange(range) => (range as u32, 0),
+            ErrorKind::ExpectedCharRange(range) => (u32::from(range.code()), 0),
             ErrorKind::ExpectedMessageField(start, end)
             | ErrorKind::ExpectedTermField(start, end)
             | ErrorKind::DuplicatedNamedArgument(start, end)

@@ -152,19 +152,27 @@ ascii-boundary s k e h l =
     let q = boundary-next s k e g h in
     (g, rw (q.1, f.0) at q.0)
 
-scan-append : (s t : List ℕ) (m : ℕ) → m ≤ length s → scan m s ≡ none → scan 0 t ≡ none → scan m (s ++ t) ≡ none
-scan-append [] t zero h e f = f
-scan-append [] t (suc m) h e f = absurd (not-suc-le-zero h)
-scan-append (x ∷ s) t zero h e f =
+-- past what is read without a fault, the faults are those of what follows
+scan-onward : (s t : List ℕ) (m : ℕ) → m ≤ length s → scan m s ≡ none → scan m (s ++ t) ≡ moved (length s) (scan 0 t)
+unfolding scan
+scan-onward [] t zero h e = moved-zero (scan 0 t)
+scan-onward [] t (suc m) h e = absurd (not-suc-le-zero h)
+scan-onward (x ∷ s) t zero h e =
     let p = scan-none x s e in
     let w = p.0 in
-    scan-start x (s ++ t) w (read-append x s t w p.1) (scan-append s t w (read-within x s w p.1) p.2 f)
-scan-append (x ∷ s) t (suc m) h e f = scan-more x (s ++ t) m (scan-append s t m (le_of_suc-le-suc h) (scan-skip x s m e) f)
+    scan-read x (s ++ t) w (read-append x s t w p.1) ∙ ap (map suc) (scan-onward s t w (read-within x s w p.1) p.2)
+    ∙ moved-suc (length s) (scan 0 t)
+scan-onward (x ∷ s) t (suc m) h e =
+    ap (map suc) (scan-onward s t m (le_of_suc-le-suc h) (scan-skip x s m e)) ∙ moved-suc (length s) (scan 0 t)
+
+pub formed-onward : (s t : List ℕ) → WellFormed s → first_ill_formed (s ++ t) ≡ moved (length s) (first_ill_formed t)
+unfolding first_ill_formed
+formed-onward s t e = scan-onward s t 0 (omega arith) e
 
 -- well-formed sources in a row
 pub append-formed : (s t : List ℕ) → WellFormed s → WellFormed t → WellFormed (s ++ t)
 unfolding first_ill_formed
-append-formed s t e f = scan-append s t 0 (omega arith) e f
+append-formed s t e f = formed-onward s t e ∙ ap (moved (length s)) f
 
 edge-dropped : (s : List ℕ) (k j : ℕ) → Edge s (k + j) → Edge (drop k s) j
 edge-dropped s zero j g = rw zero-add at g

@@ -1,5 +1,5 @@
 -- UTF-8, from table 3-7 of the Unicode Standard, "Well-Formed UTF-8 Byte Sequences". A source is the list of its bytes.
-use Rattle.std.specs.Prelude.{ℕ, zero, suc, ◌+◌, ◌≡◌, Bool, true, false, not, List, [], ◌∷◌, leb, ltb, eqb, length, get_or, Result, Ok, Err}
+use Rattle.std.specs.Prelude.{ℕ, zero, suc, ◌+◌, ◌≤◌, ◌≡◌, Bool, true, false, not, List, [], ◌∷◌, leb, ltb, eqb, length, get_or, drop, Result, Ok, Err}
 use Rattle.std.proofs.Math.Option.{Option, none, some, map}
 use Rattle.utf8.specs.declared.Utf8Error.{Utf8Error}
 
@@ -73,6 +73,15 @@ first_ill_formed s = scan 0 s
 -- an offset, counted from k bytes before
 abbrev pub moved : ℕ → Option ℕ → Option ℕ
 moved k o = map (λ n. k + n) o
+
+-- how many bytes stand before the first fault, or in all
+unfoldable pub valid_length : List ℕ → ℕ
+valid_length s = elim (first_ill_formed s) [ none ↦ length s | some n ↦ n ]
+
+-- what there is to find in s is found from `at` on
+pub record FoundFrom (s : List ℕ) (at : ℕ) : Type 0 where
+  pub inside : at ≤ length s
+  pub found : first_ill_formed s ≡ moved at (first_ill_formed (drop at s))
 
 abbrev pub WellFormed : List ℕ → Type 0
 WellFormed s = first_ill_formed s ≡ none

@@ -1,8 +1,8 @@
 // UTF-8: whether bytes are well formed, and where a character starts.
 #![tactic(auto)]
 
-ghost use Rattle.std.specs.Prelude.{◌≡◌};
-ghost use Rattle.utf8.specs.Utf8.{first_ill_formed, is_boundary, checked_of};
+ghost use Rattle.std.specs.Prelude.{◌≡◌, ◌≤◌, ◌<◌};
+ghost use Rattle.utf8.specs.Utf8.{first_ill_formed, is_boundary, checked_of, valid_length};
 
 use simdutf8::compat::from_utf8;
 
@@ -12,16 +12,33 @@ pub struct Utf8Error {
     pub valid_up_to: usize,
 }
 
-// Whether the source is well formed.
+// How many bytes are looked at in one go: simdutf8 tells a fault only when it has seen all that it is given.
+const WINDOW: usize = 1024;
+
+// How many bytes stand before the first fault, or in all.
+fn valid_length(bytes: &[u8]) -> usize
+    ensures { result ≡ valid_length bytes.now }
+{
+    match from_utf8(bytes) {
+        Ok(_) => bytes.len(),
+        Err(fault) => fault.valid_up_to(),
+    }
+}
+
+// Whether the source is well formed. A window that ends inside a character is followed by one that starts with it.
 pub fn check(source: &[u8]) -> Result<(), Utf8Error>
     ensures { result ≡ checked_of (first_ill_formed source.now) }
 {
-    match from_utf8(source) {
-        Ok(_) => Ok(()),
-        Err(fault) => Err(Utf8Error {
-            valid_up_to: fault.valid_up_to(),
-        }),
+    let mut at = 0;
+    while at < source.len() {
+        let end = source.len().min(at + WINDOW);
+        let valid = valid_length(&source[at..end]);
+        if valid == 0 {
+            return Err(Utf8Error { valid_up_to: at });
+        }
+        at += valid;
     }
+    Ok(())
 }
 
 // Rust's `is_char_boundary`, of bytes.

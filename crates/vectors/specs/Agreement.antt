@@ -1,5 +1,5 @@
 -- When the reading call agrees with a case.
-use Rattle.std.specs.Prelude.{ℕ, ◌+◌, ◌*◌, ◌≤◌, ◌≡◌, Bool, true, List, ◌∷◌, ◌++◌, length, replicate}
+use Rattle.std.specs.Prelude.{ℕ, ◌+◌, ◌*◌, ◌≤◌, ◌≡◌, Bool, true, false, Option, Some, None, Result, Ok, Err, List, ◌∷◌, ◌++◌, length, replicate}
 use Rattle.syntax.specs.Answer.{Answer, number_of, value_of, slice_after}
 use Rattle.syntax.specs.Layout.{array, tree_capacity, group_size}
 use Rattle.syntax.specs.Reading.{read_answer, tree_after, errors_after}
@@ -103,3 +103,15 @@ pub record Fits (c : Case) (s l t e : ℕ) : Type 0 where
 pub record Replayed (c : Case) (before after listing : List ℕ) (r : Bool) : Type 0 where
   pub repeats : Repeats c.stored (between 0 c.length before) (between 0 c.length after)
   pub agrees : Tells r (Agrees c (between 0 c.length after) (between 0 (listed c) listing) c.tree c.errors)
+
+-- whether a file is over, and how many cases differ in a turn: a case is the same or differs, none is left, or one can't be read
+abbrev pub over : {E : Type 0} → Result (Option Bool) E → Bool
+over (Ok None) = true
+over (Ok (Some same)) = false
+over (Err e) = true
+
+abbrev pub differing : {E : Type 0} → Result (Option Bool) E → ℕ
+differing (Ok None) = 0
+differing (Ok (Some true)) = 0
+differing (Ok (Some false)) = 1
+differing (Err e) = 0

@@ -3,7 +3,8 @@
 // name the files, which compare/vectors.py and compare/texts.py make.
 #![tactic(auto)]
 
-ghost use Rattle.std.specs.Prelude.{◌≤◌, IfOk};
+ghost use Rattle.std.specs.Prelude.{◌≡◌, ◌≤◌, IfOk};
+ghost use Rattle.vectors.specs.Agreement.{over, differing};
 
 mod compare;
 mod replay;
@@ -38,8 +39,34 @@ impl fmt::Display for Tally {
     }
 }
 
-// Replays the cases of a file up to its end, or to one that can't be read; cases count from 0. Reports that one, and each that
-// differs.
+// What came of the next case of a file: whether it is the same, that the file is at its end, or that the case can't be read: it is
+// not whole, or too long for the room.
+type Turn = io::Result<Option<bool>>;
+
+// Whether the file is over.
+fn is_over(turn: &Turn) -> bool
+    ensures { result ≡ over turn.now }
+{
+    !matches!(turn, Ok(Some(_)))
+}
+
+// How many cases differ in this turn.
+fn count_different(turn: &Turn) -> u64
+    ensures { (result ≡ differing turn.now) × (result ≤ 1) }
+{
+    u64::from(matches!(turn, Ok(Some(false))))
+}
+
+// Reports a case that ends its file before the end, and one that differs.
+fn report(rt: &impl Print, turn: &Turn, case: u64) -> io::Result<()> {
+    match turn {
+        Ok(Some(false)) => println!(rt; "different: {case}"),
+        Ok(_) => Ok(()),
+        Err(_) => println!(rt; "unreadable: {case}"),
+    }
+}
+
+// Replays the cases of a file up to its end, or to one that can't be read; cases count from 0.
 fn replay_all<const N: usize, C: Stored<N>, R: Read>(
     rt: &impl Print,
     file: &mut R,
@@ -49,18 +76,12 @@ fn replay_all<const N: usize, C: Stored<N>, R: Read>(
 {
     let mut different = 0;
     for cases in 0..u64::MAX {
-        match replay_next::<N, C, R>(file, room) {
-            Ok(Some(true)) => {}
-            Ok(Some(false)) => {
-                println!(rt; "different: {cases}")?;
-                different += 1;
-            }
-            Ok(None) => return Ok(Tally { cases, different }),
-            Err(_) => {
-                println!(rt; "unreadable: {cases}")?;
-                return Ok(Tally { cases, different });
-            }
+        let turn = replay_next::<N, C, R>(file, room);
+        report(rt, &turn, cases)?;
+        if is_over(&turn) {
+            return Ok(Tally { cases, different });
         }
+        different += count_different(&turn);
     }
     Ok(Tally {
         cases: u64::MAX,

@@ -1,5 +1,5 @@
 -- `compare::is_left` meets its contract, by the answer.
-use mathlib.Core.Path.{sym, ap, ◌∙◌}
+use mathlib.Core.Path.{sym}
 use Rattle.std.specs.Prelude.{Err, ◌≡◌}
 use Rattle.syntax.specs.declared.answer.Refusal.TheVariants.{TooDeep}
 use Rattle.std.proofs.Common.{rules}

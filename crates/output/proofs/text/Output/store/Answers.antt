@@ -8,14 +8,14 @@ pub returns-then-end-self-clause-stored : goal.returns-then-end-self-clause-stor
 returns-then-end-self-clause-stored c =
     let start = c.args.self.now in
     let k = c.saturating_add-end.result - start.at in
-    ap (λ xs. put_mid start.at k start.bytes.now xs) c.copy_from_slice.ensures.after
+    ap (λ xs. put_mid start.at k start.bytes.now xs) c.copy.ensures
     ∙ stored-part start.bytes.now start.at k c.args.item.now (omega (arith, c.saturating_add-end.ensures)) (omega (arith, c.saturating_add-end.ensures))
 
 pub returns-then-self-clause-stored : goal.returns-then-self-clause-stored
 returns-then-self-clause-stored c =
     let start = c.args.self.now in
     let k = length start.bytes.now - start.at in
-    ap (λ xs. put_mid start.at k start.bytes.now xs) c.copy_from_slice-then-self.ensures.after
+    ap (λ xs. put_mid start.at k start.bytes.now xs) c.copy-then-self.ensures
     ∙ stored-rest start.bytes.now start.at k c.args.item.now (omega arith) (omega (arith, c.saturating_add-end.ensures))
 
 pub returns-else-self-clause-stored : goal.returns-else-self-clause-stored

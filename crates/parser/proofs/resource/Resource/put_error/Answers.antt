@@ -10,7 +10,9 @@ returns c =
     record {
       same = record { source = refl; tree = refl; errors = refl };
       tree = refl;
+      at = refl;
       marks = refl;
+      comment = refl;
       error_count = refl;
       list =
           error-written _ _ _ c.requires.spare (with_junk a.e a.junk_start a.junk_end) _ _ _ _ c.words-words.ensures
