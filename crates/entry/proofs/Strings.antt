@@ -18,7 +18,7 @@ use Rattle.syntax.specs.Marks.{move_up}
 use Rattle.syntax.specs.Reader.{ok, bad, fail, after, Turn, again, done, turn_of, repeat}
 use Rattle.syntax.specs.Helper.{skip_unicode_escape_sequence}
 use Rattle.syntax.specs.Expression.{escape_turn, string_turn}
-use Rattle.laws.specs.Ascii.{hex-ascii}
+use Rattle.laws.specs.Ascii.{hex-std}
 use Rattle.laws.specs.Bytes.{by_case, clash, run-le}
 use Rattle.laws.specs.Loop.Turns.{string_turn-moves}
 use Rattle.utf8.specs.Utf8.{width_of_first}
@@ -79,7 +79,7 @@ pub passed-hex : (len m : ℕ) {s : List ℕ} {at n : ℕ} → at ≤ length s �
 passed-hex len m {s} {at} {n} l k h =
     let d : length (drop at s) ≡ length s - at = length-drop at s in
     let q : length (drop at s) ≤ length s - at = omega arith in
-    let f : run is_hex (take m (drop at s)) ≡ n = rw (take_all (length s - at) (drop at s) q) at (run-counted is_hex (counted-by is_hex (λ b r e. e ∙ hex-ascii b) h)) in
+    let f : run is_hex (take m (drop at s)) ≡ n = rw (take_all (length s - at) (drop at s) q) at (run-counted is_hex (counted-by is_hex (λ b r e. e ∙ hex-std b) h)) in
     let e = run_take is_hex m (drop at s) in
     let w = run-le is_hex (drop at s) in
     record { end = omega arith; within = omega arith }

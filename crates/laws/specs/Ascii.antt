@@ -5,19 +5,19 @@ use Rattle.std.specs.Int.{is_in_range}
 use Rattle.std.proofs.Math.Bool.{or_assoc}
 use Rattle.syntax.specs.Bytes.{is_upper, is_letter, is_digit, is_hex}
 
-pub upper-ascii : (b : ℕ) → is_ascii_uppercase b ≡ is_upper b
+pub upper-std : (b : ℕ) → is_ascii_uppercase b ≡ is_upper b
 unfolding is_upper
-upper-ascii b = refl
+upper-std b = refl
 
-pub letter-ascii : (b : ℕ) → is_ascii_alphabetic b ≡ is_letter b
+pub letter-std : (b : ℕ) → is_ascii_alphabetic b ≡ is_letter b
 unfolding is_letter
-letter-ascii b = refl
+letter-std b = refl
 
-pub digit-ascii : (b : ℕ) → is_ascii_digit b ≡ is_digit b
+pub digit-std : (b : ℕ) → is_ascii_digit b ≡ is_digit b
 unfolding is_digit
-digit-ascii b = refl
+digit-std b = refl
 
 -- std groups the cases otherwise
-pub hex-ascii : (b : ℕ) → is_ascii_hexdigit b ≡ is_hex b
+pub hex-std : (b : ℕ) → is_ascii_hexdigit b ≡ is_hex b
 unfolding is_hex is_digit
-hex-ascii b = or_assoc (is_in_range 48 57 b) (is_in_range 65 70 b) (is_in_range 97 102 b)
+hex-std b = or_assoc (is_in_range 48 57 b) (is_in_range 65 70 b) (is_in_range 97 102 b)
