@@ -5,7 +5,7 @@ use mathlib.Core.Path.{refl, sym, ap, ◌∙◌}
 use native.Mathlib.Numerals.{add-one}
 use native.Mathlib.Omega.{arith}
 use lib.ListN.{drop_of_length-le, length-drop}
-use lib.Seq.{drop-cons, take_all}
+use lib.Seq.{drop-cons}
 use Rattle.syntax.specs.Byte as Byte
 use Rattle.syntax.specs.Bytes.{run, spaces, eol, starts_with}
 use Rattle.syntax.specs.Reader.{ok, again, done}
@@ -14,6 +14,7 @@ use Rattle.std.proofs.lemmas.Bool.{false≢true}
 use Rattle.laws.specs.Bytes.{by_case, eol-le}
 use Rattle.laws.specs.Loop.Turns.{blank_turn-moves}
 use Rattle.entry.specs.Place.{Passed, Went, blank_width}
+use Rattle.entry.proofs.Lines.{all-left}
 use Rattle.entry.proofs.Turns.{Turning, turning-more, turning-block, went-block, went-turns, blank-space, blank-eol, blank-done}
 
 -- all bytes from i up to next are spaces
@@ -101,7 +102,7 @@ blank-end x e =
 -- the code looks at the rest of the source
 module _ {s : List ℕ} {at i k : ℕ} (t : Turning blank_turn s at tt i tt) (e : k ≡ blank_width (take (length s - i) (drop i s))) where
   width : k ≡ blank_width (drop i s)
-  width = let q : length (drop i s) ≤ length s - i = omega (arith, length-drop i s) in e ∙ ap blank_width (take_all (length s - i) (drop i s) q)
+  width = e ∙ ap blank_width (all-left s i)
 
   pub blanks-on : 0 < k → Turning blank_turn s at tt (i + k) tt
   blanks-on l =

@@ -1,14 +1,13 @@
 -- Runs of bytes that pass a test, as the code counts them.
-use Rattle.std.specs.Prelude.{◌≡◌, ◌==◌, ℕ, zero, suc, ◌+◌, ◌-◌, ◌<◌, ◌≤◌, min, Bool, true, false, List, [], ◌∷◌, length, get_or, take, drop}
+use Rattle.std.specs.Prelude.{◌≡◌, ℕ, zero, suc, ◌-◌, ◌<◌, ◌≤◌, min, Bool, true, false, List, [], ◌∷◌, length, get_or, take, drop}
 use Rattle.std.specs.Bool.{MatchBool}
 use Rattle.std.specs.List.{AllWithin, HoldsAt}
 use mathlib.Core.Path.{refl, sym, ap}
 use native.Mathlib.Omega.{arith}
 use lib.ListN.{length-drop}
 use lib.Seq.{take_all}
-use Rattle.syntax.specs.Byte as Byte
-use Rattle.syntax.specs.Bytes.{run, spaces, all}
-use Rattle.laws.specs.Bytes.{by_case, run-le}
+use Rattle.syntax.specs.Bytes.{run, all}
+use Rattle.laws.specs.Bytes.{by_case}
 use Rattle.entry.specs.declared.source.Source.{Source}
 use Rattle.entry.specs.Place.{Passed, Counted}
 use Rattle.entry.specs.Reads.{rest, Skips}
@@ -40,19 +39,6 @@ counted-rest s at h =
     let d : length (drop at s) ≡ length s - at = length-drop at s in
     let q : length (drop at s) ≤ length s - at = omega arith in
     rw (take_all (length s - at) (drop at s) q) at h
-
-pub passed-run : (p : ℕ → Bool) {s : List ℕ} {at n : ℕ} → at ≤ length s
-    → Counted (λ b r. r ≡ p b) (take (length s - at) (drop at s)) n → Passed s at (run p (drop at s)) (at + n)
-passed-run p {s} {at} {n} l h =
-    let d : length (drop at s) ≡ length s - at = length-drop at s in
-    let e = run-counted p (counted-rest s at h) in
-    let w = run-le p (drop at s) in
-    record { end = omega (arith, e); within = omega (arith, e) }
-
-pub passed-spaces : {s : List ℕ} {at n : ℕ} → at ≤ length s
-    → Counted (λ b r. r ≡ (b == Byte.space)) (take (length s - at) (drop at s)) n → Passed s at (spaces (drop at s)) (at + n)
-unfolding spaces
-passed-spaces l h = passed-run (λ b. b == Byte.space) l h
 
 -- what skip_while passed, by a test that answers by p
 pub skips-run : (p : ℕ → Bool) {answers : ℕ → Bool → Type 0} {s s' : Source} {n : ℕ} → ((b : ℕ) (r : Bool) → answers b r → r ≡ p b)

@@ -1,23 +1,20 @@
 -- Loops of turns without marks: what the code's loop keeps, and how it goes on and ends.
-use Rattle.std.specs.Prelude.{◌≡◌, ℕ, suc, ◌+◌, ◌-◌, ◌<◌, ◌≤◌, Bool, true, false, ltb, List, [], length, drop}
+use Rattle.std.specs.Prelude.{◌≡◌, ℕ, suc, ◌+◌, ◌-◌, ◌<◌, ◌≤◌, true, false, ltb, List, [], length, drop}
 use native.Mathlib.Numerals.{add-one}
 use native.Mathlib.Omega.{arith}
 use mathlib.Core.Path.{sym, ap, ◌∙◌}
 use lib.Seq.{drop-drop}
-use borrow.Author.Tests.{lt-ltb, ltb-true, ltb-false}
+use borrow.Author.Tests.{lt-ltb}
 use Rattle.syntax.specs.Byte as Byte
 use Rattle.syntax.specs.Bytes.{starts_with, eol, spaces}
 use Rattle.syntax.specs.Marks.{move_up}
 use Rattle.syntax.specs.Reader.{Out, ok, after, Turn, again, done, repeat}
-use Rattle.syntax.specs.Helper.{blank_turn, block_turn, skip_blank, skip_blank_block, skip_eol, take_byte_if}
+use Rattle.syntax.specs.Helper.{blank_turn, block_turn, skip_blank_block}
 use Rattle.laws.specs.Moving.{after-after, after_none}
 use Rattle.laws.specs.Loop.{Moves, repeat-again, repeat-done}
-use Rattle.laws.specs.Loop.Turns.{blank_turn-moves, block_turn-moves}
+use Rattle.laws.specs.Loop.Turns.{block_turn-moves}
 use Rattle.entry.specs.Place.{Place, Passed, Went, Found}
-use Rattle.entry.proofs.Tests.{by}
 use Rattle.entry.proofs.Places.{went-ok, found_after}
-use Rattle.entry.proofs.Lines.{Ended, ended}
-use Rattle.entry.proofs.Moves.{took, took_one, took-none}
 
 -- the turns from `at` in the state u have come to i in the state v
 pub record Turning {S A : Type 0} (turn : S → List ℕ → Turn S A) (s : List ℕ) (at : ℕ) (u : S) (i : ℕ) (v : S) : Type 0 where
@@ -103,26 +100,3 @@ module _ {s : List ℕ} {at i n m j : ℕ} (t : Turning block_turn s at 0 i n) (
   pub went-block : j ≡ m → Went s at (skip_blank_block (drop at s)) n i
   unfolding skip_blank_block
   went-block h = went-turns t (block-done n (drop i s) (omega (arith, same-eol, q.end)))
-
-module _ {s : List ℕ} {at i j : ℕ} {r : Bool} (t : Turning blank_turn s at tt i tt) (p : Went s i (take_byte_if Byte.space (drop i s)) r j) where
-  pub turning-space : r ≡ true → Turning blank_turn s at tt j tt
-  turning-space h = turning-more blank_turn-moves t (blank-space (drop i s) (by (took Byte.space p).is h)) (took_one Byte.space p h) p.within
-
-  module _ {e : Bool} {k : ℕ} (f : r ≡ false) (q : Went s j (skip_eol (drop j s)) e k) where
-    line-ends : Ended s i e k
-    line-ends = let z : j ≡ i = took-none Byte.space p f in let g : Ended s j e k = ended q in rw z at g
-
-    pub turning-eol : e ≡ true → Turning blank_turn s at tt k tt
-    turning-eol h =
-        let l = line-ends in
-        turning-more blank_turn-moves t (blank-eol (drop i s) (by (took Byte.space p).is f) (by l.is h)) l.end q.within
-
-    pub longer-eol : e ≡ true → i < k
-    longer-eol h = let l = line-ends in omega (arith, l.end, ltb-true 0 (eol (drop i s)) (by l.is h))
-
-    pub went-blanks : e ≡ false → Went s at (skip_blank (drop at s)) tt k
-    unfolding skip_blank
-    went-blanks h =
-        let l = line-ends in
-        let z : k ≡ i = omega (arith, l.end, ltb-false 0 (eol (drop i s)) (by l.is h)) in
-        rw z (went-turns t (blank-done (drop i s) (by (took Byte.space p).is f) (by l.is h)))
