@@ -1,20 +1,19 @@
 -- Spaces and line ends, by the bytes that stand at a place.
-use Rattle.std.specs.Prelude.{◌≡◌, ℕ, suc, ◌+◌, ◌-◌, ◌<◌, ◌≤◌, true, false, ltb, eqb, List, [], ◌∷◌, length, get_or, take, drop}
+use Rattle.std.specs.Prelude.{◌≡◌, ℕ, suc, ◌+◌, ◌-◌, ◌<◌, ◌≤◌, true, false, ltb, eqb, List, [], ◌∷◌, length, get_or, drop}
 use borrow.Author.Tests.{lt-ltb, le-ltb, ltb-true, ltb-false}
-use mathlib.Core.Path.{refl, sym, ap, ◌∙◌}
+use mathlib.Core.Path.{refl, ap}
 use native.Mathlib.Numerals.{add-one}
 use native.Mathlib.Omega.{arith}
 use lib.ListN.{drop_of_length-le, length-drop}
 use lib.Seq.{drop-cons}
 use Rattle.syntax.specs.Byte as Byte
 use Rattle.syntax.specs.Bytes.{run, spaces, eol, starts_with}
-use Rattle.syntax.specs.Reader.{ok, again, done}
 use Rattle.syntax.specs.Helper.{blank_turn, block_turn, skip_blank, skip_blank_block}
 use Rattle.std.proofs.lemmas.Bool.{false≢true}
 use Rattle.laws.specs.Bytes.{by_case, eol-le}
 use Rattle.laws.specs.Loop.Turns.{blank_turn-moves}
-use Rattle.entry.specs.Place.{Passed, Went, blank_width}
-use Rattle.entry.proofs.Lines.{all-left}
+use Rattle.entry.specs.Place.{Passed, Went}
+use Rattle.entry.proofs.Lines.{past-eol}
 use Rattle.entry.proofs.Turns.{Turning, turning-more, turning-block, went-block, went-turns, blank-space, blank-eol, blank-done}
 
 -- all bytes from i up to next are spaces
@@ -80,35 +79,18 @@ module _ {s : List ℕ} {at i n next : ℕ} (t : Turning block_turn s at 0 i n) 
   pub block-went : eol (drop next s) ≡ 0 → Went s at (skip_blank_block (drop at s)) n i
   block-went e = went-block t spaced (record { end = omega (arith, e); within = p.inside }) refl
 
--- ---- skip_blank, by the width of a blank
+-- ---- skip_blank, a byte or a line end at a turn
 
-blank-le : (x : List ℕ) → blank_width x ≤ length x
-unfolding blank_width starts_with
-blank-le [] = eol-le []
-blank-le (b ∷ x) = by_case (eqb b Byte.space) (λ q. rw (q, blank_width) (omega arith)) (λ q. rw (q, blank_width) (eol-le (b ∷ x)))
+module _ {s : List ℕ} {at i : ℕ} (t : Turning blank_turn s at tt i tt) where
+  pub blanks-space : i < length s → starts_with Byte.space (drop i s) ≡ true → Turning blank_turn s at tt (i + 1) tt
+  blanks-space l h = turning-more blank_turn-moves t (blank-space (drop i s) h) refl (omega arith)
 
-blank-on : (k : ℕ) (x : List ℕ) → k ≡ blank_width x → 0 < k → blank_turn tt x ≡ again tt [] k
-unfolding blank_width
-blank-on k x e l =
-    by_case (starts_with Byte.space x) (λ q. let f : k ≡ 1 = rw (q, blank_width) at e in rw f (blank-space x q))
-    (λ q. let f : k ≡ eol x = rw (q, blank_width) at e in rw f (blank-eol x q (lt-ltb 0 (eol x) (omega (arith, f)))))
+  module _ {k : ℕ} (h : starts_with Byte.space (drop i s) ≡ false) (e : k ≡ eol (drop i s)) where
+    pub blanks-eol : 0 < k → Turning blank_turn s at tt (i + k) tt
+    blanks-eol l =
+        turning-more blank_turn-moves t (blank-eol (drop i s) h (lt-ltb 0 (eol (drop i s)) (omega (arith, e)))) (ap (λ n. i + n) e)
+        (omega (arith, past-eol s i t.inside e))
 
-blank-end : (x : List ℕ) → blank_width x ≡ 0 → blank_turn tt x ≡ done (ok tt [] 0)
-unfolding blank_width
-blank-end x e =
-    by_case (starts_with Byte.space x) (λ q. let f : 1 ≡ 0 = rw (q, blank_width) at e in absurd (omega arith))
-    (λ q. let f : eol x ≡ 0 = rw (q, blank_width) at e in blank-done x q (le-ltb 0 (eol x) (omega (arith, f))))
-
--- the code looks at the rest of the source
-module _ {s : List ℕ} {at i k : ℕ} (t : Turning blank_turn s at tt i tt) (e : k ≡ blank_width (take (length s - i) (drop i s))) where
-  width : k ≡ blank_width (drop i s)
-  width = e ∙ ap blank_width (all-left s i)
-
-  pub blanks-on : 0 < k → Turning blank_turn s at tt (i + k) tt
-  blanks-on l =
-      turning-more blank_turn-moves t (blank-on k (drop i s) width l) refl
-      (omega (arith, width, blank-le (drop i s), length-drop i s, t.inside))
-
-  pub blanks-went : k ≡ 0 → Went s at (skip_blank (drop at s)) tt i
-  unfolding skip_blank
-  blanks-went z = went-turns t (blank-end (drop i s) (sym width ∙ z))
+    pub blanks-went : k ≡ 0 → Went s at (skip_blank (drop at s)) tt i
+    unfolding skip_blank
+    blanks-went z = went-turns t (blank-done (drop i s) h (le-ltb 0 (eol (drop i s)) (omega (arith, e, z))))

@@ -1,5 +1,5 @@
 -- Readers one after the other, as a function's body has them: what its calls ensure, put together to what the definition's `do` answers.
-use Rattle.std.specs.Prelude.{◌≡◌, ℕ, ◌+◌, ◌*◌, ◌≤◌, Result, Ok, Err, List, [], ◌∷◌, length, drop}
+use Rattle.std.specs.Prelude.{◌≡◌, ℕ, ◌+◌, ◌*◌, ◌≤◌, Result, Ok, Err, List, [], ◌∷◌, ◌++◌, length, drop}
 use mathlib.Core.Path.{refl, sym, ap₂, ◌∙◌}
 use native.Mathlib.Nat.{add-zero}
 use native.Mathlib.Omega.{arith}
@@ -7,8 +7,8 @@ use Rattle.syntax.specs.Kind.{closing}
 use Rattle.syntax.specs.declared.errors.ErrorKind.{ErrorKind}
 use Rattle.syntax.specs.declared.errors.ParserError.{ParserError}
 use Rattle.syntax.specs.Errors.{up_kind, up_fault, fault_at}
-use Rattle.syntax.specs.Marks.{text_node}
-use Rattle.syntax.specs.Reader.{Out, ok, bad, deep, Reader, next, ◌>>=◌, ◌>>◌, pure, fail, wrap}
+use Rattle.syntax.specs.Marks.{Mark, text_node}
+use Rattle.syntax.specs.Reader.{Out, ok, bad, deep, Reader, after, next, ◌>>=◌, ◌>>◌, pure, fail, wrap}
 use Rattle.laws.specs.Bounds.{Bounded, used}
 use Rattle.entry.specs.declared.errors.Stop.{Stop}
 use Rattle.entry.specs.declared.errors.Stop.TheVariants.{Error, TooDeep}
@@ -20,6 +20,7 @@ use Rattle.entry.specs.Marks.{Wrote}
 use Rattle.entry.specs.Did.{yes, no, over, told, plain, silent, Did}
 use Rattle.entry.specs.Reads.{rest, Goes, Finds, Frame, ReadsOf, place_of}
 use Rattle.entry.proofs.Steps.{step-none}
+use Rattle.entry.proofs.Places.{went-ok}
 use Rattle.entry.proofs.Dids.{valued, did-next, stopped, did_pure, did-lost, lost-fail, words-none}
 use Rattle.entry.proofs.Dids.{found-wrap, found-text, step-failed, did-found}
 
@@ -196,6 +197,28 @@ reads-through {A} {B} {w = w} {v} {s} {s₁} {m} {m₁} {e} {f} h o d = record {
     go TooDeep (bad g k) d = let h = d.answers in let z : ◌≡◌ {A = ℕ} 0 1 = cc in absurd (omega arith)
     go TooDeep (deep k) d = let q = d.answers in let z : s₁.ptr ≡ s.ptr + k = cc in
         rw (h.far k) (record { answers = λ i. over (z i); wrote = d.wrote })
+
+-- marks before those of an answer
+abbrev put : {A : Type 0} → List Mark → Out A → Out A
+put ms (ok a ns k) = ok a (ms ++ ns) k
+put ms (bad f k) = bad f k
+put ms (deep k) = deep k
+
+put-after : {A : Type 0} (ms : List Mark) (k : ℕ) (o : Out A) → put ms (after [] k o) ≡ after ms k o
+unfolding after
+put-after ms k (ok a ns j) = refl
+put-after ms k (bad f j) = refl
+put-after ms k (deep j) = refl
+
+-- a reader's marks are not written before the next one fails
+pub stop-late : {A B U : Type 0} {v : B → U} {s s₁ s₂ : Source} {m m₁ : Marks} {e : Stop} {a : A} {ms : List Mark} {k : ℕ}
+    (f : Reader A) (q : A → Reader B) → f (rest s) ≡ ok a ms k → s₁.bytes ≡ s.bytes → s₁.ptr ≡ s.ptr + k
+    → ReadsOf v s₁ s₂ m m₁ (Err e) (q a (rest s₁)) → ReadsOf v s s₂ m m₁ (Err e) ((f >>= q) (rest s))
+unfolding ◌>>=◌ next
+stop-late {A} {B} {U} {v} {s} {s₁} {s₂} {m} {m₁} {e} {a} {ms} {k} f q h b p d =
+    let g : Goes s s₁ (ok a [] k) a = record { bytes = b; went = went-ok refl p (rw b at s₁.inside) } in
+    let r : ReadsOf v s s₂ m m₁ (Err e) (next (rest s) q (ok a [] k)) = reads-plain (λ _. ok a [] k) q (reads-goes g) d in
+    rw (h, ← put-after ms k (q a (drop k (rest s)))) (reads-through {f = put ms} (record { fault = λ g k. refl; far = λ k. refl }) _ r)
 
 -- an error has no value
 pub reads-error : {A T U : Type 0} {w : A → T} {v : A → U} {s s₁ : Source} {m m₁ : Marks} {e : Stop} (o : Out A)

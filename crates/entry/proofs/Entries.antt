@@ -1,5 +1,5 @@
 -- Entries: names, values, attributes, and what messages and terms have.
-use Rattle.std.specs.Prelude.{◌≡◌, ℕ, ◌+◌, ◌<◌, ◌≤◌, Bool, true, false, not, ◌||◌, eqb, Ok, Err, List, [], length, drop}
+use Rattle.std.specs.Prelude.{◌≡◌, ℕ, ◌+◌, ◌-◌, ◌<◌, ◌≤◌, Bool, true, false, not, ◌||◌, eqb, Ok, Err, List, [], length, drop}
 use mathlib.Core.Path.{refl, sym, ap, ap₂, ◌∙◌}
 use native.Mathlib.Nat.{add-zero, add_assoc}
 use native.Mathlib.Omega.{arith}
@@ -15,26 +15,28 @@ use Rattle.syntax.specs.Comment.{get_comment}
 use Rattle.syntax.specs.Core as Core
 use Rattle.syntax.specs.Core.{get_attribute, get_attributes, fields, term_fields, as_message, as_term, as_comment, get_entry}
 use Rattle.syntax.specs.Errors.{fault_from_to}
-use Rattle.syntax.specs.declared.errors.ErrorKind.TheVariants.{ExpectedMessageField, ExpectedTermField}
+use Rattle.syntax.specs.declared.errors.CharRange.TheVariants.{Letters}
+use Rattle.syntax.specs.declared.errors.ErrorKind.TheVariants.{ExpectedCharRange, ExpectedMessageField, ExpectedTermField}
 use borrow.Author.Tests.{ne_eqb}
 use Rattle.laws.specs.Bytes.{by_case, pick}
 use Rattle.laws.specs.Moving.{bind-bind, after_none}
 use Rattle.laws.specs.File.{small_of}
-use Rattle.laws.specs.Bounds.{Bounds, bind, then, less, pure-bounds}
+use Rattle.laws.specs.Bounds.{Bounds, bind, then, less, pure-bounds, ok-uses}
 use Rattle.laws.specs.Bounds.Pattern.{pattern-bounds}
-use Rattle.laws.specs.Bounds.Helper.{inline-bounds, expect_byte-bounds}
+use Rattle.laws.specs.Bounds.Helper.{inline-bounds, expect_byte-bounds, identifier-bounds}
 use Rattle.laws.specs.Bounds.Expression.{name-bounds, value-bounds, level-bounds}
+use Rattle.entry.specs.declared.errors.Stop.{Stop}
 use Rattle.entry.specs.declared.errors.Stop.TheVariants.{Error}
 use Rattle.entry.specs.declared.source.Source.{Source}
 use Rattle.entry.specs.declared.marks.Marks.{Marks}
 use Rattle.entry.specs.Did.{yes, plain, silent, Did}
 use Rattle.entry.specs.Reads.{rest, Finds, ReadsOf}
 use Rattle.entry.specs.declared.parser_core.Fields.{Fields}
-use Rattle.entry.specs.Entry.{fields_of, get_name, get_value}
+use Rattle.entry.specs.Entry.{fields_of, identifier, get_name, get_value}
 use Rattle.entry.proofs.Places.{Read, found_at, expect-yes, expect-no, identifier-some, identifier-none}
 use Rattle.entry.proofs.Steps.{step_cut}
 use Rattle.entry.proofs.Dids.{Valued, valued, words-none}
-use Rattle.entry.proofs.Chains.{Spent, reads-room, Keeps}
+use Rattle.entry.proofs.Chains.{reads-finds, Spent, reads-room, Keeps, reads-through}
 
 -- ---- a byte that was taken, or not
 pub taken : (b : ℕ) (s : List ℕ) {r : Bool} {k : ℕ} → take_byte_if b s ≡ ok r [] k → starts_with b s ≡ r
@@ -103,6 +105,41 @@ keeps-text kind = record { fault = λ g k. refl; far = λ k. refl }
 pub number-read : (kind : ℕ) (s : List ℕ) {k : ℕ} → number s ≡ ok tt [] k → get_number_literal kind s ≡ ok k (text_node kind 0 k) k
 unfolding get_number_literal as_text
 number-read kind s e = rw e
+
+-- ---- identifiers
+pub identifier-on : (s : List ℕ) → starts is_letter s ≡ true → identifier s ≡ ok tt [] (run is_name_part s)
+unfolding identifier
+identifier-on s h = rw (h, identifier)
+
+pub identifier-not : (s : List ℕ) → starts is_letter s ≡ false → identifier s ≡ fail (ExpectedCharRange Letters) s
+unfolding identifier
+identifier-not s h = rw (h, identifier)
+
+identifier-text : (kind : ℕ) (s : List ℕ) → as_text kind (identifier s) ≡ get_identifier kind s
+unfolding as_text fail
+identifier-text kind s =
+    by_case (starts is_letter s) (λ h. rw (identifier-on s h, identifier-some kind s h)) (λ h. rw (identifier-not s h, identifier-none kind s h))
+
+-- an identifier was passed, up to s₁
+pub record Identified (kind : ℕ) (s s₁ : Source) : Type 0 where
+  pub is : get_identifier kind (rest s) ≡ ok (s₁.ptr - s.ptr) (text_node kind 0 (s₁.ptr - s.ptr)) (s₁.ptr - s.ptr)
+  pub place : s₁.ptr ≡ s.ptr + (s₁.ptr - s.ptr)
+  pub onward : s.ptr < s₁.ptr
+  pub within : s₁.ptr ≤ length s.bytes.now
+
+pub identified : (kind : ℕ) {s s₁ : Source} → Finds s s₁ (identifier (rest s)) (Ok tt) → Identified kind s s₁
+unfolding as_text text_node
+identified kind {s} {s₁} f =
+    let r = found_at f.found refl in
+    let e : r.k ≡ s₁.ptr - s.ptr = omega (arith, r.place) in
+    let i : get_identifier kind (rest s) ≡ ok (s₁.ptr - s.ptr) (text_node kind 0 (s₁.ptr - s.ptr)) (s₁.ptr - s.ptr) =
+    rw (← identifier-text kind (rest s), r.is, e) in
+    let u = ok-uses (identifier-bounds {n = 0} kind) _ i in
+    record { is = i; place = omega (arith, r.place); onward = omega (arith, u.room, r.place); within = f.found.within }
+
+pub identifier-stops : {s s₁ : Source} {m : Marks} {e : Stop} (kind : ℕ) → Finds s s₁ (identifier (rest s)) (Err e)
+    → ReadsOf plain s s₁ m m (Err e) (get_identifier kind (rest s))
+identifier-stops {s} kind f = rw (← identifier-text kind (rest s)) (reads-through (keeps-text kind) _ (reads-finds f))
 
 -- ---- room
 pub name-room : {s s₁ : Source} {m m₁ : Marks} {x : ℕ} → ReadsOf plain s s₁ m m₁ (Ok x) (get_name (rest s)) → Spent 14 s s₁ m m₁

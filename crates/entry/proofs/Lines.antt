@@ -1,9 +1,9 @@
 -- Line ends and the text of a line at places of a source.
-use Rattle.std.specs.Prelude.{◌≡◌, ℕ, zero, suc, ◌+◌, ◌-◌, ◌<◌, ◌≤◌, Bool, true, false, not, eqb, ltb, Option, None, Some, List, [], ◌∷◌, length, get_or, take, drop}
+use Rattle.std.specs.Prelude.{◌≡◌, ℕ, zero, suc, ◌+◌, ◌-◌, ◌<◌, ◌≤◌, Bool, true, false, not, eqb, ltb, List, [], ◌∷◌, length, get_or, take, drop}
 use mathlib.Core.Path.{refl, sym, ap, ◌∙◌}
 use native.Mathlib.Omega.{arith}
 use lib.ListN.{length-drop, drop_of_length-le}
-use lib.Seq.{drop-cons, take_all}
+use lib.Seq.{drop-cons}
 use Rattle.syntax.specs.Byte as Byte
 use Rattle.syntax.specs.Bytes.{eol, starts_with}
 use Rattle.syntax.specs.Pattern.{ends_in_cr}
@@ -15,47 +15,17 @@ use Rattle.laws.specs.Bytes.{by_case, eol-le}
 use Rattle.std.proofs.lemmas.Bool.{false≢true}
 use Rattle.std.proofs.lemmas.List.{get_or-take, get_or-drop, length-take}
 use borrow.Author.Tests.{ltb-true, ltb-false}
-use Rattle.entry.specs.Place.{Counted, Passed, Went, is_eol, line_end}
-
-some-end : (x : List ℕ) {n : ℕ} → line_end x ≡ Some n → (eol x ≡ n) × (0 < n)
-unfolding line_end
-some-end x {n} h = go (eol x) h
-  where
-    go : (k : ℕ) → elim k [ zero ↦ None | suc m ↦ Some (suc m) ] ≡ Some n → (k ≡ n) × (0 < n)
-    go zero h = let z : ◌≡◌ {A = ℕ} 0 1 = cc in absurd (omega arith)
-    go (suc k) h = let e : suc k ≡ n = cc in (e, omega arith)
-
-no-end : (x : List ℕ) → line_end x ≡ None → eol x ≡ 0
-unfolding line_end
-no-end x h = go (eol x) h
-  where
-    go : (k : ℕ) → ◌≡◌ {A = Option ℕ} (elim k [ zero ↦ None | suc m ↦ Some (suc m) ]) None → k ≡ 0
-    go zero h = refl
-    go (suc k) h = let z : ◌≡◌ {A = ℕ} 0 1 = cc in absurd (omega arith)
-
--- the line end that the code found
-whole : (s : List ℕ) (at : ℕ) {r : Option ℕ} → at ≤ length s → r ≡ line_end (take (length s - at) (drop at s)) → r ≡ line_end (drop at s)
-whole s at l h =
-    let d : length (drop at s) ≡ length s - at = length-drop at s in
-    let q : length (drop at s) ≤ length s - at = omega arith in
-    h ∙ ap line_end (take_all (length s - at) (drop at s) q)
-
-module _ {s : List ℕ} {at : ℕ} {r : Option ℕ} (l : at ≤ length s) (h : r ≡ line_end (take (length s - at) (drop at s))) where
-  pub passed-eol : {n : ℕ} → r ≡ Some n → Passed s at (eol (drop at s)) (at + n) × (0 < n)
-  passed-eol {n} e =
-      let w = eol-le (drop at s) in
-      let d : length (drop at s) ≡ length s - at = length-drop at s in
-      let g = some-end (drop at s) (sym (whole s at l h) ∙ e) in
-      (record { end = omega (arith, g.0); within = omega (arith, g.0) }, g.1)
-
-  pub passed-none : r ≡ None → Passed s at (eol (drop at s)) at
-  passed-none e = let g = no-end (drop at s) (sym (whole s at l h) ∙ e) in record { end = omega (arith, g); within = l }
+use Rattle.entry.proofs.Run.{all-left}
+use Rattle.entry.specs.Place.{Counted, Passed, Went, is_eol}
 
 -- ---- what skip_eol answered
 
 pub goes-eol : (x : List ℕ) {k : ℕ} → eol x ≡ k → skip_eol x ≡ ok (ltb 0 k) [] k
 unfolding skip_eol
 goes-eol x h = rw h refl
+
+pub past-eol : (s : List ℕ) (at : ℕ) {n : ℕ} → at ≤ length s → n ≡ eol (drop at s) → at + n ≤ length s
+past-eol s at l e = omega (arith, e, eol-le (drop at s), length-drop at s)
 
 pub record Ended (s : List ℕ) (at : ℕ) (r : Bool) (i : ℕ) : Type 0 where
   pub is : r ≡ ltb 0 (eol (drop at s))
@@ -152,8 +122,7 @@ pub line-passed : {s : List ℕ} {at n : ℕ} → at ≤ length s → n ≡ line
     → Passed s at (line_length (drop at s)) (at + n)
 line-passed {s} {at} {n} l h =
     let d : length (drop at s) ≡ length s - at = length-drop at s in
-    let q : length (drop at s) ≤ length s - at = omega arith in
-    let e : n ≡ line_length (drop at s) = h ∙ ap line_length (take_all (length s - at) (drop at s) q) in
+    let e : n ≡ line_length (drop at s) = h ∙ ap line_length (all-left s at) in
     let w = line-le (drop at s) in
     record { end = omega arith; within = omega arith }
 
@@ -162,9 +131,6 @@ line-passed {s} {at} {n} l h =
 is-true : (b : Bool) → not b ≡ false → b ≡ true
 is-true true e = refl
 is-true false e = absurd (false≢true (sym e))
-
-pub all-left : (x : List ℕ) (m : ℕ) → take (length x - m) (drop m x) ≡ drop m x
-all-left x m = take_all (length x - m) (drop m x) (omega (arith, length-drop m x))
 
 -- n of the first m bytes stand before a line feed
 module _ (x : List ℕ) (m n : ℕ) (l : m ≤ length x) (h : Counted (λ b r. r ≡ not (eqb b Byte.line_feed)) (take m x) n) where

@@ -1,5 +1,5 @@
 -- Answers at places of the source.
-use Rattle.std.specs.Prelude.{◌≡◌, ℕ, ◌+◌, ◌≤◌, true, false, List, [], length, drop}
+use Rattle.std.specs.Prelude.{◌≡◌, ℕ, suc, ◌+◌, ◌≤◌, true, false, List, [], ◌∷◌, length, drop}
 use mathlib.Core.Path.{refl, sym, ap, ap₂, ◌∙◌}
 use native.Mathlib.Nat.{add-zero, add_assoc}
 use native.Mathlib.Omega.{arith}
@@ -15,6 +15,7 @@ use Rattle.syntax.specs.Bytes.{starts_with, starts, run, is_digit, is_letter, is
 use Rattle.syntax.specs.Reader.{Out, ok, bad, deep, Reader, after, next, fail}
 use Rattle.syntax.specs.Helper.{take_byte_if, expect_byte, skip_digits, get_identifier}
 use Rattle.laws.specs.Moving.{up_fault-twice}
+use Rattle.std.proofs.lemmas.Bool.{false≢true}
 use Rattle.entry.specs.Place.{Place, At, Bad, Passed, Went, Found, Bare, placed}
 
 pub passed : {s : List ℕ} {at k r : ℕ} (j : ℕ) → k ≡ j → r ≡ at + j → r ≤ length s → Passed s at k r
@@ -68,6 +69,12 @@ pub identifier-some : (kind : ℕ) (x : List ℕ) → starts is_letter x ≡ tru
     → get_identifier kind x ≡ ok (run is_name_part x) (text_node kind 0 (run is_name_part x)) (run is_name_part x)
 unfolding get_identifier
 identifier-some kind x h = rw (h, get_identifier)
+
+-- an identifier's first letter, and what follows it
+pub identifier-first : (x : List ℕ) → starts is_letter x ≡ true → run is_name_part x ≡ suc (run is_name_part (drop 1 x))
+unfolding starts run is_name_part
+identifier-first [] h = absurd (false≢true h)
+identifier-first (b ∷ x) h = rw (h, is_name_part, run)
 
 pub identifier-none : (kind : ℕ) (x : List ℕ) → starts is_letter x ≡ false → get_identifier kind x ≡ fail (ExpectedCharRange Letters) x
 unfolding get_identifier

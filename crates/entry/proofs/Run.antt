@@ -32,13 +32,13 @@ pub counted-by : (p : ℕ → Bool) {q : ℕ → Bool → Type 0} {x : List ℕ}
 counted-by p f c =
     record { within = c.within; passing = λ k h. f _ _ (c.passing k h); stops = λ h. f _ _ (c.stops h) }
 
--- those at the start of a slice's end
+-- a slice from the m-th on is all that is left
+pub all-left : (x : List ℕ) (m : ℕ) → take (length x - m) (drop m x) ≡ drop m x
+all-left x m = take_all (length x - m) (drop m x) (omega (arith, length-drop m x))
+
 pub counted-rest : {answers : ℕ → Bool → Type 0} (s : List ℕ) (at : ℕ) {n : ℕ} → Counted answers (take (length s - at) (drop at s)) n
     → Counted answers (drop at s) n
-counted-rest s at h =
-    let d : length (drop at s) ≡ length s - at = length-drop at s in
-    let q : length (drop at s) ≤ length s - at = omega arith in
-    rw (take_all (length s - at) (drop at s) q) at h
+counted-rest s at h = rw (all-left s at) at h
 
 -- what skip_while passed, by a test that answers by p
 pub skips-run : (p : ℕ → Bool) {answers : ℕ → Bool → Type 0} {s s' : Source} {n : ℕ} → ((b : ℕ) (r : Bool) → answers b r → r ≡ p b)

@@ -1,7 +1,6 @@
 -- Places of the source: what the functions that write no marks ask and answer.
-use Rattle.std.specs.Prelude.{◌≡◌, ℕ, zero, suc, ◌+◌, ◌-◌, ◌<◌, ◌≤◌, Bool, true, false, Option, None, Some, List, [], ◌∷◌, length, drop, slice_index, nat_lt}
-use Rattle.syntax.specs.Byte as Byte
-use Rattle.syntax.specs.Bytes.{eol, starts_with}
+use Rattle.std.specs.Prelude.{◌≡◌, ℕ, ◌+◌, ◌-◌, ◌<◌, ◌≤◌, Bool, true, false, List, [], ◌∷◌, length, drop, slice_index, nat_lt}
+use Rattle.syntax.specs.Bytes.{eol}
 use Rattle.syntax.specs.declared.errors.ParserError.{ParserError}
 use Rattle.syntax.specs.Errors.{up_fault}
 use Rattle.syntax.specs.Reader.{Out, ok, bad, deep}
@@ -59,14 +58,6 @@ pub record Found {A : Type 0} (s : List ℕ) (at : ℕ) (o : Out A) (r : Place) 
   pub answers : r ≡ placed at o
   pub bare : Bare o
   pub within : reached r ≤ length s
-
--- how long the line end is that stands at the start, if one does
-unfoldable pub line_end : List ℕ → Option ℕ
-line_end s = elim (eol s) [ zero ↦ None | suc n ↦ Some (suc n) ]
-
--- a space or a line end: how many bytes it takes, 0 where there is none
-unfoldable pub blank_width : List ℕ → ℕ
-blank_width s = elim (starts_with Byte.space s) [ true ↦ 1 | false ↦ eol s ]
 
 -- whether a line ends here, by a line end or with the source
 unfoldable pub is_eol : List ℕ → Bool

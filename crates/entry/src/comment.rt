@@ -68,14 +68,10 @@ impl Source<'_> {
         }
     }
 
-    // To the end of a line's text; it is known whether the line is empty.
-    fn get_comment_line(&mut self, empty: bool)
-        requires { empty ≡ true → is_eol (rest self.old) ≡ true }
+    // To the end of a line's text.
+    fn get_comment_line(&mut self)
         ensures { Passes self.old self.new (line_length (rest self.old)) }
     {
-        if empty {
-            return;
-        }
         self.ptr += line_length(&self.bytes[self.ptr..]);
     }
 
@@ -100,7 +96,8 @@ fn is_over(level: Option<Level>, line_level: Option<Level>) -> bool
 }
 
 impl Parser<'_, '_, '_> {
-    // A line of a comment, after its '#' and the space that follows them; it is known whether the line is empty.
+    // A line of a comment, after its '#' and the space that follows them. Where it is known to be empty its end stands here. Its marks come
+    // last, as those of a name do.
     fn put_comment_line(&mut self, empty: bool)
         requires room { Holds self.old.tree.now 2 }
         requires ends { empty ≡ true → is_eol (rest self.old.source) ≡ true }
@@ -108,9 +105,15 @@ impl Parser<'_, '_, '_> {
         ensures reads { LineRead self.old self.new }
     {
         let start = self.source.ptr;
-        self.source.get_comment_line(empty);
-        self.tree.text(Kind::CommentLine, start, self.source.ptr);
+        if empty {
+            self.source.skip_line_end();
+            self.tree.text(Kind::CommentLine, start, start);
+            return;
+        }
+        self.source.get_comment_line();
+        let end = self.source.ptr;
         self.source.skip_line_end();
+        self.tree.text(Kind::CommentLine, start, end);
     }
 
     // A comment, with a text for each of its lines. Answers its level, none where no '#' stands.

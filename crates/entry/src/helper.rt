@@ -6,7 +6,8 @@ ghost use Rattle.syntax.specs.Bytes.{starts_with, starts, eol, run, all, is_lett
 ghost use Rattle.syntax.specs.Helper.{take_byte_if, skip_blank, skip_blank_block, expect_byte, skip_digits, skip_eol, skip_blank_inline};
 ghost use Rattle.syntax.specs.Helper.{number, skip_unicode_escape_sequence};
 ghost use Rattle.syntax.specs.Pattern.{is_continuation};
-ghost use Rattle.entry.specs.Place.{Tests, Starting, Counted, Went, is_eol, line_end, blank_width};
+ghost use Rattle.entry.specs.Place.{Tests, Starting, Counted, Went, is_eol};
+ghost use Rattle.entry.specs.Entry.{identifier};
 ghost use Rattle.entry.specs.Reads.{rest, Passes, Skips, Goes, Finds};
 
 use crate::border::BlankBlock;
@@ -57,30 +58,6 @@ pub(crate) fn count_while<F: Fn(u8) -> bool>(bytes: &[u8], test: F) -> usize
     bytes.iter().position(|&b| !test(b)).unwrap_or(bytes.len())
 }
 
-// How long the blank is that stands at the start, a space or a line end; 0 where none does.
-#[tactic(auto, unfolding(crate::specs::Place::blank_width, syntax::specs::Bytes::eol, syntax::specs::Bytes::starts_with))]
-fn blank_length(bytes: &[u8]) -> usize
-    ensures { result ≡ blank_width bytes.now }
-{
-    match bytes {
-        [b' ' | b'\n', ..] => 1,
-        [b'\r', b'\n', ..] => 2,
-        _ => 0,
-    }
-}
-
-// How long the line end is that stands at the start, if one does.
-#[tactic(auto, unfolding(crate::specs::Place::line_end, syntax::specs::Bytes::eol, syntax::specs::Bytes::starts_with))]
-fn eol_length(bytes: &[u8]) -> Option<usize>
-    ensures { result ≡ line_end bytes.now }
-{
-    match bytes {
-        [b'\n', ..] => Some(1),
-        [b'\r', b'\n', ..] => Some(2),
-        _ => None,
-    }
-}
-
 // Whether this byte stands at a place.
 fn is_byte_at(source: &[u8], at: usize, b: u8) -> bool
     ensures { Tests (starts_with b) source.now at result }
@@ -88,8 +65,8 @@ fn is_byte_at(source: &[u8], at: usize, b: u8) -> bool
     source.get(at).is_some_and(|&x| x == b)
 }
 
-// How long the line end is that stands at a place, 0 where none does. By place, and no Option: with `eol_length` blank lines took half as
-// long again.
+// How long the line end is that stands at a place, 0 where none does. By place, and no Option: over a slice of what is left blank lines
+// took half as long again.
 fn eol_width(source: &[u8], at: usize) -> usize
     requires { at ≤ length source.now }
     ensures { result ≡ eol (drop at source.now) }
@@ -171,11 +148,9 @@ impl Source<'_> {
     pub(crate) fn skip_eol(&mut self) -> bool
         ensures { Goes self.old self.new (skip_eol (rest self.old)) result }
     {
-        let Some(n) = eol_length(&self.bytes[self.ptr..]) else {
-            return false;
-        };
+        let n = eol_width(self.bytes, self.ptr);
         self.ptr += n;
-        true
+        0 < n
     }
 
     // Whether a line ends here, by a line end or with the source.
@@ -216,7 +191,11 @@ impl Source<'_> {
     {
         let mut ptr = self.ptr;
         loop {
-            let n = blank_length(&self.bytes[ptr..]);
+            if is_byte_at(self.bytes, ptr, b' ') {
+                ptr += 1;
+                continue;
+            }
+            let n = eol_width(self.bytes, ptr);
             if n == 0 {
                 break;
             }
@@ -255,11 +234,23 @@ impl Source<'_> {
         Ok(())
     }
 
-    // Past the bytes of an identifier.
+    // Past bytes that may stand in an identifier.
     pub(crate) fn skip_name(&mut self)
         ensures { Passes self.old self.new (run is_name_part (rest self.old)) }
     {
         self.skip_while(is_name_part);
+    }
+
+    // Past the bytes of get_identifier.
+    pub(crate) fn skip_identifier(&mut self) -> Result<(), Stop>
+        ensures { Finds self.old self.new (identifier (rest self.old)) result }
+    {
+        if !self.is_identifier_start() {
+            return self.error(ErrorKind::ExpectedCharRange(CharRange::Letters));
+        }
+        self.ptr += 1;
+        self.skip_name();
+        Ok(())
     }
 
     pub(crate) fn skip_unicode_escape_sequence(&mut self, length: usize) -> Result<(), Stop>

@@ -1,5 +1,6 @@
 // Marks in a lent tree: two words of sizes, then as many kinds as the tree holds, then as many places.
-ghost use Rattle.std.specs.Prelude.{◌+◌, ◌*◌, ◌≤◌, length};
+ghost use Rattle.std.specs.Prelude.{◌+◌, ◌*◌, ◌<◌, ◌≤◌, ◌^◌, [], ◌∷◌, length};
+ghost use Rattle.entry.specs.Tree.{word, Step, Fits};
 
 use syntax::kind::Kind;
 use syntax::layout::SIZES;
@@ -12,10 +13,19 @@ pub struct Marks<'t> {
     pub ghost layout: { 2 + 2 * capacity ≤ length words.now },
 }
 
+// Stores the i-th mark, by the number of its kind.
+fn store(words: &mut [u32], capacity: usize, i: usize, kind: u32, place: usize)
+    requires room { Fits words.old capacity i 1 }
+    requires place_bound { place < 2 ^ 32 }
+    ensures { Step capacity i words.old words.new (word kind place ∷ []) }
+{
+    words[SIZES + i] = kind;
+    words[SIZES + capacity + i] = place as u32;
+}
+
 impl Marks<'_> {
-    ghost use Rattle.std.specs.Prelude.{◌≡◌, ◌^◌, ◌<◌, [], ◌∷◌, slice_index};
+    ghost use Rattle.std.specs.Prelude.{◌≡◌, slice_index};
     ghost use Rattle.syntax.specs.Kind.{number_of, closing};
-    ghost use Rattle.entry.specs.Tree.{word};
     ghost use Rattle.entry.specs.Marks.{Holds, Wrote, Put};
 
     // The number of the i-th mark's kind.
@@ -39,8 +49,7 @@ impl Marks<'_> {
         requires place_bound { place < 2 ^ 32 }
         ensures { Wrote self.old self.new (word kind place ∷ []) }
     {
-        self.words[SIZES + self.count] = kind;
-        self.words[SIZES + self.capacity + self.count] = place as u32;
+        store(self.words, self.capacity, self.count, kind, place);
         self.count += 1;
     }
 
@@ -67,7 +76,7 @@ impl Marks<'_> {
         self.put(kind.closing(), place);
     }
 
-    // The two marks of a text.
+    // The two marks of a text. The tree and the count are read once: after a write each would be read anew.
     pub(crate) fn text(&mut self, kind: Kind, start: usize, end: usize)
         requires room { Holds self.old 2 }
         requires start_bound { start < 2 ^ 32 }
@@ -75,8 +84,12 @@ impl Marks<'_> {
         ensures { Wrote self.old self.new
             (word (number_of kind) start ∷ word (closing (number_of kind)) end ∷ []) }
     {
-        self.put(kind.number(), start);
-        self.close_at(kind, end);
+        let words = &mut *self.words;
+        let capacity = self.capacity;
+        let first = self.count;
+        store(words, capacity, first, kind.number(), start);
+        store(words, capacity, first + 1, kind.closing(), end);
+        self.count = first + 2;
     }
 
     // An opening mark before those from the `from`-th on, which move up by one.

@@ -229,12 +229,12 @@ text-formed s u = subst WellFormed u.1.1 (chars-formed u.0 u.1.0)
 
 -- the first fault
 
-pub map-suc : (o : Option ℕ) (n : ℕ) → map suc o ≡ some n → (m : ℕ) × (o ≡ some m) × (n ≡ suc m)
+map-suc : (o : Option ℕ) (n : ℕ) → map suc o ≡ some n → (m : ℕ) × (o ≡ some m) × (n ≡ suc m)
 map-suc none n e = let z : ◌≡◌ {A = ℕ} 0 1 = cc in absurd (omega arith)
 map-suc (some m) n e = (m, refl, cc)
 
 -- a scan stops past what it skips and before the end, where no sequence starts, and finds no fault before
-abbrev pub Stops : ℕ → List ℕ → ℕ → Type 0
+abbrev Stops : ℕ → List ℕ → ℕ → Type 0
 Stops k s n = (k ≤ n) × (n < length s) × (scan k (take n s) ≡ none) × (width (drop n s) ≡ 0)
 
 stops_first : (b : ℕ) (s : List ℕ) (n : ℕ) → scan 0 (b ∷ s) ≡ some n → ((w m : ℕ) → scan w s ≡ some m → Stops w s m) → Stops 0 (b ∷ s) n

@@ -1,7 +1,7 @@
 // UTF-8: whether bytes are well formed, and where a character starts.
 #![tactic(auto)]
 
-ghost use Rattle.std.specs.Prelude.{◌≡◌, ◌≤◌, ◌<◌};
+ghost use Rattle.std.specs.Prelude.{◌≡◌};
 ghost use Rattle.utf8.specs.Utf8.{first_ill_formed, is_boundary, checked_of, valid_length};
 
 use simdutf8::compat::from_utf8;

@@ -6,7 +6,8 @@ use native.Mathlib.Omega.{arith}
 use Rattle.syntax.specs.Byte as Byte
 use Rattle.memchr.specs.Find.{Nowhere, NoneBefore, Passes, is_byte}
 use Rattle.entry.proofs.Run.{counted-by}
-use Rattle.entry.proofs.Lines.{all-left, feed-near, feed-nowhere, feed-far}
+use Rattle.entry.proofs.Run.{all-left}
+use Rattle.entry.proofs.Lines.{feed-near, feed-nowhere, feed-far}
 use Rattle.entry.proofs.comment.line_feed.Goals as goal
 
 pub returns-then-near-most : goal.returns-then-near-most

@@ -1,8 +1,7 @@
 -- `source::Source::get_comment_line` meets its contract.
 use native.Mathlib.Omega.{arith}
 use mathlib.Core.Path.{refl}
-use Rattle.entry.specs.Reads.{rest}
-use Rattle.entry.proofs.Lines.{line-ends, line-passed}
+use Rattle.entry.proofs.Lines.{line-passed}
 use Rattle.entry.proofs.source.Source.get_comment_line.Goals as goal
 
 pub overflow_add-self : goal.overflow_add-self
@@ -16,11 +15,6 @@ pub invariant_of-self : goal.invariant_of-self
 invariant_of-self c =
     let p = line-passed c.args.self.now.inside c.line_length.ensures in
     record { inside = p.within; short = c.args.self.now.short }
-
-pub returns-then-empty : goal.returns-then-empty
-returns-then-empty c =
-    let e = line-ends (rest c.args.self.now) (c.requires c.if-empty.true) in
-    record { bytes = refl; passed = record { end = omega (arith, e); within = c.args.self.now.inside } }
 
 pub returns : goal.returns
 returns c = record { bytes = refl; passed = line-passed c.args.self.now.inside c.line_length.ensures }
