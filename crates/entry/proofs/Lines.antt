@@ -15,8 +15,8 @@ use Rattle.laws.specs.Bytes.{by_case, eol-le}
 use Rattle.std.proofs.lemmas.Bool.{false≢true}
 use Rattle.std.proofs.lemmas.List.{get_or-take, get_or-drop, length-take}
 use borrow.Author.Tests.{ltb-true, ltb-false}
-use Rattle.entry.proofs.Run.{all-left}
 use Rattle.entry.specs.Place.{Counted, Passed, Went, is_eol}
+use Rattle.entry.proofs.Run.{all-left}
 
 -- ---- what skip_eol answered
 

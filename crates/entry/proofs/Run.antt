@@ -36,6 +36,7 @@ counted-by p f c =
 pub all-left : (x : List ℕ) (m : ℕ) → take (length x - m) (drop m x) ≡ drop m x
 all-left x m = take_all (length x - m) (drop m x) (omega (arith, length-drop m x))
 
+-- those at the start of what is left, counted in its slice
 pub counted-rest : {answers : ℕ → Bool → Type 0} (s : List ℕ) (at : ℕ) {n : ℕ} → Counted answers (take (length s - at) (drop at s)) n
     → Counted answers (drop at s) n
 counted-rest s at h = rw (all-left s at) at h

@@ -5,8 +5,7 @@ use mathlib.Core.Path.{subst}
 use native.Mathlib.Omega.{arith}
 use Rattle.syntax.specs.Byte as Byte
 use Rattle.memchr.specs.Find.{Nowhere, NoneBefore, Passes, is_byte}
-use Rattle.entry.proofs.Run.{counted-by}
-use Rattle.entry.proofs.Run.{all-left}
+use Rattle.entry.proofs.Run.{all-left, counted-by}
 use Rattle.entry.proofs.Lines.{feed-near, feed-nowhere, feed-far}
 use Rattle.entry.proofs.comment.line_feed.Goals as goal
 
